@@ -1,0 +1,12 @@
+pub mod Sums
+pub mod Start
+pub mod Operations
+pub mod Circuit
+pub mod Rounds
+pub mod State
+pub mod Play
+pub mod Demand
+pub mod Machine
+pub mod Reading
+pub mod Step
+pub mod TakenBy

@@ -1,0 +1,70 @@
+-- the circuit's state as lists, and the abstract state that they stand for
+use Prim.Native.Nat.{ℕ, zero, suc, _+_, _*_, _/_, _%_}
+use mathlib.Core.Bool.{Bool, false}
+use mathlib.Core.Path.{_≡_}
+use mathlib.Core.Logic.{_⊎_}
+use mathlib.Core.List.{List, [], _∷_}
+use lib.Dec.{eqb, ltb}
+use lib.ListN.{length, getD, set}
+use Rattle.circuit.specs.Machine.{State}
+use Rattle.table.specs.Pick.{pick}
+
+-- of 512 nodes status, second phase and value; of 32 functions 8 registers each and the occupant
+pub record State512 : Type 0 where
+  pub status : List ℕ
+  pub second : List Bool
+  pub value : List ℕ
+  pub registers : List ℕ
+  pub occupant : List ℕ
+
+pub record Sized (s : State512) : Type 0 where
+  pub statuses : length (s .status) ≡ 512
+  pub seconds : length (s .second) ≡ 512
+  pub valued : length (s .value) ≡ 512
+  pub registered : length (s .registers) ≡ 256
+  pub occupied : length (s .occupant) ≡ 32
+
+-- nodes and functions are counted from 1: entry n is at n - 1, and 0 has none
+unfoldable pub entry : {A : Type 0} → List A → A → ℕ → A
+entry l d zero = d
+entry l d (suc n) = getD l n d
+
+unfoldable pub write : {A : Type 0} → List A → ℕ → A → List A
+write l zero a = l
+write l (suc n) a = set l n a
+
+-- register i of function f
+unfoldable pub register : List ℕ → ℕ → ℕ → ℕ
+register l zero i = 0
+register l (suc f) i = pick (ltb i 8) (getD l (8 * f + i) 0) 0
+
+abbrev pub view : State512 → State
+view s = record {
+  status = entry (s .status) 0;
+  second = entry (s .second) false;
+  value = entry (s .value) 0;
+  register = register (s .registers);
+  occupant = entry (s .occupant) 0;
+}
+
+-- each element changed by its place, the first being k
+unfoldable pub alter : {A : Type 0} → (ℕ → A → A) → ℕ → List A → List A
+alter f k [] = []
+alter f k (x ∷ xs) = f k x ∷ alter f (suc k) xs
+
+-- all registers of function g: the values given, then zeros
+unfoldable pub fill : ℕ → List ℕ → List ℕ → List ℕ
+fill g vs l = alter (λ k r. pick (eqb (k / 8 + 1) g) (getD vs (k % 8) 0) r) 0 l
+
+-- the entries that `mine` names become d
+unfoldable pub clear : {A : Type 0} → (ℕ → Bool) → A → List A → List A
+clear mine d l = alter (λ n x. pick (mine n) d x) 1 l
+
+-- the nodes opened one after the other
+unfoldable pub opened : List ℕ → List ℕ → List ℕ
+opened l [] = l
+opened l (n ∷ ns) = opened (write l n 1) ns
+
+abbrev pub In : {A : Type 0} → A → List A → Type 0
+In x [] = ⊥
+In x (y ∷ ys) = (x ≡ y) ⊎ In x ys

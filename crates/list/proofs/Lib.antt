@@ -1,0 +1,5 @@
+pub mod ListedCalls
+pub mod ArbiterFacts
+pub mod CallSetFacts
+pub mod Callees
+pub mod TagFacts

@@ -1,0 +1,5 @@
+pub mod Sets
+pub mod Conflict
+pub mod CallSets
+pub mod Arbiters
+pub mod Tags

@@ -1,0 +1,71 @@
+-- tag lists (document 01, "The arbiter list"): the bits of a tag list, a table's arbiter list and its tag bytes, refusal 10
+use Prim.Native.Nat.{ℕ, zero, suc, _+_, _-_, _*_, _/_, _%_, _^_}
+use mathlib.Core.Bool.{Bool, _&&_, _||_, not, true}
+use mathlib.Core.List.{List, [], _∷_}
+use lib.Dec.{eqb, leb}
+use lib.ListN.{length, getD}
+use mathlib.Core.Path.{_≡_}
+use Rattle.table.specs.Pick.{pick}
+use Rattle.list.specs.Arbiters.{Test, listedIn}
+use Rattle.table.specs.Bytes.{functions, nodes, kind, word}
+use Rattle.table.specs.Find.{one, lowest, all}
+use Rattle.table.specs.Naming.{owner}
+use Rattle.table.specs.Check.{Verdict, accepted, refused, stage, checkOf}
+use Rattle.table.specs.Expressions.{bodyOf}
+
+-- node n is bit (n - 1) mod 8 of byte (n - 1) / 8; past the end every byte reads 0
+unfoldable pub tagged : List ℕ → Test
+tagged tags n = eqb (getD tags ((n - 1) / 8) 0 / 2 ^ ((n - 1) % 8) % 2) 1
+
+-- a call that is no self call, and its callee
+unfoldable pub isCall : List ℕ → Test
+isCall t n = eqb (kind t n) 4 && not (eqb (word t n) (owner t n))
+
+unfoldable pub calleeOf : List ℕ → ℕ → ℕ
+calleeOf t n = pick (isCall t n) (word t n) 0
+
+-- the arbiter list: all F bodies count
+unfoldable pub listed : List ℕ → Test
+listed t = listedIn (nodes t) (calleeOf t) (bodyOf t) (functions t)
+
+-- k bits, of n and the numbers after it, the lowest bit first
+unfoldable pub bitsFrom : Test → ℕ → ℕ → ℕ
+bitsFrom s zero n = 0
+bitsFrom s (suc k) n = one (s n) + 2 * bitsFrom s k (suc n)
+
+unfoldable pub bytesFrom : Test → ℕ → ℕ → List ℕ
+bytesFrom s zero n = []
+bytesFrom s (suc k) n = bitsFrom s 8 n ∷ bytesFrom s k (n + 8)
+
+-- the length of a tag list
+unfoldable pub tagLength : List ℕ → ℕ
+tagLength t = (nodes t + 7) / 8
+
+-- the tag bytes of the arbiter list; bits past N are 0
+unfoldable pub tagsOf : List ℕ → List ℕ
+tagsOf t = bytesFrom (λ n. leb n (nodes t) && listed t n) (tagLength t) 1
+
+-- 10: the length; no bit past N; a tag only at a call that is no self call
+unfoldable pub nonePast : List ℕ → List ℕ → Bool
+nonePast t tags = all (λ i. not (tagged tags (nodes t + i))) (8 * length tags - nodes t)
+
+unfoldable pub tagFits : List ℕ → List ℕ → Test
+tagFits t tags n = not (tagged tags n) || isCall t n
+
+unfoldable pub tagsRefusal : List ℕ → List ℕ → Verdict
+tagsRefusal t tags =
+    stage 10 (eqb (length tags) (tagLength t) && nonePast t tags) (lowest (tagFits t tags) (nodes t)) λ _.
+    accepted (functions t) (nodes t)
+
+-- what comes after waits for what comes before
+unfoldable pub after : Verdict → (Unit {0} → Verdict) → Verdict
+after (accepted F N) rest = rest tt
+after (refused number place) rest = refused number place
+
+-- the table, then its tags
+unfoldable pub checkWith : List ℕ → List ℕ → Verdict
+checkWith t tags = after (checkOf t) λ _. tagsRefusal t tags
+
+-- the tags hold the list
+abbrev pub Holding : (t tags : List ℕ) → Type 0
+Holding t tags = (n : ℕ) → listed t n ≡ true → tagged tags n ≡ true

@@ -1,0 +1,10 @@
+pub mod Pick
+pub mod Syntax
+pub mod Bytes
+pub mod Find
+pub mod Naming
+pub mod Check
+pub mod Expressions
+pub mod Environment
+pub mod Well
+pub mod Designs

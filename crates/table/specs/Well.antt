@@ -1,0 +1,106 @@
+-- what an accepted table ensures of its bodies
+use Prim.Native.Nat.{ℕ, _≤_, _<_}
+use mathlib.Core.Path.{_≡_}
+use mathlib.Core.Logic.{_⊎_}
+use Rattle.table.specs.Syntax.{Expr, Exprs, const, param, prim, call, self, cond, bind, bound, none, some, id, Node, Node*, Sub}
+use Rattle.table.specs.Syntax.{width}
+use Rattle.table.specs.Environment.{values, extend}
+
+-- the numbers in an expression differ from each other
+abbrev pub Apart₂ : (ℕ → Type 0) → (ℕ → Type 0) → Type 0
+Apart₂ P Q = (m : ℕ) → P m → Q m → ⊥
+
+abbrev mutual
+  pub Apart : Expr → Type 0
+  Apart (const n v) = Unit {0}
+  Apart (param n i) = Unit {0}
+  Apart (prim n op es) = (Node* n es → ⊥) × Apart* es
+  Apart (call n g es) = (Node* n es → ⊥) × Apart* es
+  Apart (self n es) = (Node* n es → ⊥) × Apart* es
+  Apart (cond n a b c) = (Node n a → ⊥) × (Node n b → ⊥) × (Node n c → ⊥) × Apart a × Apart b × Apart c
+      × Apart₂ (λ m. Node m a) (λ m. Node m b) × Apart₂ (λ m. Node m a) (λ m. Node m c) × Apart₂ (λ m. Node m b) (λ m. Node m c)
+  Apart (bind n ds b) = (Node* n ds → ⊥) × (Node n b → ⊥) × Apart* ds × Apart b × Apart₂ (λ m. Node* m ds) (λ m. Node m b)
+  Apart (bound n d) = Unit {0}
+
+  pub Apart* : Exprs → Type 0
+  Apart* none = Unit {0}
+  Apart* (some e es) = Apart e × Apart* es × Apart₂ (λ m. Node m e) (λ m. Node* m es)
+
+-- c is a call of f that stands in e
+abbrev mutual
+  pub CallIn : ℕ → ℕ → Expr → Type 0
+  CallIn c f (const n v) = ⊥
+  CallIn c f (param n i) = ⊥
+  CallIn c f (prim n op es) = CallIn* c f es
+  CallIn c f (call n g es) = ((n ≡ c) × (g ≡ f)) ⊎ CallIn* c f es
+  CallIn c f (self n es) = CallIn* c f es
+  CallIn c f (cond n a b d) = CallIn c f a ⊎ CallIn c f b ⊎ CallIn c f d
+  CallIn c f (bind n ds b) = CallIn* c f ds ⊎ CallIn c f b
+  CallIn c f (bound n d) = ⊥
+
+  pub CallIn* : ℕ → ℕ → Exprs → Type 0
+  CallIn* c f none = ⊥
+  CallIn* c f (some e es) = CallIn c f e ⊎ CallIn* c f es
+
+-- self calls stand in tail position
+abbrev mutual
+  pub NoSelf : Expr → Type 0
+  NoSelf (const n v) = Unit {0}
+  NoSelf (param n i) = Unit {0}
+  NoSelf (prim n op es) = NoSelf* es
+  NoSelf (call n g es) = NoSelf* es
+  NoSelf (self n es) = ⊥
+  NoSelf (cond n a b c) = NoSelf a × NoSelf b × NoSelf c
+  NoSelf (bind n ds b) = NoSelf* ds × NoSelf b
+  NoSelf (bound n d) = Unit {0}
+
+  pub NoSelf* : Exprs → Type 0
+  NoSelf* none = Unit {0}
+  NoSelf* (some e es) = NoSelf e × NoSelf* es
+
+abbrev pub Tail : Expr → Type 0
+Tail (const n v) = Unit {0}
+Tail (param n i) = Unit {0}
+Tail (prim n op es) = NoSelf* es
+Tail (call n g es) = NoSelf* es
+Tail (self n es) = NoSelf* es
+Tail (cond n a b c) = NoSelf a × Tail b × Tail c
+Tail (bind n ds b) = NoSelf* ds × Tail b
+Tail (bound n d) = Unit {0}
+
+-- the state holds what the environment says of each definiens in scope
+module _ (value : ℕ → ℕ) where
+  abbrev mutual
+    pub Fits : Expr → (ℕ → ℕ) → Type 0
+    Fits (const n v) ρ = Unit {0}
+    Fits (param n i) ρ = Unit {0}
+    Fits (prim n op es) ρ = Fits* es ρ
+    Fits (call n g es) ρ = Fits* es ρ
+    Fits (self n es) ρ = Fits* es ρ
+    Fits (cond n a b c) ρ = Fits a ρ × Fits b ρ × Fits c ρ
+    Fits (bind n ds b) ρ = Fits* ds ρ × Fits b (extend ds (values value ds) ρ)
+    Fits (bound n d) ρ = ρ d ≡ value d
+
+    pub Fits* : Exprs → (ℕ → ℕ) → Type 0
+    Fits* none ρ = Unit {0}
+    Fits* (some e es) ρ = Fits e ρ × Fits* es ρ
+
+-- what the check of a table ensures
+pub record Well (F : ℕ) (body : ℕ → Expr) : Type 0 where
+  pub apart : (f : ℕ) → 1 ≤ f → f ≤ F → Apart (body f)
+  pub owner : (f g m : ℕ) → 1 ≤ f → f ≤ F → 1 ≤ g → g ≤ F → Node m (body f) → Node m (body g) → f ≡ g
+  pub nonzero : (f m : ℕ) → 1 ≤ f → f ≤ F → Node m (body f) → m ≡ 0 → ⊥
+  pub below : (f c g : ℕ) → 1 ≤ f → f ≤ F → CallIn c g (body f) → (1 ≤ g) × (g < f)
+  pub tail : (f : ℕ) → 1 ≤ f → f ≤ F → Tail (body f)
+  pub fits : (f : ℕ) (value : ℕ → ℕ) → 1 ≤ f → f ≤ F → Fits value (body f) (λ d. 0)
+
+pub record Laid (F N : ℕ) (body at : ℕ → Expr) (home : ℕ → ℕ) : Type 0 where
+  pub some-function : 1 ≤ F
+  pub functions : F ≤ 32
+  pub nodes : N ≤ 512
+  pub well : Well F body
+  pub home-there : (n : ℕ) → 1 ≤ n → n ≤ N → (1 ≤ home n) × (home n ≤ F)
+  pub placed : (n : ℕ) → 1 ≤ n → n ≤ N → Sub (at n) (body (home n))
+  pub number : (n : ℕ) → 1 ≤ n → n ≤ N → id (at n) ≡ n
+  pub inside : (f m : ℕ) → 1 ≤ f → f ≤ F → Node m (body f) → (home m ≡ f) × (1 ≤ m) × (m ≤ N)
+  pub narrow : (f : ℕ) (u : Expr) → 1 ≤ f → f ≤ F → Sub u (body f) → width u ≤ 8
