@@ -8,15 +8,14 @@ use Rattle.list.specs.Arbiters.{nothing, joined, anyUpTo, callsIn, meeting, par
 use Rattle.list.specs.Tags.{tagged, isCall, calleeOf, listed, bitsFrom, bytesFrom, tagLength, tagsOf, nonePast, tagFits, tagsRefusal}
 use Rattle.list.specs.Tags.{after, checkWith}
 use Rattle.circuit.specs.Operations.{lastValue, wrap, operate}
-use Rattle.circuit.specs.State.{State512, entry, write, register, alter, fill, clear, opened}
-use Rattle.circuit.specs.Step.{Answer, taken, answered, refused, over, stepOf as circuitStep}
-use Rattle.circuit.specs.Start.{blank, startOf as circuitStart}
+use Rattle.circuit.specs.State.{State512, entry, write, register, alter, fill, clear, opened, blank, circuitStart}
+use Rattle.circuit.specs.Step.{Reply, taken, answered, refused, over, circuitStep}
 use Rattle.circuit.specs.Play.{Log}
 use Rattle.circuit.specs.Circuit.{Started, started, turned, checkStart, startAfter, startOf, circuitOf, stepAfter, stepOf, playsOf}
 use Rattle.circuit.specs.Circuit.{playOf, entriesOf, leavingsOf}
 use Rattle.table.specs.Designs.{twice, pair, layered, mult, nested, fir}
 use Rattle.table.specs.Expressions.{bodyOf}
-use Rattle.circuit.specs.Demand.{ReadsTo}
+use Rattle.circuit.specs.Reading.{ReadsTo}
 use Rattle.circuit.proofs.OwnList.{own-list}
 use Rattle.table.proofs.CheckedDesigns.{syntax-open, check-open}
 
@@ -58,7 +57,7 @@ abbrev log : (t tags args : List ℕ) → List ℕ → List Log
 log t tags args ns = after-start (startOf t tags args) (λ s. playOf t tags s ns)
 
 -- the answers, the last one first, and the number of steps taken
-abbrev says : List Log → List Answer
+abbrev says : List Log → List Reply
 says [] = []
 says (l ∷ ls) = l .answers
 
@@ -73,10 +72,10 @@ unfolding circuit-open
 twice-run = refl
 
 -- steps 2, 3, 5, 4, 6, 3, then 5: 22 with both tags and with 5 alone, 23 with none and with 3 alone
-abbrev collision : List ℕ → List Answer
+abbrev collision : List ℕ → List Reply
 collision tags = says (log pair tags (9 ∷ []) (2 ∷ 3 ∷ 5 ∷ 4 ∷ 6 ∷ 3 ∷ 5 ∷ []))
 
-abbrev six : List Answer
+abbrev six : List Reply
 six = taken ∷ taken ∷ taken ∷ taken ∷ taken ∷ taken ∷ []
 
 both-tags : collision (0b0001_0100 ∷ []) ≡ refused 22 5 ∷ six
@@ -121,7 +120,7 @@ loops = tested ++ 10 ∷ 11 ∷ 12 ∷ 11 ∷ 13 ∷ 14 ∷ 13 ∷ 15 ∷ 16 ∷
 abbrev multiply : (args ns : List ℕ) → List Log
 multiply args ns = log mult (0 ∷ 0 ∷ 0 ∷ []) args ns
 
-abbrev last : List Log → Answer
+abbrev last : List Log → Reply
 last ls = getD (says ls) 0 taken
 
 -- (3, 0, 7) gives 7 in 14 steps

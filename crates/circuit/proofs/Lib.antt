@@ -35,8 +35,8 @@ pub mod Past
 pub mod Thirds
 pub mod Occupied
 pub mod StartFacts
-pub mod PlayFacts
-pub mod AbstractDemand
-pub mod AbstractProof
+pub mod Logs
+pub mod Phases
+pub mod Kept
 pub mod Demands
 pub mod Cases

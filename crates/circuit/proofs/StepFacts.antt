@@ -6,15 +6,14 @@ use mathlib.Core.Logic.{_⊎_, ⊎-elim}
 use mathlib.Core.List.{List}
 use native.Mathlib.Omega.{arith}
 use Rattle.table.specs.Syntax.{Expr, id, Node, Sub}
-use Rattle.circuit.specs.Machine.{State}
+use Rattle.circuit.specs.State.{View, State512, Sized, view}
 use Rattle.table.proofs.SyntaxLaws.{node-id, sub-node}
 use Rattle.table.specs.Pick.{pick, Range}
 use Rattle.circuit.proofs.Invariant.{Fn, Sound, Step}
 use Rattle.circuit.proofs.Progress.{Able, progress}
 use Rattle.circuit.proofs.Answers.{step-sound}
 use Rattle.table.proofs.Tests.{eqb-true, eqb-yes}
-use Rattle.circuit.specs.State.{State512, Sized, view}
-use Rattle.circuit.specs.Step.{does, Move, done, act, Answer, taken, answered, refused, Stepped, told, over, perform, stepOf}
+use Rattle.circuit.specs.Step.{does, Move, done, act, Reply, taken, answered, refused, refusal, Stepped, told, over, perform, circuitStep}
 use Rattle.circuit.proofs.Performed.{Does, Acted, Fair, FairAct, perform-does, perform-sized}
 use Rattle.circuit.specs.Play.{Accepted}
 use Rattle.table.specs.Well.{Laid}
@@ -33,7 +32,7 @@ module _ (apply : ℕ → List ℕ → ℕ) {F N : ℕ} {body at : ℕ → Expr}
     pub sound : Sound apply F body (view s)
 
   abbrev pub step : (ℕ → Bool) → State512 → ℕ → Stepped
-  step = stepOf apply F N body at home
+  step = circuitStep apply F N body at home
 
   abbrev pub InRange : ℕ → Type 0
   InRange = Range N
@@ -53,7 +52,7 @@ module _ (apply : ℕ → List ℕ → ℕ) {F N : ℕ} {body at : ℕ → Expr}
   module _ (s : State512) (good : Good s) (n : ℕ) (r : InRange n) (m : Move) (here : act apply body (home n) (view s) (at n) ≡ does m) where
     pub moved-step : StepAt apply F body (view s) (view (perform N home body s n m)) n
     moved-step =
-        let t : State = view (perform N home body s n m) in
+        let t : View = view (perform N home body s n m) in
         subst (StepAt apply F body (view s) t) (laid .number n (r .0) (r .1))
         (acted-step apply laid (view s) t (good .sound) (home n) (fn-home n r) (at n) (laid .placed n (r .0) (r .1))
         (subst (Acted N home body (view s) t (id (at n))) (sym here)
@@ -101,7 +100,7 @@ module _ (apply : ℕ → List ℕ → ℕ) {F N : ℕ} {body at : ℕ → Expr}
     other a b c d e p q k = let i : a ≡ c = cc in absurd (⊎-elim (λ z. p (i ∙ z)) (λ z. q (i ∙ z)) k)
 
     -- 22 and 23 only for a call that waits at an occupied resource
-    abbrev Held : Answer → Type 0
+    abbrev Held : Reply → Type 0
     Held x = (k p : ℕ) → x ≡ refused k p → (k ≡ 22) ⊎ (k ≡ 23) → InRange n × Waits (view s) (at n) × (k ≡ pick (tags n) 22 23) × (p ≡ n)
 
     told-not : (b : Bool) (v : ℕ) → Held (pick b (answered v) taken)
@@ -120,10 +119,10 @@ module _ (apply : ℕ → List ℕ → ℕ) {F N : ℕ} {body at : ℕ → Expr}
         (view (perform N home body s n m) .value (id (body F))))
 
     -- main done: 20 at every node
-    pub step-over : InRange n → view s .status (id (body F)) ≡ 3 → step tags s n .answer ≡ refused 20 n
+    pub step-over : InRange n → view s .status (id (body F)) ≡ 3 → step tags s n ≡ refusal s 20 n
     step-over r e =
         let d : done (view s) (id (body F)) ≡ true = eqb-yes (view s .status (id (body F))) 3 e in
-        step-cases apply laid tags s n (λ r. r .answer ≡ refused 20 n)
+        step-cases apply laid tags s n (λ r. r ≡ refusal s 20 n)
         (λ f. absurd (f r)) (not-true (over 3 N (s .status)) no-bad) (not-true (over N F (s .occupant)) no-stray)
         (λ q f. refl) (λ q f h. not-true (done (view s) (id (body F))) f d) (λ q f h. not-true (done (view s) (id (body F))) f d)
         (λ q f m h. not-true (done (view s) (id (body F))) f d)

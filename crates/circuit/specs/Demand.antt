@@ -1,46 +1,79 @@
--- the third demand over bytes, in the words of document 01, "What the third demand speaks of"
-use Prim.Native.Nat.{ℕ, _+_, _≤_}
+-- the third demand over bytes (document 01, "What the third demand speaks of"), and what holds beside it
+use Prim.Native.Nat.{ℕ, _+_, _%_, _≤_, _<_}
 use mathlib.Core.Path.{_≡_}
 use mathlib.Core.Logic.{_⊎_}
+use mathlib.Core.Bool.{true}
 use mathlib.Core.List.{List}
 use lib.Dec.{eqb}
 use lib.ListN.{length, take}
 use Rattle.table.specs.Pick.{pick}
-use Rattle.circuit.specs.Rounds.{readings}
-use Rattle.circuit.specs.State.{State512, In, entry}
-use Rattle.circuit.specs.Step.{answered, refused}
-use Rattle.circuit.specs.Play.{Ask, Log, Accepted}
-use Rattle.circuit.specs.Operations.{operate}
-use Rattle.table.specs.Bytes.{functions}
-use Rattle.table.specs.Expressions.{bodyOf}
-use Rattle.circuit.specs.Circuit.{stepOf, playsOf, playOf, entriesOf, leavingsOf}
-
--- "Main's root is read with the arguments of the start; nothing is taken from the circuit": it ends with value v, counting k
-abbrev pub ReadsTo : (t args : List ℕ) → (v k : ℕ) → Type 0
-ReadsTo t args v k = readings operate (bodyOf t) (functions t) (functions t) args v k
+use Rattle.table.specs.Bytes.{functions, nodes}
+use Rattle.table.specs.Check.{accepted}
+use Rattle.table.specs.Expressions.{exprAt}
+use Rattle.list.specs.Tags.{checkWith}
+use Rattle.circuit.specs.Reading.{ReadsTo}
+use Rattle.circuit.specs.State.{State512, View, In, entry, view}
+use Rattle.circuit.specs.Step.{Act, does, enters, leaves, answered, refused, refusal}
+use Rattle.circuit.specs.Play.{Ask, Log, count, calls}
+use Rattle.circuit.specs.Circuit.{stepOf, playsOf, playOf, entriesOf, leavingsOf, Possible, actOf}
 
 -- "Main has answered if a step of the list did, and its value is the one in that answer"
 abbrev pub Answers : Log → ℕ → Type 0
 Answers l v = In (answered v) (l .answers)
 
--- "one claim about the whole list of steps", which "may be empty or go on past the answer", "at any number, 0 and above N too"
+-- "It is one claim about the whole list of steps": ns "may be empty or go on past the answer, and a step may be asked at any number,
+-- 0 and above N too"; s is the state of a start with these arguments
 pub record DemandThree (t tags args : List ℕ) (s : State512) (ns : List ℕ) : Type 0 where
-  -- 23, "the same, untagged": no step is refused for want of an arbiter
-  pub arbitrated : (p : ℕ) → In (refused 23 p) (playOf t tags s ns .answers) → ⊥
-  -- "A resource is a function .. a resource's entries are never more than one above its leavings", whatever prefix of the list is over
+  -- no step is refused 23: no call that waits at an occupied resource is without an arbiter
+  pub arbitrated : (place : ℕ) → In (refused 23 place) (playOf t tags s ns .answers) → ⊥
+  -- "a resource's entries are never more than one above its leavings": after every prefix of the list
   pub exclusive : (k f : ℕ) → 1 ≤ f → f ≤ functions t
       → entriesOf t f (playOf t tags s (take k ns) .nodes) ≤ leavingsOf t f (playOf t tags s (take k ns) .nodes) + 1
-  -- main has answered, or "some step would be taken next if a step asked then at some node isn't refused"
-  pub lively : ((v : ℕ) × Answers (playOf t tags s ns) v) ⊎ ((n : ℕ) × Accepted (stepOf t tags (playOf t tags s ns .state) n .answer))
-  -- main's value is the reading's, and its count "the number .. of the steps taken": "the one that answers is taken too"
+  -- main has answered, or "some step would be taken next"
+  pub lively : ((v : ℕ) × Answers (playOf t tags s ns) v) ⊎ ((n : ℕ) × Possible t tags (playOf t tags s ns .state) n)
+  -- main's value is the reading's, and the reading's count is the number of steps taken
   pub right : (v : ℕ) → Answers (playOf t tags s ns) v → ReadsTo t args v (length (playOf t tags s ns .nodes))
 
--- with it, under any tags, changing at every step, "its table being the table of every step"
+-- the steps at call node c of function f, k of them taken before: the next is the (k + 1)st
+pub record Phases (t : List ℕ) (s : State512) (c f k : ℕ) : Type 0 where
+  -- "the second, fifth and so on enter its callee", and no other does
+  pub entering : k % 3 ≡ 1 → (vs : List ℕ) × (actOf t s c ≡ does (enters f vs))
+  pub entered : (g : ℕ) (vs : List ℕ) → actOf t s c ≡ does (enters g vs) → (k % 3 ≡ 1) × (g ≡ f)
+  -- "the third, sixth and so on leave it", and no other does
+  pub leaving : k % 3 ≡ 2 → (v : ℕ) × (actOf t s c ≡ does (leaves f v))
+  pub left : (g v : ℕ) → actOf t s c ≡ does (leaves g v) → (k % 3 ≡ 2) × (g ≡ f)
+
+-- under any tags, changing at every step, "its table being the table of every step"; s is the state of a start with these arguments
 pub record UnderAnyTags (t args : List ℕ) (s : State512) (asked : List (Ask (List ℕ))) : Type 0 where
   -- "entries to a function exceed its leavings by one while it is occupied and by none otherwise"
   pub balance : (f : ℕ) → 1 ≤ f → f ≤ functions t → entriesOf t f (playsOf t s asked .nodes)
       ≡ leavingsOf t f (playsOf t s asked .nodes) + pick (eqb (entry (playsOf t s asked .state .occupant) 0 f) 0) 0 1
-  -- main's answer is the reading's
+  -- the count and the rules agree: of the steps taken at a call, those that enter and those that leave
+  pub phases : (c f : ℕ) → 1 ≤ c → c ≤ nodes t → calls (exprAt t c) f ≡ true
+      → (tags : List ℕ) → Possible t tags (playsOf t s asked .state) c
+      → Phases t (playsOf t s asked .state) c f (count c (playsOf t s asked .nodes))
+  -- nobody enters main
+  pub main-free : entry (playsOf t s asked .state .occupant) 0 (functions t) ≡ 0
+  -- main's value and count are the reading's
   pub right : (v : ℕ) → Answers (playsOf t s asked) v → ReadsTo t args v (length (playsOf t s asked .nodes))
-  -- after the answer no step is taken
-  pub over : (v n : ℕ) (tags : List ℕ) → Answers (playsOf t s asked) v → Accepted (stepOf t tags (playsOf t s asked .state) n .answer) → ⊥
+  -- "where it never ends, main never answers"
+  pub never : ((v k : ℕ) → ReadsTo t args v k → ⊥) → (v : ℕ) → Answers (playsOf t s asked) v → ⊥
+  -- after the answer every step at a node is refused 20
+  pub over : (v n F N : ℕ) (tags : List ℕ) → Answers (playsOf t s asked) v → 1 ≤ n → n ≤ nodes t → checkWith t tags ≡ accepted F N
+      → stepOf t tags (playsOf t s asked .state) n ≡ refusal (playsOf t s asked .state) 20 n
+
+-- two states that have the same entries at the nodes of P and the functions of Q
+pub record Agree (P Q : ℕ → Type 0) (s s′ : View) : Type 0 where
+  pub status : (n : ℕ) → P n → s .status n ≡ s′ .status n
+  pub second : (n : ℕ) → P n → s .second n ≡ s′ .second n
+  pub value : (n : ℕ) → P n → s .value n ≡ s′ .value n
+  pub register : (f i : ℕ) → Q f → s .register f i ≡ s′ .register f i
+  pub occupant : (f : ℕ) → Q f → s .occupant f ≡ s′ .occupant f
+
+-- up to N and F
+abbrev pub AgreeWithin : (t : List ℕ) → State512 → State512 → Type 0
+AgreeWithin t s s′ = Agree (λ n. (1 ≤ n) × (n ≤ nodes t)) (λ f. (1 ≤ f) × (f ≤ functions t)) (view s) (view s′)
+
+-- past N and F
+abbrev pub AgreePast : (t : List ℕ) → State512 → State512 → Type 0
+AgreePast t s s′ = Agree (λ n. nodes t < n) (λ f. functions t < f) (view s) (view s′)

@@ -1,20 +1,20 @@
--- the third demand holds of every program that is laid out
+-- what every list of steps from a start keeps, whatever the tags: a sound state, the steps of the abstract circuit, each call's phase by
+-- the number of its steps, and main's answer
 use Prim.Native.Nat.{ℕ, _+_, _%_, _≤_}
 use mathlib.Core.Bool.{Bool, true, false, true≢false}
 use mathlib.Core.Path.{_≡_, refl, subst, sym, ap, _∙_}
 use mathlib.Core.Logic.{_⊎_, inl, inr}
-use mathlib.Core.List.{List, [], _∷_}
+use mathlib.Core.List.{List, []}
 use native.Mathlib.Omega.{arith}
 use native.Mathlib.Decide.{ℕ-discrete}
-use lib.ListN.{length, getD, take}
+use lib.ListN.{length, getD}
 use lib.Dec.{eqb}
 use Rattle.table.proofs.LaidOut.{call-here}
 use Rattle.table.specs.Syntax.{Expr, id, Sub}
-use Rattle.circuit.specs.Machine.{State}
-use Rattle.circuit.specs.Reading.{Outcome, val, again, Readings, Reads}
+use Rattle.circuit.specs.State.{View, State512, In, view, circuitStart}
+use Rattle.circuit.specs.Reading.{Outcome, val, again, Readings, Reads, readings}
 use Rattle.table.specs.Pick.{pick, Range}
 use Rattle.circuit.proofs.Levels.{reads}
-use Rattle.circuit.specs.Rounds.{readings}
 use Rattle.table.specs.Well.{CallIn, Laid}
 use Rattle.list.specs.Conflict.{C}
 use Rattle.circuit.proofs.Invariant.{Fn, Sound}
@@ -22,18 +22,17 @@ use Rattle.circuit.proofs.Collide.{waiting-listed}
 use Rattle.circuit.proofs.Remaining.{Ends, nowhere}
 use Rattle.circuit.proofs.Answers.{Steps, rest, then, Started, started-sound, answer}
 use Rattle.table.proofs.Tests.{eqb-true, eqb-false}
-use Rattle.circuit.specs.State.{State512, In, view}
-use Rattle.circuit.specs.Step.{taken, answered, refused, stepOf, Move, does, act, done, perform}
+use Rattle.circuit.specs.Step.{taken, answered, refused, refusal, circuitStep, Move, does, act, done, perform}
 use Rattle.circuit.proofs.StepTaken.{Waits, step-cases}
 use Rattle.circuit.proofs.StepFacts.{Good, fn-home, moved-step, moved-good, step-waits, step-over, some-step}
-use Rattle.circuit.proofs.Thirds.{third-rest}
-use Rattle.circuit.specs.Play.{Ask, Log, logged, begin, asks, more, plays, count, entries, leavings, Accepted}
-use Rattle.circuit.proofs.Occupied.{Phased, moved-phased, entries-leavings, entries-one}
+use Rattle.circuit.proofs.Thirds.{third, third-rest}
+use Rattle.circuit.specs.Play.{Ask, Log, count, calls, entries, leavings, Accepted}
+use Rattle.circuit.proofs.Logs.{begin, logged, more, Alike}
+use Rattle.circuit.proofs.Occupied.{Phased, moved-phased, call-phase, entries-leavings, entries-one}
+use Rattle.circuit.proofs.Phases.{PhasesOf, step-phases}
 use Rattle.list.specs.CallSets.{callee, callee-at, sets, Listed}
 use Rattle.list.proofs.CallSetFacts.{body-calls}
-use Rattle.circuit.specs.Start.{startOf}
 use Rattle.circuit.proofs.StartFacts.{start-sized, start-started, start-rest, open-root}
-use Rattle.circuit.proofs.AbstractDemand.{Holds, run, Demand3, Anyway}
 
 module _ (apply : ℕ → List ℕ → ℕ) {F N : ℕ} {body at : ℕ → Expr} {home : ℕ → ℕ} (laid : Laid F N body at home) where
   abbrev K : Readings
@@ -52,7 +51,7 @@ module _ (apply : ℕ → List ℕ → ℕ) {F N : ℕ} {body at : ℕ → Expr}
   Root = id (body F)
 
   -- what holds after any list of steps from s₀
-  pub record Kept (s₀ : State) (l : Log) : Type 0 where
+  pub record Kept (s₀ : View) (l : Log) : Type 0 where
     pub good : Good apply laid (l .state)
     pub steps : Steps apply F body (laid .well) s₀ (view (l .state)) (length (l .nodes))
     pub phased : Phased apply F body (view (l .state)) (l .nodes)
@@ -60,7 +59,7 @@ module _ (apply : ℕ → List ℕ → ℕ) {F N : ℕ} {body at : ℕ → Expr}
         (view (l .state) .value (id (body F)) ≡ v)
     pub says : view (l .state) .status (id (body F)) ≡ 3 → (v : ℕ) × In (answered v) (l .answers)
 
-  module _ (s₀ : State) (l : Log) (k : Kept s₀ l) where
+  module _ (s₀ : View) (l : Log) (k : Kept s₀ l) where
     pub refused-kept : (n i p : ℕ) → Kept s₀ (logged l n (record { answer = refused i p; state = l .state }))
     refused-kept n i p = record {
       good = k .good;
@@ -110,21 +109,28 @@ module _ (apply : ℕ → List ℕ → ℕ) {F N : ℕ} {body at : ℕ → Expr}
           said-more v (inl q) = let z : _≡_ {A = ℕ} 0 1 = cc in absurd (omega arith)
           said-more v (inr i) = unsaid v i
 
-    pub more-kept : (a : Ask (ℕ → Bool)) → Kept s₀ (more (stepOf apply F N body at home) l a)
+    pub more-kept : (a : Ask (ℕ → Bool)) → Kept s₀ (more (circuitStep apply F N body at home) l a)
     more-kept a = step-cases apply laid (a .tags) (l .state) (a .node) (λ r. Kept s₀ (logged l (a .node) r))
         (λ e. refused-kept (a .node) 12 0) (λ e. refused-kept (a .node) 24 0) (λ e. refused-kept (a .node) 24 0)
         (λ r e. refused-kept (a .node) 20 (a .node)) (λ r e h. refused-kept (a .node) 21 (a .node))
         (λ r e h. refused-kept (a .node) (pick (a .tags (a .node)) 22 23) (a .node))
         (λ r e m h. moved-kept (a .node) r e m h (done (view (perform N home body (l .state) (a .node) m)) (id (body F))) refl)
 
-  pub plays-kept : (s₀ : State) (l : Log) → Kept s₀ l → (asked : List (Ask (ℕ → Bool)))
-      → Kept s₀ (plays (stepOf apply F N body at home) l asked)
-  plays-kept s₀ l k [] = k
-  plays-kept s₀ l k (a ∷ asked) = plays-kept s₀ (more (stepOf apply F N body at home) l a) (more-kept s₀ l k a) asked
+  -- the order of a log does not matter
+  pub kept-alike : (s₀ : View) (l p : Log) → Alike l p → Kept s₀ l → Kept s₀ p
+  kept-alike s₀ l p j k = record {
+    good = subst (Good apply laid) (j .state) (k .good);
+    steps = subst (λ x. Steps apply F body (laid .well) s₀ (view x) (length (p .nodes))) (j .state)
+        (subst (Steps apply F body (laid .well) s₀ (view (l .state))) (j .number) (k .steps));
+    phased = λ f c g q i. ap (λ x. x % 3) (sym (j .counts c)) ∙ k .phased f c g q i ∙ ap (λ x. third (view x) c) (j .state);
+    said = λ v i. subst (λ x. (view x .status (id (body F)) ≡ 3) × (view x .value (id (body F)) ≡ v)) (j .state)
+        (k .said v (j .into (answered v) i));
+    says = λ e. let x = k .says (ap (λ x. view x .status (id (body F))) (j .state) ∙ e) in (x .0, j .out (answered (x .0)) (x .1));
+  }
 
   module _ (args : List ℕ) (few : length args ≤ 8) where
-    abbrev s₀ : State
-    s₀ = view (startOf F body args)
+    abbrev s₀ : View
+    s₀ = view (circuitStart F body args)
 
     started : Started apply F body (laid .well) K program-reads s₀ args
     started = start-started apply laid args K program-reads few
@@ -133,7 +139,7 @@ module _ (apply : ℕ → List ℕ → ℕ) {F N : ℕ} {body at : ℕ → Expr}
     unfolding count
     no-steps c = refl
 
-    pub start-kept : Kept s₀ (begin (startOf F body args))
+    pub start-kept : Kept s₀ (begin (circuitStart F body args))
     start-kept = record {
       good = record {
         sized = start-sized apply laid args;
@@ -159,28 +165,45 @@ module _ (apply : ℕ → List ℕ → ℕ) {F N : ℕ} {body at : ℕ → Expr}
           → entries N at f (l .nodes) ≡ leavings N at f (l .nodes) + pick (eqb (view (l .state) .occupant f) 0) 0 1
       kept-balance f p q = entries-leavings apply laid (view (l .state)) (k .good .sound) f (p, q) (l .nodes) (k .phased)
 
-      pub kept-over : (v n : ℕ) (tags : ℕ → Bool) → In (answered v) (l .answers)
-          → Accepted (stepOf apply F N body at home tags (l .state) n .answer) → ⊥
-      kept-over v n tags i = step-cases apply laid tags (l .state) n (λ r. Accepted (r .answer) → ⊥)
-          (λ e x. x) (λ e x. x) (λ e x. x) (λ r e x. x) (λ r e h x. x) (λ r e h x. x)
-          (λ r e m h x. eqb-false (view (l .state) .status Root) 3 e (k .said v i .0))
+      pub kept-one : (f : ℕ) → 1 ≤ f → f ≤ F → entries N at f (l .nodes) ≤ leavings N at f (l .nodes) + 1
+      kept-one f p q = entries-one apply laid (view (l .state)) (k .good .sound) f (p, q) (l .nodes) (k .phased)
 
-    module _ (asked : List (Ask (ℕ → Bool))) where
-      abbrev end : Log
-      end = plays (stepOf apply F N body at home) (begin (startOf F body args)) asked
+  -- what such a state says of a step
+  module _ (s₀ : View) (l : Log) (k : Kept s₀ l) where
+    -- after the answer, 20 at every node
+    pub kept-over : (v n : ℕ) (tags : ℕ → Bool) → In (answered v) (l .answers) → 1 ≤ n → n ≤ N
+        → circuitStep apply F N body at home tags (l .state) n ≡ refusal (l .state) 20 n
+    kept-over v n tags i p q = step-over apply laid tags (l .state) (k .good) n (p, q) (k .said v i .0)
 
-      end-kept : Kept s₀ end
-      end-kept = plays-kept s₀ (begin (startOf F body args)) start-kept asked
+    -- main is entered by nobody
+    pub kept-main-free : view (l .state) .occupant F ≡ 0
+    kept-main-free = go (ℕ-discrete (view (l .state) .occupant F) 0)
+      where
+        go : Dec (view (l .state) .occupant F ≡ 0) → view (l .state) .occupant F ≡ 0
+        go (yes e) = e
+        go (no e) =
+            let h = k .good .sound .held F (view (l .state) .occupant F) fn-main refl e in
+            absurd (omega (arith, h .1 .1, h .2))
 
-      pub anyway : Anyway apply F N body at home args asked
-      anyway = record {
-        balance = kept-balance end end-kept;
-        right = kept-right end end-kept;
-        over = λ v n tags i p q. step-over apply laid tags (end .state) (end-kept .good) n (p, q) (end-kept .said v i .0);
-      }
+    -- main has answered, or some step would be taken
+    pub kept-lively : (tags : ℕ → Bool) → ((v : ℕ) × In (answered v) (l .answers))
+        ⊎ ((n : ℕ) × Accepted (circuitStep apply F N body at home tags (l .state) n .answer))
+    kept-lively tags = go (ℕ-discrete (view (l .state) .status (id (body F))) 3)
+      where
+        go : Dec (view (l .state) .status (id (body F)) ≡ 3) → ((v : ℕ) × In (answered v) (l .answers))
+            ⊎ ((n : ℕ) × Accepted (circuitStep apply F N body at home tags (l .state) n .answer))
+        go (yes e) = inl (k .says e)
+        go (no e) = inr (some-step apply laid tags (l .state) (k .good) e)
+
+    -- of the steps taken at a call, those that enter and those that leave
+    pub kept-phases : (c f : ℕ) → 1 ≤ c → c ≤ N → calls (at c) f ≡ true → (tags : ℕ → Bool)
+        → Accepted (circuitStep apply F N body at home tags (l .state) c .answer)
+        → PhasesOf (act apply body (home c) (view (l .state)) (at c)) f (count c (l .nodes))
+    kept-phases c f p q e tags a = step-phases apply laid tags (l .state) c f (p, q) e a (count c (l .nodes))
+        (call-phase apply laid (view (l .state)) c f p q e (l .nodes) (k .phased))
 
   -- a call that waits at an occupied resource is listed
-  waits-listed : (s : State) → Sound apply F body s → (n : ℕ) → Range N n → Waits s (at n) → Listed body at F n
+  waits-listed : (s : View) → Sound apply F body s → (n : ℕ) → Range N n → Waits s (at n) → Listed body at F n
   waits-listed s sound n r w =
       let e : w .0 ≡ n = sym (ap id (w .3)) ∙ laid .number n (r .0) (r .1) in
       let x = waiting-listed apply F body s (callee-at at) (sets body at F) (laid .well) sound callees bodies
@@ -194,45 +217,13 @@ module _ (apply : ℕ → List ℕ → ℕ) {F N : ℕ} {body at : ℕ → Expr}
       bodies : (g m : ℕ) → Fn apply F body g → C (callee-at at) (sets body at F) (body g) m → sets body at F g m
       bodies g m q = body-calls F body at m (laid .well .below) g (q .0) (q .1)
 
-  module _ (tags : ℕ → Bool) (holds : Holds F body at tags) (s₀ : State) where
-    abbrev Silent : Log → Type 0
-    Silent l = (p : ℕ) → In (refused 23 p) (l .answers) → ⊥
-
+  module _ (tags : ℕ → Bool) (holds : (n : ℕ) → Listed body at F n → tags n ≡ true) (s₀ : View) where
     not-23 : (b : Bool) → b ≡ true → _≡_ {A = ℕ} 23 (pick b 22 23) → ⊥
     not-23 true e z = omega arith
     not-23 false e z = true≢false (sym e)
 
-    more-silent : (l : Log) → Kept s₀ l → Silent l → (n : ℕ)
-        → Silent (more (stepOf apply F N body at home) l (record { tags = tags; node = n }))
-    more-silent l k h n p (inl e) =
+    -- where the tags hold the list, no step is refused 23
+    pub kept-silent : (l : Log) → Kept s₀ l → (n p : ℕ) → refused 23 p ≡ circuitStep apply F N body at home tags (l .state) n .answer → ⊥
+    kept-silent l k n p e =
         let w = step-waits apply laid tags (l .state) (k .good) n 23 p (sym e) (inr refl) in
         not-23 (tags n) (holds n (waits-listed (view (l .state)) (k .good .sound) n (w .0) (w .1))) (w .2)
-    more-silent l k h n p (inr i) = h p i
-
-    plays-silent : (l : Log) → Kept s₀ l → Silent l → (ns : List ℕ) → Silent (plays (stepOf apply F N body at home) l (asks tags ns))
-    plays-silent l k h [] = h
-    plays-silent l k h (n ∷ ns) =
-        let a : Ask (ℕ → Bool) = record { tags = tags; node = n } in
-        plays-silent (more (stepOf apply F N body at home) l a) (more-kept s₀ l k a) (more-silent l k h n) ns
-
-  -- the third demand, for every list of asked numbers
-  pub demand-three : (tags : ℕ → Bool) → Holds F body at tags → (args : List ℕ) → length args ≤ 8 → (ns : List ℕ)
-      → Demand3 apply F N body at home tags args ns
-  demand-three tags holds args few ns = record {
-    arbitrated = plays-silent tags holds (view (startOf F body args)) (begin (startOf F body args)) (start-kept args few) (λ p i. i) ns;
-    exclusive = λ k f p q.
-        let x = end-kept args few (asks tags (take k ns)) in
-        entries-one apply laid (view (run apply F N body at home tags args (take k ns) .state)) (x .good .sound) f (p, q)
-        (run apply F N body at home tags args (take k ns) .nodes) (x .phased);
-    lively = go (ℕ-discrete (view (run apply F N body at home tags args ns .state) .status (id (body F))) 3);
-    right = kept-right args few (run apply F N body at home tags args ns) x;
-  }
-    where
-      x : Kept (view (startOf F body args)) (run apply F N body at home tags args ns)
-      x = end-kept args few (asks tags ns)
-
-      go : Dec (view (run apply F N body at home tags args ns .state) .status (id (body F)) ≡ 3)
-          → ((v : ℕ) × In (answered v) (run apply F N body at home tags args ns .answers)) ⊎
-          ((n : ℕ) × Accepted (stepOf apply F N body at home tags (run apply F N body at home tags args ns .state) n .answer))
-      go (yes e) = inl (x .says e)
-      go (no e) = inr (some-step apply laid tags (run apply F N body at home tags args ns .state) (x .good) e)
