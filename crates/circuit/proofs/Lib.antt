@@ -32,6 +32,8 @@ pub mod Bounded
 pub mod StepTaken
 pub mod StepFacts
 pub mod Past
+pub mod ListsAgree
+pub mod Ignores
 pub mod Thirds
 pub mod Occupied
 pub mod StartFacts
