@@ -1,26 +1,27 @@
 -- the third demand, and what holds under any tags, of every table, tags and arguments that start takes
 use Prim.Native.Nat.{ℕ, _≤_}
-use mathlib.Core.Bool.{_&&_, true}
+use mathlib.Core.Bool.{Bool, true, false, _&&_, not, true≢false}
 use mathlib.Core.Path.{_≡_, refl, subst, sym, ap, _∙_}
 use mathlib.Core.Logic.{inl, inr, ⊎-elim}
 use mathlib.Core.List.{List, [], _∷_}
 use native.Mathlib.Omega.{arith}
-use lib.Dec.{eqb, eqb→eq}
+use lib.Dec.{T, eqb, eqb→eq}
 use lib.ListN.{length, take}
 use Rattle.circuit.specs.State.{View, State512, In, view, circuitStart}
-use Rattle.circuit.specs.Step.{refused, refusal, circuitStep}
+use Rattle.circuit.specs.Step.{refused, refusal, over, circuitStep}
 use Rattle.circuit.specs.Play.{Ask, asks, Log, Accepted, played, count, calls}
 use Rattle.circuit.specs.Operations.{operate}
 use Rattle.circuit.specs.Circuit.{started, checkStart, startAfter, startOf, circuitOf, stepAfter, stepOf, playsOf, playOf}
 use Rattle.circuit.specs.Circuit.{entriesOf, leavingsOf, Possible}
 use Rattle.circuit.specs.Demand.{Answers, DemandThree, UnderAnyTags, Phases}
 use Rattle.circuit.specs.Reading.{ReadsTo}
+use Rattle.circuit.specs.Runs.{standing}
 use Rattle.table.specs.Bytes.{functions, nodes, params}
 use Rattle.table.specs.Naming.{owner}
-use Rattle.table.specs.Check.{Verdict, accepted, checkOf}
+use Rattle.table.specs.Check.{Verdict, accepted, stage, checkOf}
 use Rattle.table.specs.Expressions.{exprAt, bodyOf}
 use Rattle.table.specs.Well.{Laid}
-use Rattle.table.proofs.Passed.{passes, passed, params-small}
+use Rattle.table.proofs.Passed.{passes, passed, goes-on, params-small}
 use Rattle.table.proofs.LaidOut.{laid}
 use Rattle.list.specs.Tags.{tagged, after, tagLength, nonePast, tagsRefusal, checkWith, Holding}
 use Rattle.list.proofs.Callees.{listed-exactly}
@@ -28,6 +29,8 @@ use Rattle.circuit.proofs.Levels.{readings-unique}
 use Rattle.circuit.proofs.Logs.{begin, logged, more, plays, plays-alike}
 use Rattle.circuit.proofs.Kept.{Kept, refused-kept, start-kept, kept-alike, kept-right, kept-balance, kept-one, kept-over}
 use Rattle.circuit.proofs.Kept.{kept-main-free, kept-lively, kept-phases, kept-silent}
+use Rattle.circuit.proofs.StepFacts.{Good}
+use Rattle.circuit.proofs.Bounded.{over-none, status-bound, occupant-bound}
 use Rattle.circuit.proofs.Kept as Steps
 use Rattle.table.specs.Check as TableCheck
 
@@ -38,7 +41,7 @@ pub record Passes (t tags args : List ℕ) (s : State512) : Type 0 where
   pub count : length args ≡ params t (functions t)
   pub state : s ≡ circuitStart (functions t) (bodyOf t) args
 
-after-both : (c : Verdict) (rest : Unit {0} → Verdict) (F N : ℕ) → after c rest ≡ accepted F N
+pub after-both : (c : Verdict) (rest : Unit {0} → Verdict) (F N : ℕ) → after c rest ≡ accepted F N
     → ((F′ N′ : ℕ) × (c ≡ accepted F′ N′)) × (rest tt ≡ accepted F N)
 unfolding after
 after-both (accepted F′ N′) rest F N e = ((F′, N′, refl), e)
@@ -89,6 +92,27 @@ module _ (t : List ℕ) (F N : ℕ) (check : checkOf t ≡ accepted F N) where
       go (accepted F N) x = x
       go (TableCheck.refused i p) x = absurd x
 
+  -- a sound state is never refused 24
+  stands-well : (tags : List ℕ) (F N : ℕ) → checkWith t tags ≡ accepted F N → (s : State512) → Good operate lay s
+      → standing t tags s ≡ accepted (functions t) (nodes t)
+  unfolding standing after
+  stands-well tags F N e s g =
+      ap (λ c. after c rest) e
+      ∙ goes-on 24 (not (over 3 (nodes t) (s .status))) 0 _ (not-over (over 3 (nodes t) (s .status))
+      (over-none 3 (nodes t) (s .status) (status-bound operate lay (view s) (g .sound)))) refl
+      ∙ goes-on 24 (not (over (nodes t) (functions t) (s .occupant))) 0 _ (not-over (over (nodes t) (functions t) (s .occupant))
+      (over-none (nodes t) (functions t) (s .occupant) (occupant-bound operate lay (view s) (g .sound)))) refl
+    where
+      rest : Unit {0} → Verdict
+      rest _ =
+          stage 24 (not (over 3 (nodes t) (s .status))) 0 λ _.
+          stage 24 (not (over (nodes t) (functions t) (s .occupant))) 0 λ _.
+          accepted (functions t) (nodes t)
+
+      not-over : (b : Bool) → b ≡ false → T (not b)
+      not-over true e = absurd (true≢false e)
+      not-over false e = tt
+
   main-few : (args : List ℕ) → length args ≡ params t (functions t) → length args ≤ 8
   main-few args e = let p = passed t F N check .0 in omega (arith, params-small t p (functions t) (p .F-low, omega arith))
 
@@ -125,6 +149,12 @@ module _ (t : List ℕ) (F N : ℕ) (check : checkOf t ≡ accepted F N) where
       phases = λ c f p q e tags a.
           let x = kept-phases operate lay (view s₀) l k c f p q e (tagged tags) (possible-same tags (l .state) c a) in
           record { entering = x .entering; entered = x .entered; leaving = x .leaving; left = x .left };
+      answered-done = k .said;
+      done-answered = λ e. let x = k .says e in subst (λ v. Answers l v) (sym (k .said (x .0) (x .1) .1)) (x .1);
+      lively = λ F N tags c.
+          ⊎-elim inl (λ x. inr (x .0, subst (λ r. Accepted (r .answer)) (sym (step-same tags F N c (l .state) (x .0))) (x .1)))
+          (kept-lively operate lay (view s₀) l k (tagged tags));
+      stands = λ F N tags c. stands-well tags F N c (l .state) (k .good);
       main-free = kept-main-free operate lay (view s₀) l k;
       right = right;
       never = λ h v i. h v (length (l .nodes)) (right v i);

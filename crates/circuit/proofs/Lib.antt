@@ -41,4 +41,6 @@ pub mod Logs
 pub mod Phases
 pub mod Kept
 pub mod Demands
+pub mod AnyState
+pub mod RunFacts
 pub mod Cases

@@ -3,7 +3,7 @@ use Prim.Native.Nat.{ℕ, _+_, _%_, _≤_, _<_}
 use mathlib.Core.Path.{_≡_}
 use mathlib.Core.Logic.{_⊎_}
 use mathlib.Core.Bool.{true}
-use mathlib.Core.List.{List}
+use mathlib.Core.List.{List, _++_}
 use lib.Dec.{eqb}
 use lib.ListN.{length, take}
 use Rattle.table.specs.Pick.{pick}
@@ -16,6 +16,7 @@ use Rattle.circuit.specs.State.{State512, View, In, entry, view}
 use Rattle.circuit.specs.Step.{Act, does, enters, leaves, answered, refused, refusal}
 use Rattle.circuit.specs.Play.{Ask, Log, count, calls}
 use Rattle.circuit.specs.Circuit.{stepOf, playsOf, playOf, entriesOf, leavingsOf, Possible, actOf}
+use Rattle.circuit.specs.Runs.{MainDone, mainValue, standing, Ended, gave, atRest, barred, Driven}
 
 -- "Main has answered if a step of the list did, and its value is the one in that answer"
 abbrev pub Answers : Log → ℕ → Type 0
@@ -52,6 +53,16 @@ pub record UnderAnyTags (t args : List ℕ) (s : State512) (asked : List (Ask (L
   pub phases : (c f : ℕ) → 1 ≤ c → c ≤ nodes t → calls (exprAt t c) f ≡ true
       → (tags : List ℕ) → Possible t tags (playsOf t s asked .state) c
       → Phases t (playsOf t s asked .state) c f (count c (playsOf t s asked .nodes))
+  -- main has answered exactly if its root is done, and with its value
+  pub answered-done : (v : ℕ) → Answers (playsOf t s asked) v → MainDone t (playsOf t s asked .state)
+      × (mainValue t (playsOf t s asked .state) ≡ v)
+  pub done-answered : MainDone t (playsOf t s asked .state) → Answers (playsOf t s asked) (mainValue t (playsOf t s asked .state))
+  -- main has answered, or some step would be taken next
+  pub lively : (F N : ℕ) (tags : List ℕ) → checkWith t tags ≡ accepted F N
+      → ((v : ℕ) × Answers (playsOf t s asked) v) ⊎ ((n : ℕ) × Possible t tags (playsOf t s asked .state) n)
+  -- 24 is never met
+  pub stands : (F N : ℕ) (tags : List ℕ) → checkWith t tags ≡ accepted F N
+      → standing t tags (playsOf t s asked .state) ≡ accepted (functions t) (nodes t)
   -- nobody enters main
   pub main-free : entry (playsOf t s asked .state .occupant) 0 (functions t) ≡ 0
   -- main's value and count are the reading's
@@ -77,3 +88,16 @@ AgreeWithin t s s′ = Agree (λ n. (1 ≤ n) × (n ≤ nodes t)) (λ f. (1 ≤ 
 -- past N and F
 abbrev pub AgreePast : (t : List ℕ) → State512 → State512 → Type 0
 AgreePast t s s′ = Agree (λ n. nodes t < n) (λ f. functions t < f) (view s) (view s′)
+
+-- a run with a budget, after steps asked at the numbers `ns` from a start; it picks the steps `picked`
+pub record DriveDemand (t tags args : List ℕ) (s : State512) (ns : List ℕ) (r : Driven) : Type 0 where
+  pub picked : List ℕ
+  -- "The steps of a run are such steps, and the number it tells is that of the steps taken in it"
+  pub state : r .state ≡ playOf t tags s (ns ++ picked) .state
+  pub steps : playOf t tags s (ns ++ picked) .nodes ≡ playOf t tags s ns .nodes ++ picked
+  pub number : r .taken ≡ length picked
+  -- its answer is the reading's, and all steps since the start are its count
+  pub right : (v : ℕ) → r .ended ≡ gave v → ReadsTo t args v (length (playOf t tags s ns .nodes) + r .taken)
+  -- it never says at rest: before main answers some step is possible, and an answer is looked at first
+  pub never-rests : r .ended ≡ atRest → ⊥
+  pub never-barred : (number place : ℕ) → r .ended ≡ barred number place → ⊥

@@ -1,17 +1,17 @@
 -- the query and the two runs (document 01, "The circuit"): a run over a list is fixed; of a query and of a run with a budget
 -- it is said what is true of their results
-use Prim.Native.Nat.{ℕ, zero, suc, _≤_}
+use Prim.Native.Nat.{ℕ, zero, suc, _≤_, _<_}
 use mathlib.Core.Bool.{not}
 use mathlib.Core.Path.{_≡_}
 use mathlib.Core.List.{List, [], _∷_}
-use lib.ListN.{length}
+use lib.ListN.{length, getD, take}
 use Rattle.table.specs.Syntax.{id}
 use Rattle.table.specs.Bytes.{functions, nodes}
 use Rattle.table.specs.Check.{Verdict, accepted, stage}
 use Rattle.table.specs.Expressions.{bodyOf}
 use Rattle.list.specs.Tags.{after, checkWith}
 use Rattle.circuit.specs.State.{State512, view}
-use Rattle.circuit.specs.Step.{Reply, taken, answered, refused, Stepped, over}
+use Rattle.circuit.specs.Step.{Reply, taken, answered, refused, refusal, Stepped, over}
 use Rattle.circuit.specs.Circuit.{stepOf, playOf, Possible}
 use Rattle.table.specs.Check as TableCheck
 
@@ -51,6 +51,15 @@ runAfter (TableCheck.refused number place) s r = record { taken = 0; halt = stop
 -- "A run takes a list of nodes, stops at the first refusal, and tells the steps taken and that refusal, if any"
 unfoldable pub runOf : (t tags : List ℕ) → State512 → List ℕ → Ran
 runOf t tags s ns = runAfter (standing t tags s) s (runFrom t tags s ns)
+
+-- "The steps of a run are such steps, and the number it tells is that of the steps taken in it": of a run r over ns from s
+pub record RunPlays (t tags : List ℕ) (s : State512) (ns : List ℕ) (r : Ran) : Type 0 where
+  pub steps : playOf t tags s (take (r .taken) ns) .nodes ≡ take (r .taken) ns
+  pub number : length (take (r .taken) ns) ≡ r .taken
+  pub state : playOf t tags s (take (r .taken) ns) .state ≡ r .state
+  -- to the end of the list, or the next step asked is refused
+  pub all : r .halt ≡ whole → r .taken ≡ length ns
+  pub next : (k p : ℕ) → r .halt ≡ stopped k p → (r .taken < length ns) × (stepOf t tags (r .state) (getD ns (r .taken) 0) ≡ refusal (r .state) k p)
 
 -- main's root is done, and its value
 abbrev pub MainDone : (t : List ℕ) → State512 → Type 0
