@@ -61,7 +61,7 @@ module _ (t tags : List ℕ) where
   circuit s n = circuitStep operate (functions t) (nodes t) (bodyOf t) (exprAt t) (owner t) (tagged tags) s n
 
   -- a step is refused by table or tags, or it is the circuit's
-  by-check : (P : (State512 → ℕ → Stepped) → Type 0) → ((k p : ℕ) → P (λ s n. refusal s k p))
+  pub by-check : (P : (State512 → ℕ → Stepped) → Type 0) → ((k p : ℕ) → P (λ s n. refusal s k p))
       → ((F N : ℕ) → checkOf t ≡ accepted F N → P circuit) → P (stepOf t tags)
   unfolding stepOf stepAfter circuitOf checkWith
   by-check P f g = go (checkWith t tags) refl

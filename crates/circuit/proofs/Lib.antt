@@ -43,4 +43,5 @@ pub mod Kept
 pub mod Demands
 pub mod AnyState
 pub mod RunFacts
+pub mod Fits
 pub mod Cases

@@ -1,11 +1,11 @@
 -- the third demand over bytes (document 01, "What the third demand speaks of"), and what holds beside it
-use Prim.Native.Nat.{ℕ, _+_, _%_, _≤_, _<_}
+use Prim.Native.Nat.{ℕ, _+_, _%_, _^_, _≤_, _<_}
 use mathlib.Core.Path.{_≡_}
 use mathlib.Core.Logic.{_⊎_}
 use mathlib.Core.Bool.{true}
 use mathlib.Core.List.{List, _++_}
 use lib.Dec.{eqb}
-use lib.ListN.{length, take}
+use lib.ListN.{length, getD, take}
 use Rattle.table.specs.Pick.{pick}
 use Rattle.table.specs.Bytes.{functions, nodes}
 use Rattle.table.specs.Check.{accepted}
@@ -101,3 +101,18 @@ pub record DriveDemand (t tags args : List ℕ) (s : State512) (ns : List ℕ) (
   -- it never says at rest: before main answers some step is possible, and an answer is looked at first
   pub never-rests : r .ended ≡ atRest → ⊥
   pub never-barred : (number place : ℕ) → r .ended ≡ barred number place → ⊥
+
+-- "Values are 32-bit"
+abbrev pub Word : ℕ → Type 0
+Word v = v < 2 ^ 32
+
+abbrev pub Words : List ℕ → Type 0
+Words l = (i : ℕ) → Word (getD l i 0)
+
+-- a table's bytes are below 256
+abbrev pub Bytes : List ℕ → Type 0
+Bytes t = (i : ℕ) → getD t i 0 < 256
+
+pub record Fits (s : State512) : Type 0 where
+  pub value : Words (s .value)
+  pub registers : Words (s .registers)
