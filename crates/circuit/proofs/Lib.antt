@@ -44,4 +44,5 @@ pub mod Demands
 pub mod AnyState
 pub mod RunFacts
 pub mod Fits
+pub mod ReadingFits
 pub mod Cases
