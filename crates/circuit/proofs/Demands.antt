@@ -13,7 +13,7 @@ use Rattle.circuit.specs.Play.{Ask, asks, Log, Accepted, played, count, 
 use Rattle.circuit.specs.Operations.{operate}
 use Rattle.circuit.specs.Circuit.{started, checkStart, startAfter, startOf, circuitOf, stepAfter, stepOf, playsOf, playOf}
 use Rattle.circuit.specs.Circuit.{entriesOf, leavingsOf, Possible}
-use Rattle.circuit.specs.Demand.{Answers, DemandThree, UnderAnyTags, Phases}
+use Rattle.circuit.specs.Demand.{Answers, DemandThree, ThirdDemand, UnderAnyTags, Phases}
 use Rattle.circuit.specs.Reading.{ReadsTo}
 use Rattle.circuit.specs.Runs.{standing}
 use Rattle.table.specs.Bytes.{functions, nodes, params}
@@ -170,26 +170,31 @@ module _ (t : List ℕ) (F N : ℕ) (check : checkOf t ≡ accepted F N) where
         right : (v : ℕ) → Answers l v → ReadsTo t args v (length (l .nodes))
         right = kept-right operate lay args (main-few args number) l k
 
-    -- under tags that start takes and that hold the list
-    module _ (tags : List ℕ) (F′ N′ : ℕ) (taken : checkWith t tags ≡ accepted F′ N′) (holds : Holding t tags) where
-      -- a step after any list of steps is not refused 23
-      silent : (l : Log) → KeptFrom l → (n p : ℕ) → refused 23 p ≡ stepOf t tags (l .state) n .answer → ⊥
-      silent l k n p e = kept-silent operate lay (tagged tags) (λ n x. holds n (listed-exactly t F N check n .1 x)) (view s₀) l k n p
+    -- under the tags of the start
+    module _ (tags : List ℕ) (F′ N′ : ℕ) (taken : checkWith t tags ≡ accepted F′ N′) where
+      -- where the tags hold the list, a step after any list of steps is not refused 23
+      silent : Holding t tags → (l : Log) → KeptFrom l → (n p : ℕ) → refused 23 p ≡ stepOf t tags (l .state) n .answer → ⊥
+      silent holds l k n p e =
+          kept-silent operate lay (tagged tags) (λ n x. holds n (listed-exactly t F N check n .1 x)) (view s₀) l k n p
           (e ∙ ap (λ r. r .answer) (step-same tags F′ N′ taken (l .state) n))
 
-      plays-silent : (l : Log) → KeptFrom l → ((p : ℕ) → In (refused 23 p) (l .answers) → ⊥) → (ns : List ℕ)
+      plays-silent : Holding t tags → (l : Log) → KeptFrom l → ((p : ℕ) → In (refused 23 p) (l .answers) → ⊥) → (ns : List ℕ)
           → (p : ℕ) → In (refused 23 p) (plays (stepOf t) l (asks tags ns) .answers) → ⊥
-      plays-silent l k h [] p i = h p i
-      plays-silent l k h (n ∷ ns) p i =
+      plays-silent holds l k h [] p i = h p i
+      plays-silent holds l k h (n ∷ ns) p i =
           let a : Ask (List ℕ) = record { tags = tags; node = n } in
-          plays-silent (more (stepOf t) l a) (more-kept l k a) (λ q. ⊎-elim (silent l k n q) (h q)) ns p i
+          plays-silent holds (more (stepOf t) l a) (more-kept l k a) (λ q. ⊎-elim (silent holds l k n q) (h q)) ns p i
 
-      -- the third demand from the state that start makes
-      from-start : (ns : List ℕ) → DemandThree t tags args s₀ ns
+      no-23 : Holding t tags → (ns : List ℕ) (p : ℕ) → In (refused 23 p) (playOf t tags s₀ ns .answers) → ⊥
+      unfolding playOf
+      no-23 holds ns p i = plays-silent holds (begin s₀) (start-kept operate lay args (main-few args number)) (λ q z. z) ns p
+          (plays-alike (stepOf t) s₀ (asks tags ns) .into (refused 23 p) i)
+
+      -- the rest of the third demand, from the state that start makes
+      from-start : (ns : List ℕ) → ((p : ℕ) → In (refused 23 p) (playOf t tags s₀ ns .answers) → ⊥) → DemandThree t tags args s₀ ns
       unfolding playOf entriesOf leavingsOf
-      from-start ns = record {
-        arbitrated = λ p i. plays-silent (begin s₀) (start-kept operate lay args (main-few args number)) (λ q z. z) ns p
-            (plays-alike (stepOf t) s₀ (asks tags ns) .into (refused 23 p) i);
+      from-start ns quiet = record {
+        arbitrated = quiet;
         exclusive = λ k f p q. kept-one operate lay args (main-few args number) (played (stepOf t) s₀ (asks tags (take k ns)))
             (table-kept (asks tags (take k ns))) f p q;
         lively = ⊎-elim inl (λ x. inr (x .0, subst (λ r. Accepted (r .answer)) (sym (step-same tags F′ N′ taken (l .state) (x .0))) (x .1)))
@@ -201,12 +206,14 @@ module _ (t : List ℕ) (F N : ℕ) (check : checkOf t ≡ accepted F N) where
           l = played (stepOf t) s₀ (asks tags ns)
 
 -- the third demand: of every table, tags and arguments that start takes, the tags holding the list, and every list of asked numbers
-pub demand : (t tags args : List ℕ) (s : State512) → startOf t tags args ≡ started s → Holding t tags → (ns : List ℕ)
-    → DemandThree t tags args s ns
+pub demand : ThirdDemand
 demand t tags args s e holds ns =
     let p = start-passes t tags args s e in
+    let F = functions t in
+    let N = nodes t in
     subst (λ r. DemandThree t tags args r ns) (sym (p .state))
-    (from-start t (functions t) (nodes t) (p .check) args (p .count) tags (functions t) (nodes t) (p .check-tags) holds ns)
+    (from-start t F N (p .check) args (p .count) tags F N (p .check-tags) ns
+    (no-23 t F N (p .check) args (p .count) tags F N (p .check-tags) holds ns))
 
 -- and its companion
 pub under-any-tags : (t tags args : List ℕ) (s : State512) → startOf t tags args ≡ started s → (asked : List (Ask (List ℕ)))

@@ -10,12 +10,12 @@ use Rattle.table.specs.Pick.{pick}
 use Rattle.table.specs.Bytes.{functions, nodes}
 use Rattle.table.specs.Check.{accepted}
 use Rattle.table.specs.Expressions.{exprAt}
-use Rattle.list.specs.Tags.{checkWith}
+use Rattle.list.specs.Tags.{checkWith, Holding}
 use Rattle.circuit.specs.Reading.{ReadsTo}
 use Rattle.circuit.specs.State.{State512, View, In, entry, view}
 use Rattle.circuit.specs.Step.{Act, does, enters, leaves, answered, refused, refusal}
 use Rattle.circuit.specs.Play.{Ask, Log, count, calls}
-use Rattle.circuit.specs.Circuit.{stepOf, playsOf, playOf, entriesOf, leavingsOf, Possible, actOf}
+use Rattle.circuit.specs.Circuit.{started, startOf, stepOf, playsOf, playOf, entriesOf, leavingsOf, Possible, actOf}
 use Rattle.circuit.specs.Runs.{MainDone, mainValue, standing, Ended, gave, atRest, barred, Driven}
 
 -- "Main has answered if a step of the list did, and its value is the one in that answer"
@@ -34,6 +34,12 @@ pub record DemandThree (t tags args : List ℕ) (s : State512) (ns : List ℕ) :
   pub lively : ((v : ℕ) × Answers (playOf t tags s ns) v) ⊎ ((n : ℕ) × Possible t tags (playOf t tags s ns .state) n)
   -- main's value is the reading's, and the reading's count is the number of steps taken
   pub right : (v : ℕ) → Answers (playOf t tags s ns) v → ReadsTo t args v (length (playOf t tags s ns .nodes))
+
+-- the whole demand: its premises are that start takes table, tags and arguments, and that the tags hold the arbiter list
+abbrev pub ThirdDemand : Type 0
+ThirdDemand = (t tags args : List ℕ) (s : State512) → startOf t tags args ≡ started s
+    → Holding t tags
+    → (ns : List ℕ) → DemandThree t tags args s ns
 
 -- the steps at call node c of function f, k of them taken before: the next is the (k + 1)st
 pub record Phases (t : List ℕ) (s : State512) (c f k : ℕ) : Type 0 where
