@@ -14,7 +14,8 @@ use Rattle.table.specs.Bytes.{twoAt, fourAt, functions, nodes, nodeAt, word}
 use Rattle.table.specs.Naming.{owner}
 use Rattle.table.specs.Expressions.{exprAt, bodyOf}
 use Rattle.table.proofs.Passed.{IsNode, Passed, passed}
-use Rattle.table.proofs.View.{View as NodeView, is-const, is-param, is-prim, is-call, is-self, is-cond, is-bind, is-bound, view as node-view}
+use Rattle.table.proofs.View.{View as NodeView, view as node-view}
+use Rattle.table.proofs.View.{is-const, is-param, is-prim, is-call, is-self, is-cond, is-bind, is-bound}
 use Rattle.list.specs.Tags.{tagged}
 use Rattle.circuit.specs.State.{View, State512, view, entry, write, register, alter, fill, clear, blank, circuitStart}
 use Rattle.circuit.specs.Step.{Act, stuck, blocked, does, Move, begins, turns, finishes, enters, leaves, restarts, done, all-done}
@@ -147,7 +148,8 @@ module _ (s : State512) (fits : Fits s) where
 
   act-fits : (body : ℕ → Expr) (h : ℕ) (u : Expr) → ((m v : ℕ) → u ≡ const m v → Word v) → ActFits (act operate body h (view s) u)
   act-fits body h (const n v) c = by-state ActFits (view s .status n) _ _ (λ e. c n v refl) (λ e. tt) tt
-  act-fits body h (param n i) c = by-state ActFits (view s .status n) _ _ (λ e. register-word (s .registers) h i (fits .registers)) (λ e. tt) tt
+  act-fits body h (param n i) c = by-state ActFits (view s .status n) _ _
+      (λ e. register-word (s .registers) h i (fits .registers)) (λ e. tt) tt
   act-fits body h (bound n d) c = by-state ActFits (view s .status n) _ _ (λ e. value-word d) (λ e. tt) tt
   act-fits body h (prim n op es) c = by-state ActFits (view s .status n) _ _ (λ e. tt)
       (λ e. by-pick ActFits (all-done (view s) es) _ _ (λ e. operate-word op (values (view s .value) es) (values-words es)) (λ e. tt)) tt

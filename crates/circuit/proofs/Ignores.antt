@@ -16,7 +16,8 @@ use Rattle.table.proofs.SyntaxLaws.{node-id, sub-node}
 use Rattle.table.proofs.CallPlaces.{sub-call}
 use Rattle.circuit.specs.State.{View, State512, Sized, view, write, clear}
 use Rattle.circuit.specs.Step.{Act, stuck, blocked, does, Move, begins, turns, finishes, enters, leaves, restarts, done, all-done}
-use Rattle.circuit.specs.Step.{branch, by-status, act, mine, reset, finish, perform, over, taken, answered, Stepped, outcome, circuitStep}
+use Rattle.circuit.specs.Step.{branch, by-status, act, mine, reset, finish, perform, over, taken, answered, Stepped, outcome}
+use Rattle.circuit.specs.Step.{circuitStep}
 use Rattle.circuit.specs.Demand.{Agree}
 use Rattle.circuit.proofs.StateLaws.{length-write, length-clear}
 use Rattle.circuit.proofs.ListsAgree.{write-agree, clear-agree, opened-agree, fill-agree, over-agree}

@@ -156,7 +156,8 @@ module _ (apply : ℕ → List ℕ → ℕ) (K : Readings) (s s′ : View) (W W�
     (local : (ρ : ℕ → ℕ) (o : Outcome) (k : ℕ) → Live s u → Fits (s .value) u ρ → Left apply K s′ W′ args u ρ o k
     → Left apply K s W args u ρ o (d + k)) where
   abbrev Back : Expr → Type 0
-  Back e = (ρ : ℕ → ℕ) (o : Outcome) (k : ℕ) → Live s e → Fits (s .value) e ρ → Left apply K s′ W′ args e ρ o k → Left apply K s W args e ρ o (d + k)
+  Back e = (ρ : ℕ → ℕ) (o : Outcome) (k : ℕ) → Live s e → Fits (s .value) e ρ → Left apply K s′ W′ args e ρ o k
+      → Left apply K s W args e ρ o (d + k)
 
   abbrev Y : ℕ → Type 0
   Y m = Node m u
@@ -351,7 +352,8 @@ module _ (apply : ℕ → List ℕ → ℕ) (K : Readings) (s s′ : View) (W W�
           l .0,
           (
             d + g .1 .0,
-            back-opened b (λ ρ′ o′ k′ l′ f′ h′. left-within b (h .3) p ρ′ o′ k′ l′ f′ h′) p (extend ds (values (s .value) ds) ρ) o (g .1 .0) (l .2)
+            back-opened b (λ ρ′ o′ k′ l′ f′ h′. left-within b (h .3) p ρ′ o′ k′ l′ f′ h′) p (extend ds (values (s .value) ds) ρ) o
+                (g .1 .0) (l .2)
                 (f .1)
                 (subst (λ vs. Left apply K s′ W′ args b (extend ds vs ρ) o (g .1 .0))
                 (values-over apply K s s′ W W′ args Y keeps expects ds (λ m k x. h .4 m k (sub-node u m b p x))) (g .1 .1)),

@@ -48,7 +48,8 @@ module _ {A : Type 0} (l l′ : List A) (same : length l ≡ length l′) where
   write-agree (suc n) a d zero e = refl
   write-agree (suc n) a d (suc m) e = set-agree n a d m e
 
-  pub clear-agree : (mine : ℕ → Bool) (d : A) (m : ℕ) → entry l d m ≡ entry l′ d m → entry (clear mine d l) d m ≡ entry (clear mine d l′) d m
+  pub clear-agree : (mine : ℕ → Bool) (d : A) (m : ℕ) → entry l d m ≡ entry l′ d m
+      → entry (clear mine d l) d m ≡ entry (clear mine d l′) d m
   unfolding entry clear
   clear-agree mine d zero e = refl
   clear-agree mine d (suc m) e = alter-agree (λ n x. pick (mine n) d x) 1 m d e

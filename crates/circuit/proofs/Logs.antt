@@ -57,7 +57,8 @@ module _ (l p r : Log) (n : ℕ) (t : State512) where
   noted-number (answered v) e = omega arith
   noted-number (refused k q) e = e
 
-  shift : (x : Reply) → Joins (logged l n (record { answer = x; state = t })) p r → Joins l (before n (record { answer = x; state = t }) p) r
+  shift : (x : Reply) → Joins (logged l n (record { answer = x; state = t })) p r
+      → Joins l (before n (record { answer = x; state = t }) p) r
   shift x j = record {
     state = j .state;
     counts = λ c. noted-counts x c (j .counts c);
@@ -123,7 +124,8 @@ module _ {T : Type 0} (step : T → State512 → ℕ → Stepped) where
   noted-join (answered v) n ns ms = refl
   noted-join (refused k p) n ns ms = refl
 
-  pub played-state : (s : State512) (xs ys : List (Ask T)) → played step s (xs ++ ys) .state ≡ played step (played step s xs .state) ys .state
+  pub played-state : (s : State512) (xs ys : List (Ask T))
+      → played step s (xs ++ ys) .state ≡ played step (played step s xs .state) ys .state
   played-state s [] ys = refl
   played-state s (a ∷ xs) ys = played-state (step (a .tags) s (a .node) .state) xs ys
 

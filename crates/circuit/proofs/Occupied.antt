@@ -24,7 +24,7 @@ use Rattle.circuit.specs.Step.{does, Move, act, perform}
 use Rattle.circuit.proofs.Performed.{Does, Acted}
 use Rattle.circuit.proofs.StepFacts.{Good, moved-does, moved-step}
 use Rattle.circuit.proofs.Thirds.{third, third-busy, third-other, third-own}
-use Rattle.circuit.specs.Play.{count, calls, entries, leavings}
+use Rattle.circuit.specs.Play.{count, calls, enterings, exits, entries, leavings}
 
 -- sums over the nodes, entry by entry
 pub sum-ext : (k : ℕ) (f g : ℕ → ℕ) → ((c : ℕ) → 1 ≤ c → c ≤ k → f c ≡ g c) → total f k ≡ total g k
@@ -48,7 +48,7 @@ count-other c n ns e = ap (λ b. pick b (suc (count c ns)) (count c ns)) (eqb-no
 next-third : (k : ℕ) → suc k % 3 ≡ (k % 3 + 1) % 3
 next-third k = omega arith
 
-thirds-split : (k t : ℕ) → k % 3 ≡ t → (k + 1) / 3 ≡ k / 3 + t / 2
+thirds-split : (k t : ℕ) → k % 3 ≡ t → enterings k ≡ exits k + t / 2
 thirds-split k t e = omega arith
 
 -- of the steps taken at a call, the remainder by three is its phase
@@ -186,14 +186,14 @@ module _ (apply : ℕ → List ℕ → ℕ) {F N : ℕ} {body at : ℕ → Expr}
       pub entries-leavings : (ns : List ℕ) → Phased apply F body s ns
           → entries N at f ns ≡ leavings N at f ns + pick (eqb (s .occupant f) 0) 0 1
       entries-leavings ns ph =
-          sum-add N (λ c. pick (calls (at c) f) ((count c ns + 1) / 3) 0) (λ c. pick (calls (at c) f) (count c ns / 3) 0) inside split
+          sum-add N (λ c. pick (calls (at c) f) (enterings (count c ns)) 0) (λ c. pick (calls (at c) f) (exits (count c ns)) 0) inside split
           ∙ ap (λ x. leavings N at f ns + x) (insides (ℕ-discrete (s .occupant f) 0))
         where
-          split : (c : ℕ) → 1 ≤ c → c ≤ N → pick (calls (at c) f) ((count c ns + 1) / 3) 0 ≡ pick (calls (at c) f)
-              (count c ns / 3) 0 + inside c
+          split : (c : ℕ) → 1 ≤ c → c ≤ N → pick (calls (at c) f) (enterings (count c ns)) 0 ≡ pick (calls (at c) f)
+              (exits (count c ns)) 0 + inside c
           split c p q = go (calls (at c) f) refl
             where
-              go : (b : Bool) → calls (at c) f ≡ b → pick b ((count c ns + 1) / 3) 0 ≡ pick b (count c ns / 3) 0 + pick b (third s c / 2) 0
+              go : (b : Bool) → calls (at c) f ≡ b → pick b (enterings (count c ns)) 0 ≡ pick b (exits (count c ns)) 0 + pick b (third s c / 2) 0
               go true e = let k = called c f p q e in thirds-split (count c ns) (third s c)
                   (ph (home c) c f (laid .home-there c p q) (sub-call c f (k .0) (body (home c)) (k .1)))
               go false e = refl

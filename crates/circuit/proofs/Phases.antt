@@ -65,7 +65,8 @@ module _ (apply : ℕ → List ℕ → ℕ) (body : ℕ → Expr) (s : View) (h 
 module _ (apply : ℕ → List ℕ → ℕ) {F N : ℕ} {body at : ℕ → Expr} {home : ℕ → ℕ} (laid : Laid F N body at home)
     (tags : ℕ → Bool) (s : State512) where
   -- a step taken at a node is its move
-  pub accepted-moves : (n : ℕ) → Accepted (circuitStep apply F N body at home tags s n .answer) → Moves (act apply body (home n) (view s) (at n))
+  pub accepted-moves : (n : ℕ) → Accepted (circuitStep apply F N body at home tags s n .answer)
+      → Moves (act apply body (home n) (view s) (at n))
   accepted-moves n = step-cases apply laid tags s n (λ r. Accepted (r .answer) → Moves (act apply body (home n) (view s) (at n)))
       (λ e. absurd) (λ e. absurd) (λ e. absurd) (λ r e. absurd) (λ r e h. absurd) (λ r e h. absurd)
       (λ r e m h a. subst Moves (sym h) tt)

@@ -55,9 +55,11 @@ module _ (K : Readings) (callees : (g v k : ℕ) (vs : List ℕ) → Words vs �
     reads-word (param n i) c ρ p o k h = value-out (args i) o (h .0) (given i)
     reads-word (bound n d) c ρ p o k h = value-out (ρ d) o (h .0) (p d)
     reads-word (prim n op es) c ρ p o k h =
-        value-out (operate op (h .0)) o (h .3) (operate-word op (h .0) (λ x. reads-words es (λ m v s. c m v (inr s)) ρ p (h .0) (h .1) (h .2) x))
+        value-out (operate op (h .0)) o (h .3)
+        (operate-word op (h .0) (λ x. reads-words es (λ m v s. c m v (inr s)) ρ p (h .0) (h .1) (h .2) x))
     reads-word (call n g es) c ρ p o k h =
-        value-out (h .1) o (h .6) (callees g (h .1) (h .3) (h .0) (λ x. reads-words es (λ m v s. c m v (inr s)) ρ p (h .0) (h .2) (h .4) x) (h .5))
+        value-out (h .1) o (h .6)
+        (callees g (h .1) (h .3) (h .0) (λ x. reads-words es (λ m v s. c m v (inr s)) ρ p (h .0) (h .2) (h .4) x) (h .5))
     reads-word (self n es) c ρ p o k h =
         subst OutcomeFits (sym (h .3)) (λ x. reads-words es (λ m v s. c m v (inr s)) ρ p (h .0) (h .1) (h .2) x)
     reads-word (cond n a b d) c ρ p o k h = branch (h .0) (h .4)

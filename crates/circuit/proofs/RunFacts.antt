@@ -98,12 +98,14 @@ module _ (t tags : List ℕ) where
   -- one play after another
   pub play-state : (s : State512) (ns ms : List ℕ) → playOf t tags s (ns ++ ms) .state ≡ playOf t tags (playOf t tags s ns .state) ms .state
   unfolding playOf
-  play-state s ns ms = ap (λ a. played (stepOf t) s a .state) (asks-join tags ns ms) ∙ played-state (stepOf t) s (asks tags ns) (asks tags ms)
+  play-state s ns ms =
+      ap (λ a. played (stepOf t) s a .state) (asks-join tags ns ms) ∙ played-state (stepOf t) s (asks tags ns) (asks tags ms)
 
   pub play-nodes : (s : State512) (ns ms : List ℕ)
       → playOf t tags s (ns ++ ms) .nodes ≡ playOf t tags s ns .nodes ++ playOf t tags (playOf t tags s ns .state) ms .nodes
   unfolding playOf
-  play-nodes s ns ms = ap (λ a. played (stepOf t) s a .nodes) (asks-join tags ns ms) ∙ played-nodes (stepOf t) s (asks tags ns) (asks tags ms)
+  play-nodes s ns ms =
+      ap (λ a. played (stepOf t) s a .nodes) (asks-join tags ns ms) ∙ played-nodes (stepOf t) s (asks tags ns) (asks tags ms)
 
 module _ (t tags args : List ℕ) (s : State512) (start : startOf t tags args ≡ started s) where
   abbrev passes : Passes t tags args s

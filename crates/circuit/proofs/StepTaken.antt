@@ -181,7 +181,8 @@ module _ (apply : ℕ → List ℕ → ℕ) {F N : ℕ} {body at : ℕ → Expr}
     blocked-waits (bound n d) = free n (bound n d) (s .status n) _ _ (λ z. z) (λ z. z)
     blocked-waits (prim n op es) = free n (prim n op es) (s .status n) _ _ (λ z. z)
         (open-test (all-done s es) (finishes (apply op (values (s .value) es))))
-    blocked-waits (self n es) = free n (self n es) (s .status n) _ _ (λ z. z) (open-test (all-done s es) (restarts h (values (s .value) es)))
+    blocked-waits (self n es) = free n (self n es) (s .status n) _ _ (λ z. z)
+        (open-test (all-done s es) (restarts h (values (s .value) es)))
     blocked-waits (cond n a b c) =
         let r : Expr = branch (s .value (id a)) b c in
         free n (cond n a b c) (s .status n) _ _ (λ z. z) (two-tests (s .second n) (done s (id r)) (done s (id a))
@@ -190,7 +191,7 @@ module _ (apply : ℕ → List ℕ → ℕ) {F N : ℕ} {body at : ℕ → Expr}
         (two-tests (s .second n) (done s (id b)) (all-done s ds) (finishes (s .value (id b))) (turns (id b)))
     blocked-waits (call n g es) = by-state (λ x. Blocks x → Waits s (call n g es)) (s .status n) _ _ (λ e. absurd)
         (λ t. by-pick (λ x. Blocks x → Waits s (call n g es)) (s .second n) _ _
-        (λ w k. absurd (open-test (done s (id (body g))) (leaves g (s .value (id (body g)))) k))
+        (λ w k. absurd (open-test (done s (id (body g))) _ k))
         (λ w. by-pick (λ x. Blocks x → Waits s (call n g es)) (all-done s es) _ _
         (λ f. by-pick (λ x. Blocks x → Waits s (call n g es)) (eqb (s .occupant g) 0) _ _ (λ e. absurd)
         (λ e k. (n, g, es, refl, (t, w), all-done-finished s es f, eqb-false (s .occupant g) 0 e)))

@@ -59,7 +59,8 @@ pub record RunPlays (t tags : List ℕ) (s : State512) (ns : List ℕ) (r : Ran)
   pub state : playOf t tags s (take (r .taken) ns) .state ≡ r .state
   -- to the end of the list, or the next step asked is refused
   pub all : r .halt ≡ whole → r .taken ≡ length ns
-  pub next : (k p : ℕ) → r .halt ≡ stopped k p → (r .taken < length ns) × (stepOf t tags (r .state) (getD ns (r .taken) 0) ≡ refusal (r .state) k p)
+  pub next : (k p : ℕ) → r .halt ≡ stopped k p
+      → (r .taken < length ns) × (stepOf t tags (r .state) (getD ns (r .taken) 0) ≡ refusal (r .state) k p)
 
 -- main's root is done, and its value
 abbrev pub MainDone : (t : List ℕ) → State512 → Type 0

@@ -150,7 +150,8 @@ abbrev pub refusal : State512 → (number place : ℕ) → Stepped
 refusal s k p = record { answer = refused k p; state = s }
 
 module _ (apply : ℕ → List ℕ → ℕ) (F N : ℕ) (body at : ℕ → Expr) (home : ℕ → ℕ) where
-  -- 21 "no step, for a cause other than 22 or 23"; 22 "tagged call ..", 23 "the same, untagged"; "Places for 20 to 23 are the node asked for"
+  -- 21 "no step, for a cause other than 22 or 23"; 22 "tagged call ..", 23 "the same, untagged";
+  -- "Places for 20 to 23 are the node asked for"
   abbrev pub outcome : (ℕ → Bool) → State512 → ℕ → Act → Stepped
   outcome tags s n stuck = refusal s 21 n
   outcome tags s n blocked = refusal s (pick (tags n) 22 23) n
