@@ -1,6 +1,8 @@
 -- for a reader: the theorems, then the designs of document 01
 pub mod Theorems
 pub mod Cases
+pub mod OddStates
+pub mod MeaningFacts
 -- from bytes to the abstract circuit: the demand over tables, the own list, any state, the runs, 32-bit values
 pub mod Demands
 pub mod OwnList

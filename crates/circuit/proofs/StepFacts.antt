@@ -19,7 +19,7 @@ use Rattle.circuit.proofs.Performed.{Does, Acted, Fair, FairAct, perfor
 use Rattle.circuit.specs.Play.{Accepted}
 use Rattle.table.specs.Well.{Laid}
 use Rattle.circuit.proofs.StepSound.{StepAt, acted-step}
-use Rattle.circuit.proofs.StepTaken.{Moves, Blocks, Waits, act-fair, able-moves, blocked-waits, waits-blocks, step-cases}
+use Rattle.circuit.proofs.StepTaken.{Moves, Blocks, Waits, act-fair, able-moves, blocked-waits, step-cases}
 use Rattle.circuit.proofs.Numbered.{sub-unique}
 use Rattle.circuit.proofs.Bounded.{over-none, status-bound, occupant-bound}
 
@@ -66,28 +66,8 @@ module _ (apply : ℕ → List ℕ → ℕ) {F N : ℕ} {body at : ℕ → Expr}
       sound = step-sound apply F body (laid .well) (view s) (view (perform N home body s n m)) (good .sound) (moved-step .0);
     }
 
-  -- a step that isn't refused is one of the abstract circuit, and answers exactly if main's root is done after it
+  -- when a step is refused, and when it isn't
   module _ (tags : ℕ → Bool) (s : State512) (good : Good s) (n : ℕ) where
-    pub step-good : Good (step tags s n .state)
-    step-good = step-cases apply laid tags s n (λ r. Good (r .state)) (λ e. good) (λ e. good) (λ e. good) (λ r e. good) (λ r e h. good)
-        (λ r e h. good)
-        (λ r e m h. moved-good s good n r m h)
-
-    pub step-step : Accepted (step tags s n .answer) → Step apply F body (view s) (view (step tags s n .state))
-    step-step = step-cases apply laid tags s n (λ r. Accepted (r .answer) → Step apply F body (view s) (view (r .state)))
-        (λ e. absurd) (λ e. absurd) (λ e. absurd) (λ r e. absurd) (λ r e h. absurd) (λ r e h. absurd)
-        (λ r e m h a. moved-step s good n r m h .0)
-
-    pub step-tells : Accepted (step tags s n .answer) → step tags s n .answer ≡ told (id (body F)) (view (step tags s n .state))
-    step-tells = step-cases apply laid tags s n (λ r. Accepted (r .answer) → r .answer ≡ told (id (body F)) (view (r .state)))
-        (λ e. absurd) (λ e. absurd) (λ e. absurd) (λ r e. absurd) (λ r e h. absurd) (λ r e h. absurd) (λ r e m h a. refl)
-
-    -- a refused step leaves the state
-    pub step-kept : (Accepted (step tags s n .answer) → ⊥) → step tags s n .state ≡ s
-    step-kept = step-cases apply laid tags s n (λ r. (Accepted (r .answer) → ⊥) → r .state ≡ s)
-        (λ e a. refl) (λ e a. refl) (λ e a. refl) (λ r e a. refl) (λ r e h a. refl) (λ r e h a. refl)
-        (λ r e m h a. absurd (a (told-accepted (done (view (perform N home body s n m)) (id (body F))) _)))
-
     no-bad : over 3 N (s .status) ≡ false
     no-bad = over-none 3 N (s .status) (status-bound apply laid (view s) (good .sound))
 
@@ -136,16 +116,6 @@ module _ (apply : ℕ → List ℕ → ℕ) {F N : ℕ} {body at : ℕ → Expr}
         (λ q f. absurd (e (eqb-true (view s .status (id (body F))) 3 f))) (λ q f h. subst Moves h a) (λ q f h. subst Moves h a)
         (λ q f m h. told-accepted (done (view (perform N home body s n m)) (id (body F)))
         (view (perform N home body s n m) .value (id (body F))))
-
-    -- a call that waits at an occupied resource is refused 22 or 23 by its tag
-    pub step-blocked : InRange n → (view s .status (id (body F)) ≡ 3 → ⊥) → Waits (view s) (at n)
-        → step tags s n .answer ≡ refused (pick (tags n) 22 23) n
-    step-blocked r e w =
-        let a = waits-blocks apply laid (view s) (home n) (fn-home n r) (at n) w in
-        step-cases apply laid tags s n (λ r. r .answer ≡ refused (pick (tags n) 22 23) n)
-        (λ f. absurd (f r)) (not-true (over 3 N (s .status)) no-bad) (not-true (over N F (s .occupant)) no-stray)
-        (λ q f. absurd (e (eqb-true (view s .status (id (body F))) 3 f))) (λ q f h. absurd (subst Blocks h a)) (λ q f h. refl)
-        (λ q f m h. absurd (subst Blocks h a))
 
     -- a node that is able to in the abstract circuit
     pub step-able : (h : ℕ) → Fn apply F body h → (u : Expr) → Sub u (body h) → id u ≡ n → Able apply F body (view s) u

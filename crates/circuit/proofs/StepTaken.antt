@@ -198,18 +198,6 @@ module _ (apply : ℕ → List ℕ → ℕ) {F N : ℕ} {body at : ℕ → Expr}
         (λ e. absurd)))
         absurd
 
-    -- and a call that waits so is blocked
-    pub waits-blocks : (u : Expr) → Waits s u → Blocks (act apply body h s u)
-    waits-blocks u w = subst (λ x. Blocks (act apply body h s x)) (sym (w .3)) (waiting (w .0) (w .1) (w .2) (w .4) (w .5) (w .6))
-      where
-        waiting : (n g : ℕ) (es : Exprs) → Busy s n false → Finished* s es → (s .occupant g ≡ 0 → ⊥)
-            → Blocks (act apply body h s (call n g es))
-        waiting n g es b f o =
-            at-busy Blocks (s .status n) _ _ (b .0)
-            (pick-false Blocks (s .second n) _ _ (b .1)
-            (pick-true Blocks (all-done s es) _ _ (finished-all-done s es f)
-            (pick-false Blocks (eqb (s .occupant g) 0) _ _ (eqb-no (s .occupant g) 0 o) tt)))
-
   -- the cases of a step, in the order of document 01
   module _ (tags : ℕ → Bool) (s : State512) (n : ℕ) (P : Stepped → Type 0) where
     abbrev Refuses : ℕ → ℕ → Type 0

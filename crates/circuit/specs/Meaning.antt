@@ -1,10 +1,11 @@
 -- what the circuit's types mean: document 01's number and values for each case, and the state as lists
 use Prim.Native.Nat.{ℕ}
+use mathlib.Core.Path.{_≡_}
 use mathlib.Core.List.{List, map}
 use Rattle.table.specs.declared.Node.{Node}
 use Rattle.circuit.specs.State.{State512}
 use Rattle.circuit.specs.Step.{Reply, taken, answered, refused, Stepped}
-use Rattle.circuit.specs.Circuit.{Started, started, turned}
+use Rattle.circuit.specs.Circuit.{Started, started, turned, stateOf}
 use Rattle.circuit.specs.Runs.{Halt, whole, stopped, Ran, Ended, gave, atRest, spent, barred, Driven, Found, names, nothing}
 use Rattle.circuit.specs.Runs.{unasked}
 use Rattle.circuit.specs.declared.State.{State}
@@ -53,6 +54,11 @@ openingOf (Opening.Refused k p) s = turned k (p .0)
 
 abbrev pub startedOf : StartedCode → Started
 startedOf r = openingOf (r .opening) (listsOf (r .state))
+
+-- what a start returns: its answer, and the state that goes with it, refused or not
+pub record StartedAs (r : StartedCode) (x : Started) : Type 0 where
+  pub answer : startedOf r ≡ x
+  pub state : listsOf (r .state) ≡ stateOf x
 
 -- "the steps taken and that refusal, if any"
 abbrev pub haltOf : HaltCode → Halt
