@@ -22,7 +22,7 @@ use Rattle.circuit.specs.Play.{Accepted}
 use Rattle.circuit.specs.Operations.{operate}
 use Rattle.circuit.specs.Circuit.{circuitOf, stepAfter, stepOf, Possible}
 use Rattle.circuit.specs.Runs.{MainDone}
-use Rattle.circuit.specs.Demand.{Agree, AgreeWithin, AgreePast}
+use Rattle.circuit.specs.Companions.{Agree, AgreeWithin, AgreePast}
 use Rattle.circuit.proofs.StepTaken.{step-cases}
 use Rattle.circuit.proofs.Past.{nodes-past, functions-past}
 use Rattle.circuit.proofs.Ignores.{step-agree}

@@ -13,7 +13,8 @@ use Rattle.circuit.specs.Play.{Ask, asks, Log, Accepted, played, count, 
 use Rattle.circuit.specs.Operations.{operate}
 use Rattle.circuit.specs.Circuit.{started, checkStart, startAfter, startOf, circuitOf, stepAfter, stepOf, playsOf, playOf}
 use Rattle.circuit.specs.Circuit.{entriesOf, leavingsOf, Possible}
-use Rattle.circuit.specs.Demand.{Answers, DemandThree, ThirdDemand, UnderAnyTags, Phases}
+use Rattle.circuit.specs.Demand.{Answers, DemandThree, ThirdDemand}
+use Rattle.circuit.specs.Companions.{UnderAnyTags, Phases}
 use Rattle.circuit.specs.Reading.{ReadsTo}
 use Rattle.circuit.specs.Runs.{standing}
 use Rattle.table.specs.Bytes.{functions, nodes, params}

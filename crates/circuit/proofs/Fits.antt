@@ -14,8 +14,8 @@ use Rattle.table.specs.Bytes.{twoAt, fourAt, functions, nodes, nodeAt, word}
 use Rattle.table.specs.Naming.{owner}
 use Rattle.table.specs.Expressions.{exprAt, bodyOf}
 use Rattle.table.proofs.Passed.{IsNode, Passed, passed}
-use Rattle.table.proofs.View.{View as NodeView, view as node-view}
-use Rattle.table.proofs.View.{is-const, is-param, is-prim, is-call, is-self, is-cond, is-bind, is-bound}
+use Rattle.table.proofs.View.{View as NodeView, view as node-view, is-const, is-param, is-prim, is-call, is-self, is-cond, is-bind}
+use Rattle.table.proofs.View.{is-bound}
 use Rattle.list.specs.Tags.{tagged}
 use Rattle.circuit.specs.State.{View, State512, view, entry, write, register, alter, fill, clear, blank, circuitStart}
 use Rattle.circuit.specs.Step.{Act, stuck, blocked, does, Move, begins, turns, finishes, enters, leaves, restarts, done, all-done}
@@ -23,7 +23,7 @@ use Rattle.circuit.specs.Step.{branch, act, mine, reset, finish, perform
 use Rattle.circuit.specs.Operations.{lastValue, wrap, operate}
 use Rattle.circuit.specs.Play.{Ask, played}
 use Rattle.circuit.specs.Circuit.{started, startOf, stepOf, playsOf}
-use Rattle.circuit.specs.Demand.{Word, Words, Bytes, Fits}
+use Rattle.circuit.specs.Companions.{Word, Words, Bytes, Fits}
 use Rattle.circuit.proofs.ActCases.{by-pick, by-state}
 use Rattle.circuit.proofs.StepTaken.{step-cases}
 use Rattle.circuit.proofs.Demands.{lay, start-passes}

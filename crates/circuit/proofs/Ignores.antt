@@ -18,7 +18,7 @@ use Rattle.circuit.specs.State.{View, State512, Sized, view, write, clea
 use Rattle.circuit.specs.Step.{Act, stuck, blocked, does, Move, begins, turns, finishes, enters, leaves, restarts, done, all-done}
 use Rattle.circuit.specs.Step.{branch, by-status, act, mine, reset, finish, perform, over, taken, answered, Stepped, outcome}
 use Rattle.circuit.specs.Step.{circuitStep}
-use Rattle.circuit.specs.Demand.{Agree}
+use Rattle.circuit.specs.Companions.{Agree}
 use Rattle.circuit.proofs.StateLaws.{length-write, length-clear}
 use Rattle.circuit.proofs.ListsAgree.{write-agree, clear-agree, opened-agree, fill-agree, over-agree}
 

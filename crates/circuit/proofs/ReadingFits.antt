@@ -18,7 +18,7 @@ use Rattle.table.proofs.Passed.{passed}
 use Rattle.table.proofs.NodePlaces.{sub-at}
 use Rattle.circuit.specs.Reading.{Outcome, val, again, Chosen, Readings, Reads, Reads*, Round, stops, goes, readings, ReadsTo}
 use Rattle.circuit.specs.Operations.{operate}
-use Rattle.circuit.specs.Demand.{Word, Words, Bytes}
+use Rattle.circuit.specs.Companions.{Word, Words, Bytes}
 use Rattle.circuit.proofs.Fits.{operate-word, const-word}
 
 -- what an expression comes to

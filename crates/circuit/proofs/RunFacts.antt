@@ -12,10 +12,11 @@ use Rattle.circuit.specs.Step.{Reply, taken, answered, refused, refusal,
 use Rattle.circuit.specs.Play.{asks, noted, played}
 use Rattle.circuit.specs.Circuit.{started, startOf, stepOf, playsOf, playOf, Possible}
 use Rattle.circuit.specs.Reading.{ReadsTo}
-use Rattle.circuit.specs.Runs.{Halt, whole, stopped, Ran, RunPlays, andThen, standing, runFrom, runAfter, runOf, MainDone, mainValue}
-use Rattle.circuit.specs.Runs.{Ended, gave, atRest, spent, barred, Driven, Says, Picks, DrivesAfter, Drives, Found, names, nothing}
-use Rattle.circuit.specs.Runs.{unasked, FindsAfter, Finds}
-use Rattle.circuit.specs.Demand.{Answers, UnderAnyTags, DriveDemand}
+use Rattle.circuit.specs.Runs.{Halt, whole, stopped, Ran, RunPlays, andThen, standing, runFrom, runAfter, runOf, MainDone}
+use Rattle.circuit.specs.Runs.{mainValue, Ended, gave, atRest, spent, barred, Driven, Says, Picks, DrivesAfter, Drives, Found}
+use Rattle.circuit.specs.Runs.{names, nothing, unasked, FindsAfter, Finds}
+use Rattle.circuit.specs.Demand.{Answers}
+use Rattle.circuit.specs.Companions.{UnderAnyTags, DriveDemand}
 use Rattle.circuit.proofs.Logs.{played-state, played-nodes, asks-join}
 use Rattle.circuit.proofs.Demands.{Passes, start-passes, under-any-tags}
 use Rattle.circuit.proofs.AnyState.{refused-unchanged, done-none}

@@ -17,8 +17,8 @@ use Rattle.circuit.specs.Play.{Ask, count, calls}
 use Rattle.circuit.specs.Circuit.{started, startOf, stepOf, playsOf, playOf, entriesOf, leavingsOf, Possible}
 use Rattle.circuit.specs.Runs.{standing, runOf, RunPlays, MainDone, mainValue, Driven, Drives, Found, nothing, Finds}
 use Rattle.circuit.specs.Reading.{ReadsTo}
-use Rattle.circuit.specs.Demand.{Answers, DemandThree, ThirdDemand, Phases, UnderAnyTags, AgreeWithin, AgreePast, DriveDemand}
-use Rattle.circuit.specs.Demand.{Word, Words, Bytes, Fits}
+use Rattle.circuit.specs.Demand.{Answers, DemandThree, ThirdDemand}
+use Rattle.circuit.specs.Companions.{Phases, UnderAnyTags, AgreeWithin, AgreePast, DriveDemand, Word, Words, Bytes, Fits}
 use Rattle.circuit.proofs.Demands as Demands
 use Rattle.circuit.proofs.OwnList as OwnList
 use Rattle.circuit.proofs.AnyState as AnyState

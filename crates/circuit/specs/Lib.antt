@@ -6,4 +6,5 @@ pub mod Circuit
 pub mod Runs
 pub mod Reading
 pub mod Demand
+pub mod Companions
 pub mod Meaning
