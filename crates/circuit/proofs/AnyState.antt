@@ -1,5 +1,5 @@
 -- what a step keeps in any state, also one that no start leads to
-use Prim.Native.Nat.{ℕ, _<_}
+use Prim.Native.Nat.{ℕ}
 use mathlib.Core.Bool.{Bool, true, false, _&&_, not}
 use mathlib.Core.Path.{_≡_, refl, subst, sym}
 use mathlib.Core.List.{List}
@@ -14,15 +14,15 @@ use Rattle.table.proofs.Passed.{IsNode, Passed, passed}
 use Rattle.table.proofs.FindLaws.{both, isnt, same}
 use Rattle.table.proofs.View.{View, is-const, is-param, is-prim, is-call, is-self, is-cond, is-bind, is-bound, view as node-view}
 use Rattle.table.proofs.Scopes.{child-node}
-use Rattle.table.proofs.Tests.{eqb-false, eqb-yes}
-use Rattle.list.specs.Tags.{tagged, after, checkWith}
+use Rattle.table.proofs.Tests.{eqb-false}
+use Rattle.list.specs.Tags.{tagged, checkWith}
 use Rattle.circuit.specs.State.{State512, Sized, view}
-use Rattle.circuit.specs.Step.{Reply, taken, answered, refused, Stepped, refusal, done, perform, circuitStep}
+use Rattle.circuit.specs.Step.{taken, answered, refused, Stepped, refusal, done, perform, circuitStep}
 use Rattle.circuit.specs.Play.{Accepted}
 use Rattle.circuit.specs.Operations.{operate}
 use Rattle.circuit.specs.Circuit.{circuitOf, stepAfter, stepOf, Possible}
 use Rattle.circuit.specs.Runs.{MainDone}
-use Rattle.circuit.specs.Companions.{Agree, AgreeWithin, AgreePast}
+use Rattle.circuit.specs.Companions.{AgreeWithin, AgreePast}
 use Rattle.circuit.proofs.StepTaken.{step-cases}
 use Rattle.circuit.proofs.Past.{nodes-past, functions-past}
 use Rattle.circuit.proofs.Ignores.{step-agree}

@@ -1,6 +1,6 @@
 -- the starred designs of document 01 ("Designs to hold it against"), over the bytes of their tables: what the circuit answers,
 -- and the reading's value and count
-use Prim.Native.Nat.{ℕ, zero, suc, _+_}
+use Prim.Native.Nat.{ℕ, zero, suc}
 use mathlib.Core.Path.{_≡_, refl, subst, sym, ap, _∙_}
 use mathlib.Core.List.{List, [], _∷_, _++_}
 use mathlib.Core.Logic.{inl, inr}

@@ -7,14 +7,14 @@ use mathlib.Core.List.{List, [], _∷_}
 use native.Mathlib.Omega.{arith}
 use lib.Dec.{T, eqb, eqb→eq}
 use lib.ListN.{length, take}
-use Rattle.circuit.specs.State.{View, State512, In, view, circuitStart}
-use Rattle.circuit.specs.Step.{refused, refusal, over, circuitStep}
-use Rattle.circuit.specs.Play.{Ask, asks, Log, Accepted, played, count, calls}
+use Rattle.circuit.specs.State.{State512, In, view, circuitStart}
+use Rattle.circuit.specs.Step.{refused, over, circuitStep}
+use Rattle.circuit.specs.Play.{Ask, asks, Log, Accepted, played, count}
 use Rattle.circuit.specs.Operations.{operate}
 use Rattle.circuit.specs.Circuit.{started, checkStart, startAfter, startOf, circuitOf, stepAfter, stepOf, playsOf, playOf}
 use Rattle.circuit.specs.Circuit.{entriesOf, leavingsOf, Possible}
 use Rattle.circuit.specs.Demand.{Answers, DemandThree, ThirdDemand}
-use Rattle.circuit.specs.Companions.{UnderAnyTags, Phases}
+use Rattle.circuit.specs.Companions.{UnderAnyTags}
 use Rattle.circuit.specs.Reading.{ReadsTo}
 use Rattle.circuit.specs.Runs.{standing}
 use Rattle.table.specs.Bytes.{functions, nodes, params}

@@ -4,9 +4,9 @@ use mathlib.Core.Bool.{Bool, true, false}
 use mathlib.Core.Path.{_≡_, refl, subst, sym}
 use mathlib.Core.List.{List, [], _∷_}
 use native.Mathlib.Omega.{arith}
-use lib.Bits.{bitAnd, bitOr, bitXor, and-lt, or-lt, xor-lt}
+use lib.Bits.{and-lt, or-lt, xor-lt}
 use lib.Dec.{eqb, ltb}
-use lib.ListN.{length, getD, set, replicate}
+use lib.ListN.{getD, set}
 use Rattle.table.specs.Syntax.{Expr, Exprs, const, param, prim, call, self, cond, bind, bound, none, some, id}
 use Rattle.table.specs.Environment.{values}
 use Rattle.table.specs.Pick.{pick}
@@ -17,7 +17,7 @@ use Rattle.table.proofs.Passed.{IsNode, Passed, passed}
 use Rattle.table.proofs.View.{View as NodeView, view as node-view, is-const, is-param, is-prim, is-call, is-self, is-cond, is-bind}
 use Rattle.table.proofs.View.{is-bound}
 use Rattle.list.specs.Tags.{tagged}
-use Rattle.circuit.specs.State.{View, State512, view, entry, write, register, alter, fill, clear, blank, circuitStart}
+use Rattle.circuit.specs.State.{State512, view, entry, write, register, alter, fill, clear, blank, circuitStart}
 use Rattle.circuit.specs.Step.{Act, stuck, blocked, does, Move, begins, turns, finishes, enters, leaves, restarts, done, all-done}
 use Rattle.circuit.specs.Step.{branch, act, mine, reset, finish, perform}
 use Rattle.circuit.specs.Operations.{lastValue, wrap, operate}

@@ -24,7 +24,7 @@ use Rattle.circuit.specs.declared.Ended.the-variants as Ended
 use Rattle.circuit.specs.declared.Driven.{Driven}
 use Rattle.circuit.specs.declared.Found.{Found}
 use Rattle.circuit.specs.declared.Found.the-variants as Found
-use Rattle.circuit.specs.Meaning.{numbers, listsOf, replyOf, steppedOf, openingOf, startedOf, StartedAs, haltOf, ranOf, endedOf}
+use Rattle.circuit.specs.Meaning.{numbers, listsOf, replyOf, steppedOf, openingOf, StartedAs, haltOf, ranOf, endedOf}
 use Rattle.circuit.specs.Meaning.{drivenOf, foundOf}
 
 -- a function that is undone by another tells its arguments apart

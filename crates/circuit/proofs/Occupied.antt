@@ -1,5 +1,5 @@
 -- over steps from a start, whatever the tags: entries exceed leavings by one where a resource is occupied, and by none elsewhere
-use Prim.Native.Nat.{ℕ, zero, suc, _+_, _/_, _%_, _≤_, _<_}
+use Prim.Native.Nat.{ℕ, suc, _+_, _/_, _%_, _≤_, _<_}
 use mathlib.Core.Bool.{Bool, true, false, true≢false}
 use mathlib.Core.Path.{_≡_, refl, subst, sym, ap, _∙_}
 use mathlib.Core.Logic.{_⊎_, inl, inr, ⊎-elim}
@@ -17,7 +17,7 @@ use Rattle.circuit.proofs.Places.{sub-live}
 use Rattle.table.specs.Pick.{pick, Range}
 use Rattle.table.specs.Environment.{put}
 use Rattle.table.specs.Find.{total}
-use Rattle.circuit.proofs.SumLaws.{sum-put, sum-zero, put-same, put-other}
+use Rattle.circuit.proofs.SumLaws.{sum-ext, sum-add, sum-put, sum-zero, put-same, put-other}
 use Rattle.circuit.proofs.Invariant.{Fn, Sound, stepping}
 use Rattle.table.proofs.Tests.{eqb-true, eqb-yes, eqb-no}
 use Rattle.circuit.specs.Step.{does, Move, act, perform}
@@ -25,17 +25,6 @@ use Rattle.circuit.proofs.Performed.{Does, Acted}
 use Rattle.circuit.proofs.StepFacts.{Good, moved-does, moved-step}
 use Rattle.circuit.proofs.Thirds.{third, third-busy, third-other, third-own}
 use Rattle.circuit.specs.Play.{count, calls, enterings, exits, entries, leavings}
-
--- sums over the nodes, entry by entry
-pub sum-ext : (k : ℕ) (f g : ℕ → ℕ) → ((c : ℕ) → 1 ≤ c → c ≤ k → f c ≡ g c) → total f k ≡ total g k
-unfolding total
-sum-ext zero f g h = refl
-sum-ext (suc k) f g h = omega (arith, h (suc k) (omega arith) (omega arith), sum-ext k f g (λ c p q. h c p (omega arith)))
-
-pub sum-add : (k : ℕ) (f g h : ℕ → ℕ) → ((c : ℕ) → 1 ≤ c → c ≤ k → f c ≡ g c + h c) → total f k ≡ total g k + total h k
-unfolding total
-sum-add zero f g h e = refl
-sum-add (suc k) f g h e = omega (arith, e (suc k) (omega arith) (omega arith), sum-add k f g h (λ c p q. e c p (omega arith)))
 
 pub count-same : (c n : ℕ) (ns : List ℕ) → c ≡ n → count c (n ∷ ns) ≡ suc (count c ns)
 unfolding count
@@ -193,7 +182,8 @@ module _ (apply : ℕ → List ℕ → ℕ) {F N : ℕ} {body at : ℕ → Expr}
               (exits (count c ns)) 0 + inside c
           split c p q = go (calls (at c) f) refl
             where
-              go : (b : Bool) → calls (at c) f ≡ b → pick b (enterings (count c ns)) 0 ≡ pick b (exits (count c ns)) 0 + pick b (third s c / 2) 0
+              go : (b : Bool) → calls (at c) f ≡ b
+                  → pick b (enterings (count c ns)) 0 ≡ pick b (exits (count c ns)) 0 + pick b (third s c / 2) 0
               go true e = let k = called c f p q e in thirds-split (count c ns) (third s c)
                   (ph (home c) c f (laid .home-there c p q) (sub-call c f (k .0) (body (home c)) (k .1)))
               go false e = refl

@@ -6,7 +6,7 @@ use mathlib.Core.Bool.{true}
 use Rattle.circuit.specs.State.{State512, entry, write}
 use Rattle.circuit.specs.Step.{Reply, taken, answered, refused, with-status, with-second, with-occupant}
 use Rattle.circuit.specs.Circuit.{playOf, stepOf}
-use Rattle.circuit.specs.Runs.{Ran, whole, stopped, runOf}
+use Rattle.circuit.specs.Runs.{whole, stopped, runOf}
 use Rattle.table.specs.Designs.{twice, mult}
 use Rattle.circuit.proofs.Cases.{from, circuit-open}
 

@@ -1,19 +1,19 @@
 -- the steps of a run are steps of the third demand
-use Prim.Native.Nat.{ℕ, zero, suc, _+_, _<_}
+use Prim.Native.Nat.{ℕ, suc, _+_}
 use mathlib.Core.Path.{_≡_, refl, subst, sym, ap, _∙_}
 use mathlib.Core.Logic.{⊎-elim}
 use mathlib.Core.List.{List, [], _∷_, _++_}
 use native.Mathlib.Omega.{arith}
-use lib.ListN.{length, getD, take, length-append}
+use lib.ListN.{length, take, length-append}
 use Rattle.table.specs.Bytes.{functions, nodes}
-use Rattle.table.specs.Check.{Verdict, accepted}
+use Rattle.table.specs.Check.{accepted}
 use Rattle.circuit.specs.State.{State512}
-use Rattle.circuit.specs.Step.{Reply, taken, answered, refused, refusal, Stepped}
+use Rattle.circuit.specs.Step.{Reply, taken, answered, refused, refusal}
 use Rattle.circuit.specs.Play.{asks, noted, played}
 use Rattle.circuit.specs.Circuit.{started, startOf, stepOf, playsOf, playOf, Possible}
 use Rattle.circuit.specs.Reading.{ReadsTo}
-use Rattle.circuit.specs.Runs.{Halt, whole, stopped, Ran, RunPlays, andThen, standing, runFrom, runAfter, runOf, MainDone}
-use Rattle.circuit.specs.Runs.{mainValue, Ended, gave, atRest, spent, barred, Driven, Says, Picks, DrivesAfter, Drives, Found}
+use Rattle.circuit.specs.Runs.{RunPlays, andThen, standing, runFrom, runAfter, runOf, MainDone}
+use Rattle.circuit.specs.Runs.{mainValue, Ended, gave, atRest, barred, Driven, Says, Picks, DrivesAfter, Drives, Found}
 use Rattle.circuit.specs.Runs.{names, nothing, unasked, FindsAfter, Finds}
 use Rattle.circuit.specs.Demand.{Answers}
 use Rattle.circuit.specs.Companions.{UnderAnyTags, DriveDemand}
@@ -128,6 +128,14 @@ module _ (t tags args : List ℕ) (s : State512) (start : startOf t tags args �
   pub start-run : (ns ms : List ℕ)
       → RunPlays t tags (playOf t tags s ns .state) ms (runOf t tags (playOf t tags s ns .state) ms)
   start-run ns ms = run-plays t tags (playOf t tags s ns .state) ms (functions t) (nodes t) (start-stands ns)
+
+  -- a query says none only after the answer
+  pub start-query : (ns : List ℕ) → Finds t tags (playOf t tags s ns .state) nothing → (v : ℕ) × Answers (playOf t tags s ns) v
+  start-query ns f =
+      let none = subst (λ c. FindsAfter c t tags (playOf t tags s ns .state) nothing) (start-stands ns) f in
+      ⊎-elim (λ x. (x .0, subst (λ l. Answers l (x .0)) (same-play ns) (x .1)))
+      (λ x. absurd (none (x .0) (subst (λ l. Possible t tags (l .state) (x .0)) (same-play ns) (x .1))))
+      (plays ns .lively (functions t) (nodes t) tags (passes .check-tags))
 
   module _ (ns : List ℕ) (budget : ℕ) (r : Driven) (drives : Drives t tags (playOf t tags s ns .state) budget r) where
     picks : Picks t tags (playOf t tags s ns .state) budget r

@@ -9,11 +9,11 @@ use Rattle.table.specs.Syntax.{Expr, id, Node, Sub}
 use Rattle.circuit.specs.State.{View, State512, Sized, view}
 use Rattle.table.proofs.SyntaxLaws.{node-id, sub-node}
 use Rattle.table.specs.Pick.{pick, Range}
-use Rattle.circuit.proofs.Invariant.{Fn, Sound, Step}
+use Rattle.circuit.proofs.Invariant.{Fn, Sound}
 use Rattle.circuit.proofs.Progress.{Able, progress}
 use Rattle.circuit.proofs.Answers.{step-sound}
 use Rattle.table.proofs.Tests.{eqb-true, eqb-yes}
-use Rattle.circuit.specs.Step.{does, Move, done, act, Reply, taken, answered, refused, refusal, Stepped, told, over, perform}
+use Rattle.circuit.specs.Step.{does, Move, done, act, Reply, taken, answered, refused, refusal, Stepped, over, perform}
 use Rattle.circuit.specs.Step.{circuitStep}
 use Rattle.circuit.proofs.Performed.{Does, Acted, Fair, FairAct, perform-does, perform-sized}
 use Rattle.circuit.specs.Play.{Accepted}

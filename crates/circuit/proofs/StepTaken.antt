@@ -17,8 +17,8 @@ use Rattle.table.proofs.CallPlaces.{sub-call}
 use Rattle.table.specs.Pick.{pick, Range}
 use Rattle.circuit.proofs.Invariant.{Fn}
 use Rattle.circuit.proofs.Progress.{Able}
-use Rattle.table.proofs.Tests.{eqb-true, eqb-yes, eqb-no, eqb-false, ltb-true, ltb-false}
-use Rattle.circuit.specs.Step.{Act, stuck, blocked, does, Move, turns, finishes, leaves, restarts, done, all-done, branch}
+use Rattle.table.proofs.Tests.{eqb-true, eqb-yes, eqb-false, ltb-true, ltb-false}
+use Rattle.circuit.specs.Step.{Act, stuck, blocked, does, Move, turns, finishes, restarts, done, all-done, branch}
 use Rattle.circuit.specs.Step.{by-status, act, refused, Stepped, told, outcome, over, perform, circuitStep}
 use Rattle.circuit.proofs.Performed.{Owns, FairAct}
 use Rattle.table.specs.Well.{Laid}

@@ -1,4 +1,4 @@
--- a function changed at one number, and its sum
+-- sums over 1 to k: of a function changed at one number, entry by entry
 use Prim.Native.Nat.{ℕ, zero, suc, _+_, _≤_, _<_}
 use mathlib.Core.Bool.{Bool, true, false}
 use mathlib.Core.Path.{_≡_, refl, subst, sym, ap}
@@ -42,3 +42,14 @@ pub sum-zero : (k : ℕ) → total (λ f. 0) k ≡ 0
 unfolding total
 sum-zero zero = refl
 sum-zero (suc k) = omega (arith, sum-zero k)
+
+-- sums over the nodes, entry by entry
+pub sum-ext : (k : ℕ) (f g : ℕ → ℕ) → ((c : ℕ) → 1 ≤ c → c ≤ k → f c ≡ g c) → total f k ≡ total g k
+unfolding total
+sum-ext zero f g h = refl
+sum-ext (suc k) f g h = omega (arith, h (suc k) (omega arith) (omega arith), sum-ext k f g (λ c p q. h c p (omega arith)))
+
+pub sum-add : (k : ℕ) (f g h : ℕ → ℕ) → ((c : ℕ) → 1 ≤ c → c ≤ k → f c ≡ g c + h c) → total f k ≡ total g k + total h k
+unfolding total
+sum-add zero f g h e = refl
+sum-add (suc k) f g h e = omega (arith, e (suc k) (omega arith) (omega arith), sum-add k f g h (λ c p q. e c p (omega arith)))

@@ -142,11 +142,15 @@ module _ (t tags : List ℕ) where
   pub run-plays : (s : State512) (ns : List ℕ) (F N : ℕ) → standing t tags s ≡ accepted F N → RunPlays t tags s ns (runOf t tags s ns)
   run-plays = RunFacts.run-plays t tags
 
--- "The steps of a run are such steps": after steps asked at the numbers ns from a start
+-- Query and runs, "The steps of a run are such steps": after steps asked at the numbers ns from a start
 module _ (t tags args : List ℕ) (s : State512) (start : startOf t tags args ≡ started s) (ns : List ℕ) where
   -- a run over a list ms
   pub start-run : (ms : List ℕ) → RunPlays t tags (playOf t tags s ns .state) ms (runOf t tags (playOf t tags s ns .state) ms)
   start-run = RunFacts.start-run t tags args s start ns
+
+  -- a query says none only after the answer
+  pub start-query : Finds t tags (playOf t tags s ns .state) nothing → (v : ℕ) × Answers (playOf t tags s ns) v
+  start-query = RunFacts.start-query t tags args s start ns
 
   -- a run with a budget: it never says at rest, and its answer is the reading's
   pub drive-demand : (budget : ℕ) (r : Driven) → Drives t tags (playOf t tags s ns .state) budget r → DriveDemand t tags args s ns r

@@ -1,6 +1,6 @@
 -- the query and the two runs (document 01, "The circuit"): a run over a list is fixed; of a query and of a run with a budget
 -- it is said what is true of their results
-use Prim.Native.Nat.{ℕ, zero, suc, _≤_, _<_}
+use Prim.Native.Nat.{ℕ, suc, _≤_, _<_}
 use mathlib.Core.Bool.{not}
 use mathlib.Core.Path.{_≡_}
 use mathlib.Core.List.{List, [], _∷_}
