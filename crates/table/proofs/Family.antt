@@ -12,7 +12,7 @@ use Rattle.table.specs.Find.{backBy, back}
 use Rattle.table.proofs.FindLaws.{back-step}
 use Rattle.table.proofs.Tests.{eqb-yes, eqb-no}
 use Rattle.table.specs.Naming.{rootOf, namer, owner, parent, tailChild, tail}
-use Rattle.table.proofs.Passed.{IsNode, IsFunction, Linked}
+use Rattle.table.specs.Working.{IsNode, IsFunction, Linked}
 use Rattle.table.proofs.Links.{namer-names, namer-lower, link, root-named, not-both, first-named, next-named, named}
 
 pub pick-true {ℓ} : {A : Type ℓ} (b : Bool) (x y : A) → b ≡ true → pick b x y ≡ x
