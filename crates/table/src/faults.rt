@@ -24,7 +24,10 @@ pub struct Fault {
 fn callee_fits(kind: u8, word: u32, own: u16) -> bool
     ensures { λ r. ⌜ r ≡ (not (eqb kind 4) || among 1 own word) ⌝ }
 {
-    kind != 4 || (1 <= word && word <= (own as u32))
+    if kind != 4 {
+        return true;
+    }
+    if word < 1 { false } else { word <= (own as u32) }
 }
 
 // The number of siblings from c on.
@@ -49,8 +52,7 @@ fn callee_params(table: &[u8], kind: u8, word: u32) -> u8
     if kind != 4 {
         return 0;
     }
-    let f = word as usize;
-    table[4 * f]
+    frame::params_at(table, word as usize)
 }
 
 // 7: as many children as kind and operation allow.
@@ -62,7 +64,7 @@ fn count_fits(table: &[u8], base: usize, n: usize, kind: u8, extra: u8, word: u3
     let c = kinds::child_counts(kind, extra, p);
     let first = frame::first_at(table, base, n);
     let j = chain_length(table, base, first);
-    (c.low as usize) <= j && j <= (c.high as usize)
+    if j < (c.low as usize) { false } else { j <= (c.high as usize) }
 }
 
 // Whether n or a node above it is the last child of p.
@@ -73,8 +75,8 @@ fn under_last(table: &[u8], base: usize, parents: &[u16; 513], p: usize, n: usiz
     let mut a = n;
     while p < a {
         let up = parents[a] as usize;
-        if up == p && frame::next_at(table, base, a) == 0 {
-            return true;
+        if up == p {
+            return frame::next_at(table, base, a) == 0;
         }
         a = up;
     }
@@ -87,11 +89,20 @@ fn in_scope(table: &[u8], base: usize, parents: &[u16; 513], d: u32, n: usize) -
     ensures { λ r. ⌜ r ≡ inScope (now (table .entry)) d n ⌝ }
 {
     let k = d as usize;
-    if k == 0 || frame::last(table) < k {
+    if k == 0 {
+        return false;
+    }
+    if frame::last_node(table) < k {
         return false;
     }
     let p = parents[k] as usize;
-    if p == 0 || frame::kind_at(table, base, p) != 6 || frame::next_at(table, base, k) == 0 {
+    if p == 0 {
+        return false;
+    }
+    if frame::kind_at(table, base, p) != 6 {
+        return false;
+    }
+    if frame::next_at(table, base, k) == 0 {
         return false;
     }
     under_last(table, base, parents, p, n)
@@ -103,8 +114,7 @@ fn scope_fits(table: &[u8], base: usize, parents: &[u16; 513], n: usize, kind: u
     ensures { λ r. ⌜ r ≡ scoped (now (table .entry)) n ⌝ }
 {
     if kind == 2 {
-        let f = own as usize;
-        return extra < table[4 * f];
+        return extra < frame::params_at(table, own as usize);
     }
     if kind == 7 {
         return in_scope(table, base, parents, word, n);
@@ -116,7 +126,10 @@ fn scope_fits(table: &[u8], base: usize, parents: &[u16; 513], n: usize, kind: u
 fn tail_fits(kind: u8, word: u32, own: u16, tail: bool) -> bool
     ensures { λ r. ⌜ r ≡ (not (eqb kind 4 && eqb word own) || tail) ⌝ }
 {
-    kind != 4 || word != (own as u32) || tail
+    if kind != 4 {
+        return true;
+    }
+    if word == (own as u32) { tail } else { true }
 }
 
 // The first number that a node meets, 10 where it meets none.
@@ -161,7 +174,7 @@ pub(crate) fn lowest(table: &[u8], kin: Kin) -> Fault
     ensures { λ r. ⌜ faultVerdict (now (table .entry)) r ≡ checkNodes (now (table .entry)) ⌝ }
 {
     let base = frame::base(table);
-    let last = frame::last(table);
+    let last = frame::last_node(table);
     let parents = kin.parent;
     let mut best = Fault {
         number: 10,

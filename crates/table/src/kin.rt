@@ -51,7 +51,13 @@ fn tail_of(table: &[u8], base: usize, p: usize, n: usize, above: bool) -> bool
     let kind = frame::kind_at(table, base, p);
     let first = frame::first_at(table, base, p);
     let next = frame::next_at(table, base, n);
-    ((kind == 5 && (first as usize) != n) || (kind == 6 && next == 0)) && above
+    if kind == 5 {
+        return if (first as usize) == n { false } else { above };
+    }
+    if kind == 6 {
+        return if next == 0 { above } else { false };
+    }
+    false
 }
 
 // Parents and namers are lower than their nodes, so one pass in ascending order fills all three.
@@ -60,7 +66,7 @@ pub(crate) fn collect(table: &[u8], names: Names) -> Kin
     ensures { λ r. ⌜ Related (now (table .entry)) r ⌝ }
 {
     let base = frame::base(table);
-    let last = frame::last(table);
+    let last = frame::last_node(table);
     let mut owner = [0u16; 513];
     let mut parent = [0u16; 513];
     let mut tail = [true; 513];
