@@ -10,7 +10,8 @@ use Rattle.table.proofs.CallPlaces.{find}
 use Rattle.table.specs.Bytes.{functions, nodes, root, word}
 use Rattle.table.specs.Naming.{owner}
 use Rattle.table.specs.Check.{accepted, checkOf}
-use Rattle.table.proofs.Passed.{IsNode, IsFunction, Linked, Passed, passed}
+use Rattle.table.specs.Working.{IsNode, IsFunction, Linked}
+use Rattle.table.proofs.Passed.{Passed, passed}
 use Rattle.table.proofs.Family.{owner-root, owner-in}
 use Rattle.table.specs.Expressions.{exprAt, bodyOf}
 use Rattle.table.proofs.View.{View, is-const, is-param, is-prim, is-call, is-self, is-cond, is-bind, is-bound, view, id-at}

@@ -11,7 +11,7 @@ use Rattle.table.specs.Naming.{chainBy, chain, children}
 use Rattle.table.specs.Syntax.{const, param, prim, call, self, cond, bind, bound, none, some}
 use Rattle.table.specs.Expressions.{condOf, bindOf, nodeOf, exprsBy, exprsAt, exprAt, bodyOf}
 use Rattle.table.specs.Check.{accepted, refused, sizes, whole, rootFits, forward, linked, recordFits, fields, formed, calleeFits}
-use Rattle.table.specs.Check.{operands, counted, scoped, tailed, stage, checkOf}
+use Rattle.table.specs.Check.{operationCounts, countsOf, counted, scoped, tailed, stage, checkOf}
 
 -- what closed evaluation has to see through
 unfoldable pub bytes-open : Unit {0}
@@ -27,7 +27,7 @@ unfolding mentions rootOf names namer owner parent tailChild tail underLast defi
 naming-open = tt
 
 unfoldable pub tests-open : Unit {0}
-unfolding sizes whole rootFits forward linked recordFits fields formed calleeFits operands counted scoped tailed stage
+unfolding sizes whole rootFits forward linked recordFits fields formed calleeFits operationCounts countsOf counted scoped tailed stage
 tests-open = tt
 
 unfoldable pub check-open : Unit {0}

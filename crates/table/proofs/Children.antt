@@ -8,7 +8,8 @@ use Rattle.table.specs.Environment.{values}
 use Rattle.table.specs.Syntax.{Exprs, none, some, id, roots}
 use Rattle.table.specs.Bytes.{nodes, first, next}
 use Rattle.table.specs.Naming.{parent, chain, children}
-use Rattle.table.proofs.Passed.{IsNode, Linked, Passed}
+use Rattle.table.specs.Working.{IsNode, Linked}
+use Rattle.table.proofs.Passed.{Passed}
 use Rattle.table.proofs.Family.{next-node, parent-next}
 use Rattle.table.proofs.Links.{link, backwards}
 use Rattle.table.specs.Expressions.{lastOf, exprsAt, exprAt, defsAt, finalAt}

@@ -11,7 +11,8 @@ use Rattle.table.proofs.CallPlaces.{call-node, call-at}
 use Rattle.table.specs.Bytes.{functions, nodes, params, word, first}
 use Rattle.table.specs.Naming.{owner, children}
 use Rattle.table.specs.Check.{accepted, checkOf}
-use Rattle.table.proofs.Passed.{IsNode, IsFunction, Passed, passed, params-small}
+use Rattle.table.specs.Working.{IsNode, IsFunction}
+use Rattle.table.proofs.Passed.{Passed, passed, params-small}
 use Rattle.table.proofs.Family.{owner-in}
 use Rattle.table.specs.Expressions.{exprsAt, exprAt, bodyOf}
 use Rattle.table.proofs.View.{View, is-const, is-param, is-prim, is-call, is-self, is-cond, is-bind, is-bound, view, id-at}

@@ -2,6 +2,11 @@ pub mod SyntaxLaws
 pub mod CallPlaces
 pub mod Tests
 pub mod FindLaws
+pub mod KindLaws
+pub mod Loops
+pub mod Copied
+pub mod NameLoops
+pub mod KinLoops
 pub mod Passed
 pub mod Links
 pub mod Family

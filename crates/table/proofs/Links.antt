@@ -14,7 +14,7 @@ use Rattle.table.proofs.FindLaws.{highest-bound, highest-passes, highes
 use Rattle.table.proofs.Tests.{eqb-no}
 use Rattle.table.specs.Naming.{mentions, rootOf, names, namer}
 use Rattle.table.specs.Check.{forward, linked}
-use Rattle.table.proofs.Passed.{IsNode, IsFunction, Linked}
+use Rattle.table.specs.Working.{IsNode, IsFunction, Linked}
 
 -- a node that names another comes before it
 pub namer-names : (t : List ℕ) (n : ℕ) → (namer t n ≡ 0 → ⊥)

@@ -9,7 +9,8 @@ use Rattle.table.specs.Syntax.{Expr, Exprs, some, id, Node, Node*, Sub, 
 use Rattle.table.proofs.Parts.{sub-refl, sub-trans, node-sub, rest-sub, last-sub, sub-parts, three-in, three-out}
 use Rattle.table.specs.Bytes.{nodes, root, first, next}
 use Rattle.table.specs.Naming.{rootOf, owner, parent}
-use Rattle.table.proofs.Passed.{IsNode, IsFunction, Linked, Passed}
+use Rattle.table.specs.Working.{IsNode, IsFunction, Linked}
+use Rattle.table.proofs.Passed.{Passed}
 use Rattle.table.proofs.Links.{link, root-named, named, backwards}
 use Rattle.table.proofs.Family.{owner-root, owner-in, parent-root, parent-first, parent-next, parent-lower, parent-zero}
 use Rattle.table.proofs.Family.{parent-node, owner-parent}

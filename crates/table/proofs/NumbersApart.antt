@@ -9,7 +9,8 @@ use Rattle.table.specs.Well.{Apart, Apart*, Apart₂}
 use Rattle.table.proofs.Parts.{apart-bind, apart-cond}
 use Rattle.table.specs.Bytes.{nodes, first, next}
 use Rattle.table.specs.Naming.{parent}
-use Rattle.table.proofs.Passed.{IsNode, Linked, Passed}
+use Rattle.table.specs.Working.{IsNode, Linked}
+use Rattle.table.proofs.Passed.{Passed}
 use Rattle.table.proofs.Links.{link, backwards}
 use Rattle.table.proofs.Family.{first-node, next-node, parent-next, parent-lower}
 use Rattle.table.specs.Expressions.{exprsAt, exprAt, defsAt, finalAt, thenAt, elseAt}

@@ -7,21 +7,10 @@ use native.Mathlib.Omega.{arith}
 use lib.Dec.{T, eqb, leb, eqb→eq, leb→le}
 use lib.ListN.{length}
 use Rattle.table.specs.Bytes.{functions, nodes, params, spare, root}
+use Rattle.table.specs.Working.{IsNode, IsFunction, Linked}
 use Rattle.table.proofs.FindLaws.{both, lowest-passes, all-passes}
 use Rattle.table.specs.Check.{Verdict, accepted, refused, among, sizes, whole, rootFits, linked, recordFits, formed, calleeFits}
 use Rattle.table.specs.Check.{counted, scoped, tailed, stage, checkOf}
-
--- n is a node's number, f a function's
-abbrev pub IsNode : List ℕ → ℕ → Type 0
-IsNode t n = (1 ≤ n) × (n ≤ nodes t)
-
-abbrev pub IsFunction : List ℕ → ℕ → Type 0
-IsFunction t f = (1 ≤ f) × (f ≤ functions t)
-
--- what the numbers 1 to 4 ensure: owner, parent and children can be read
-pub record Linked (t : List ℕ) : Type 0 where
-  pub roots : (f : ℕ) → IsFunction t f → IsNode t (root t f)
-  pub links : (n : ℕ) → IsNode t n → T (linked t n)
 
 pub record Passed (t : List ℕ) : Type 0 where
   pub linking : Linked t

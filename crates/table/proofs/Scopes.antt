@@ -16,7 +16,8 @@ use Rattle.table.specs.Find.{backBy, back}
 use Rattle.table.proofs.FindLaws.{both, pair, either, same, isnt, back-step}
 use Rattle.table.proofs.Tests.{eqb-yes, eqb-no}
 use Rattle.table.specs.Naming.{namer, parent, underLast, definiens, inScope}
-use Rattle.table.proofs.Passed.{IsNode, IsFunction, Linked, Passed}
+use Rattle.table.specs.Working.{IsNode, IsFunction, Linked}
+use Rattle.table.proofs.Passed.{Passed}
 use Rattle.table.proofs.Links.{namer-names, link, named, backwards}
 use Rattle.table.proofs.Family.{pick-true, pick-false, next-node, parent-root, parent-first, parent-next, parent-lower}
 use Rattle.table.proofs.Family.{parent-zero, parent-top}

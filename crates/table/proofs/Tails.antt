@@ -10,7 +10,8 @@ use Rattle.table.specs.Well.{NoSelf, NoSelf*, Tail}
 use Rattle.table.specs.Bytes.{nodes, root, kind, first, next}
 use Rattle.table.proofs.FindLaws.{both, pair, either, orl, orr, same, isnt}
 use Rattle.table.specs.Naming.{parent, tailChild, tail}
-use Rattle.table.proofs.Passed.{IsNode, IsFunction, Linked, Passed}
+use Rattle.table.specs.Working.{IsNode, IsFunction, Linked}
+use Rattle.table.proofs.Passed.{Passed}
 use Rattle.table.proofs.Links.{link, backwards}
 use Rattle.table.proofs.Family.{parent-root, parent-first, parent-next, parent-lower, tail-top, tail-down}
 use Rattle.table.specs.Expressions.{exprsAt, exprAt, bodyOf, defsAt, thenAt, elseAt}

@@ -9,7 +9,7 @@ use lib.ListN.{length}
 use Rattle.table.specs.Syntax.{Exprs, none, some}
 use Rattle.table.specs.Bytes.{nodes, first, next}
 use Rattle.table.specs.Naming.{parent, chainBy, chain}
-use Rattle.table.proofs.Passed.{IsNode, Linked}
+use Rattle.table.specs.Working.{IsNode, Linked}
 use Rattle.table.proofs.Links.{link, backwards}
 use Rattle.table.proofs.Family.{first-node, next-node, parent-first, parent-next}
 use Rattle.table.specs.Expressions.{restOf, nodeOf, exprsBy, exprsAt, exprAt, defsAt}

@@ -13,8 +13,9 @@ use Rattle.table.specs.Bytes.{params, kind, extra, word, first, next}
 use Rattle.table.proofs.FindLaws.{both, same}
 use Rattle.table.proofs.Tests.{eqb-yes, eqb-no}
 use Rattle.table.specs.Naming.{owner, tail, inScope, children}
-use Rattle.table.specs.Check.{among, fields, formed, isKind, calleeFits, operands, counted, scoped, tailed}
-use Rattle.table.proofs.Passed.{IsNode, Linked, Passed, in-range}
+use Rattle.table.specs.Check.{among, fields, formed, isKind, calleeFits, operationCounts, countsOf, within, counted, scoped, tailed}
+use Rattle.table.specs.Working.{IsNode, Linked}
+use Rattle.table.proofs.Passed.{Passed, in-range}
 use Rattle.table.proofs.Family.{pick-true, pick-false}
 use Rattle.table.proofs.Tree.{exprs-none, exprs-some, more, no-more, first-or, next-or}
 use Rattle.table.specs.Expressions.{condOf, bindOf, nodeOf, exprsAt, exprAt, defsAt, finalAt, thenAt, elseAt}
@@ -22,7 +23,7 @@ use Rattle.table.specs.Expressions.{condOf, bindOf, nodeOf, exprsAt, exp
 pub data View (t : List ℕ) (n : ℕ) : Type 0 where
   is-const : kind t n ≡ 1 → first t n ≡ 0 → exprAt t n ≡ const n (word t n) → View t n
   is-param : kind t n ≡ 2 → first t n ≡ 0 → extra t n < params t (owner t n) → exprAt t n ≡ param n (extra t n) → View t n
-  is-prim : kind t n ≡ 3 → T (operands (extra t n) (length (children t n))) → exprAt t n ≡ prim n (extra t n) (exprsAt t (first t n))
+  is-prim : kind t n ≡ 3 → T (within (operationCounts (extra t n)) (length (children t n))) → exprAt t n ≡ prim n (extra t n) (exprsAt t (first t n))
       → View t n
   is-call : kind t n ≡ 4 → 1 ≤ word t n → word t n < owner t n → length (children t n) ≡ params t (word t n)
       → exprAt t n ≡ call n (word t n) (exprsAt t (first t n)) → View t n
@@ -113,20 +114,23 @@ module _ (t : List ℕ) (ok : Passed t) (n : ℕ) (i : IsNode t n) where
       let b = not (isKind t 7 n) || inScope t (word t n) n in
       implies (isKind t 7 n) (inScope t (word t n) n) (both a b (ok .scopes n i) .1) (same (kind t n) 7 e)
 
-  counted-prim : kind t n ≡ 3 → T (operands (extra t n) count)
-  unfolding counted
+  counted-prim : kind t n ≡ 3 → T (within (operationCounts (extra t n)) count)
+  unfolding counted countsOf
   counted-prim e = let h = ok .children n i in rw e at h
 
   counted-call : kind t n ≡ 4 → count ≡ params t (word t n)
-  unfolding counted
-  counted-call e = let h = ok .children n i in eqb→eq count (params t (word t n)) (rw e at h)
+  unfolding counted countsOf
+  counted-call e =
+      let h = ok .children n i in
+      let r = in-range (params t (word t n)) (params t (word t n)) count (rw e at h) in
+      omega (arith, r .0, r .1)
 
   counted-cond : kind t n ≡ 5 → count ≡ 3
-  unfolding counted
-  counted-cond e = let h = ok .children n i in eqb→eq count 3 (rw e at h)
+  unfolding counted countsOf
+  counted-cond e = let h = ok .children n i in let r = in-range 3 3 count (rw e at h) in omega (arith, r .0, r .1)
 
   counted-bind : kind t n ≡ 6 → (2 ≤ count) × (count ≤ 9)
-  unfolding counted
+  unfolding counted countsOf
   counted-bind e = let h = ok .children n i in in-range 2 9 count (rw e at h)
 
   view-call : kind t n ≡ 4 → Dec (word t n ≡ owner t n) → View t n

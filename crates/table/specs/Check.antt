@@ -4,6 +4,7 @@ use mathlib.Core.Bool.{Bool, true, false, _&&_, _||_, not}
 use mathlib.Core.List.{List}
 use lib.Dec.{eqb, ltb, leb}
 use lib.ListN.{length}
+use Rattle.table.specs.declared.kinds.Counts.{Counts}
 use Rattle.table.specs.Pick.{pick}
 use Rattle.table.specs.Bytes.{functions, nodes, params, spare, root, kind, extra, word, first, next}
 use Rattle.table.specs.Find.{lowest, all}
@@ -12,6 +13,9 @@ use Rattle.table.specs.Naming.{mentions, rootOf, owner, tail, inScope, c
 pub data Verdict : Type 0 where
   accepted : (F N : ℕ) → Verdict
   refused : (number place : ℕ) → Verdict
+
+abbrev pub between : ℕ → ℕ → Counts
+between l h = record { low = l; high = h }
 
 abbrev pub among : ℕ → ℕ → ℕ → Bool
 among low high n = leb low n && leb n high
@@ -59,22 +63,28 @@ isKind t k n = eqb (kind t n) k
 unfoldable pub calleeFits : List ℕ → ℕ → Bool
 calleeFits t n = not (isKind t 4 n) || among 1 (owner t n) (word t n)
 
--- 7: the number of children; of the operations only beside, 10, is left for the last line
-unfoldable pub operands : (op count : ℕ) → Bool
-operands op j =
-    pick (leb op 4 || among 8 9 op) (eqb j 2)
-    (pick (among 5 7 op) (eqb j 1)
-    (among 1 8 j))
+-- 7: how many children an operation takes, from low to high: 0 and 0 where there is none such
+unfoldable pub operationCounts : (op : ℕ) → Counts
+operationCounts op =
+    pick (leb op 4 || among 8 9 op) (between 2 2)
+    (pick (among 5 7 op) (between 1 1)
+    (pick (eqb op 10) (between 1 8)
+    (between 0 0)))
 
--- a constant, a parameter and a bound have no first child (5)
+-- and a kind: a call as many as its callee has parameters; a constant, a parameter and a bound none
+unfoldable pub countsOf : (kind op params : ℕ) → Counts
+countsOf k op p =
+    pick (eqb k 3) (operationCounts op)
+    (pick (eqb k 4) (between p p)
+    (pick (eqb k 5) (between 3 3)
+    (pick (eqb k 6) (between 2 9)
+    (between 0 0))))
+
+abbrev pub within : Counts → ℕ → Bool
+within c j = among (c .low) (c .high) j
+
 unfoldable pub counted : List ℕ → ℕ → Bool
-counted t n =
-    let j = length (children t n) in
-    pick (isKind t 3 n) (operands (extra t n) j)
-    (pick (isKind t 4 n) (eqb j (params t (word t n)))
-    (pick (isKind t 5 n) (eqb j 3)
-    (pick (isKind t 6 n) (among 2 9 j)
-    true)))
+counted t n = within (countsOf (kind t n) (extra t n) (params t (word t n))) (length (children t n))
 
 -- 8: a parameter's index is below the count, a bound node's definiens is in scope
 unfoldable pub scoped : List ℕ → ℕ → Bool

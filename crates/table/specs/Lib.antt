@@ -7,4 +7,6 @@ pub mod Check
 pub mod Expressions
 pub mod Environment
 pub mod Well
+pub mod Working
+pub mod Survey
 pub mod Designs
