@@ -10,7 +10,8 @@ use Rattle.table.specs.Naming.{owner, parent, underLast, definiens, inScope}
 use Rattle.table.specs.Check.{Verdict, accepted, checkOf}
 use Rattle.table.specs.Syntax.{bound, id}
 use Rattle.table.specs.Expressions.{exprAt, bodyOf}
-use Rattle.table.proofs.Passed.{IsNode, Passed, passed}
+use Rattle.table.specs.Working.{IsNode}
+use Rattle.table.proofs.Passed.{Passed, passed}
 use Rattle.table.proofs.FindLaws.{both, isnt, same}
 use Rattle.table.proofs.View.{View, is-const, is-param, is-prim, is-call, is-self, is-cond, is-bind, is-bound, view as node-view}
 use Rattle.table.proofs.Scopes.{child-node}

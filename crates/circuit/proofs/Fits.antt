@@ -13,7 +13,8 @@ use Rattle.table.specs.Pick.{pick}
 use Rattle.table.specs.Bytes.{twoAt, fourAt, functions, nodes, nodeAt, word}
 use Rattle.table.specs.Naming.{owner}
 use Rattle.table.specs.Expressions.{exprAt, bodyOf}
-use Rattle.table.proofs.Passed.{IsNode, Passed, passed}
+use Rattle.table.specs.Working.{IsNode}
+use Rattle.table.proofs.Passed.{Passed, passed}
 use Rattle.table.proofs.View.{View as NodeView, view as node-view, is-const, is-param, is-prim, is-call, is-self, is-cond, is-bind}
 use Rattle.table.proofs.View.{is-bound}
 use Rattle.list.specs.Tags.{tagged}
