@@ -13,7 +13,8 @@ use Rattle.table.specs.Pick.{pick}
 use Rattle.table.specs.Bytes.{nodes, first}
 use Rattle.table.specs.Find.{back, backBy}
 use Rattle.table.specs.Naming.{rootOf, namer, owner, parent, tailChild, tail}
-use Rattle.table.specs.Working.{IsNode, Framed, Related}
+use Rattle.table.specs.declared.kin.Kin.{Kin}
+use Rattle.table.specs.Working.{Framed, Related, Parents}
 use Rattle.table.proofs.Tests.{eqb-yes, eqb-no}
 use Rattle.table.proofs.Links.{namer-lower}
 use Rattle.table.proofs.Family.{owner-step, parent-step, parent-lower, parent-zero, tail-step}
@@ -120,3 +121,9 @@ kin-all t o p l fr h = record {
   parents = λ n i. h .parents n (omega arith);
   tails = λ n i. h .tails n (i .0) (i .1);
 }
+
+pub related-owner : (t : List ℕ) (r : Kin) → Framed t → Related t r → (n : ℕ) → n ≤ nodes t → getD (r .owner) n 0 ≡ owner t n
+related-owner t r fr h n i = h .owners n (omega (arith, fr .N-high)) ∙ ap (λ b. pick b (owner t n) 0) (le-leb n (nodes t) i)
+
+pub related-parent : (t : List ℕ) (r : Kin) → Framed t → Related t r → Parents t (r .parent)
+related-parent t r fr h n i = h .parents n (omega (arith, fr .N-high)) ∙ ap (λ b. pick b (parent t n) 0) (le-leb n (nodes t) i)

@@ -37,9 +37,15 @@ module _ (k e w c : ℕ) where
 
   pub unknown : (k < 1) ⊎ (7 < k) → fields k e w c ≡ false
   unfolding fields
-  unknown h = simp
-      (eqb-no k 1 (λ p. other p h (omega arith, omega arith)), eqb-no k 2 (λ p. other p h (omega arith, omega arith)), eqb-no k 3 (λ p. other p h (omega arith, omega arith)), eqb-no k 4 (λ p. other p h (omega arith, omega arith)),
-      eqb-no k 5 (λ p. other p h (omega arith, omega arith)), eqb-no k 6 (λ p. other p h (omega arith, omega arith)), eqb-no k 7 (λ p. other p h (omega arith, omega arith)))
+  unknown h = simp (
+    eqb-no k 1 (λ p. other p h (omega arith, omega arith)),
+    eqb-no k 2 (λ p. other p h (omega arith, omega arith)),
+    eqb-no k 3 (λ p. other p h (omega arith, omega arith)),
+    eqb-no k 4 (λ p. other p h (omega arith, omega arith)),
+    eqb-no k 5 (λ p. other p h (omega arith, omega arith)),
+    eqb-no k 6 (λ p. other p h (omega arith, omega arith)),
+    eqb-no k 7 (λ p. other p h (omega arith, omega arith)),
+  )
     where
       other : {j : ℕ} → k ≡ j → (k < 1) ⊎ (7 < k) → (1 ≤ j) × (j ≤ 7) → ⊥
       other p (inl l) r = omega (arith, r .0)

@@ -44,11 +44,11 @@ module _ (p : ℕ → Bool) where
   unfolding lowest
   lowest-more k h e = rw (add-one, h, rw add-one at e)
 
-  lowest-here : (k : ℕ) → lowest p k ≡ 0 → p (k + 1) ≡ false → lowest p (k + 1) ≡ k + 1
+  pub lowest-here : (k : ℕ) → lowest p k ≡ 0 → p (k + 1) ≡ false → lowest p (k + 1) ≡ k + 1
   unfolding lowest
   lowest-here k h e = rw (add-one, h, rw add-one at e)
 
-  lowest-kept : (k : ℕ) → (lowest p k ≡ 0 → ⊥) → lowest p (k + 1) ≡ lowest p k
+  pub lowest-kept : (k : ℕ) → (lowest p k ≡ 0 → ⊥) → lowest p (k + 1) ≡ lowest p k
   unfolding lowest
   lowest-kept k h = rw (add-one, eqb-no (lowest p k) 0 h)
 

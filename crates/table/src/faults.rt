@@ -2,7 +2,6 @@
 use crate::frame;
 use crate::kin::Kin;
 use crate::kinds;
-
 ghost use mathlib.Core.Path.{_≡_};
 ghost use mathlib.Core.Bool.{_&&_, _||_, not};
 ghost use Prim.Native.Nat.{ℕ, _+_, _*_, _<_, _≤_};
@@ -27,7 +26,11 @@ fn callee_fits(kind: u8, word: u32, own: u16) -> bool
     if kind != 4 {
         return true;
     }
-    if word < 1 { false } else { word <= (own as u32) }
+    if word < 1 {
+        false
+    } else {
+        word <= (own as u32)
+    }
 }
 
 // The number of siblings from c on.
@@ -64,7 +67,11 @@ fn count_fits(table: &[u8], base: usize, n: usize, kind: u8, extra: u8, word: u3
     let c = kinds::child_counts(kind, extra, p);
     let first = frame::first_at(table, base, n);
     let j = chain_length(table, base, first);
-    if j < (c.low as usize) { false } else { j <= (c.high as usize) }
+    if j < (c.low as usize) {
+        false
+    } else {
+        j <= (c.high as usize)
+    }
 }
 
 // Whether n or a node above it is the last child of p.
@@ -109,7 +116,16 @@ fn in_scope(table: &[u8], base: usize, parents: &[u16; 513], d: u32, n: usize) -
 }
 
 // 8: a parameter's index is below the count, a bound node's definiens is in scope.
-fn scope_fits(table: &[u8], base: usize, parents: &[u16; 513], n: usize, kind: u8, extra: u8, word: u32, own: u16) -> bool
+fn scope_fits(
+    table: &[u8],
+    base: usize,
+    parents: &[u16; 513],
+    n: usize,
+    kind: u8,
+    extra: u8,
+    word: u32,
+    own: u16,
+) -> bool
     requires { ⌜ NodeAt (now table) base n kind extra word × Parents (now table) (now parents) × (own ≡ owner (now table) n) ⌝ }
     ensures { λ r. ⌜ r ≡ scoped (now (table .entry)) n ⌝ }
 {
@@ -138,11 +154,10 @@ fn fault_at(table: &[u8], base: usize, parents: &[u16; 513], n: usize, own: u16,
     requires { ⌜ (own ≡ owner (now table) n) × (tail ≡ tailOf (now table) n) ⌝ }
     ensures { λ r. ⌜ r ≡ faultAt (now (table .entry)) n ⌝ }
 {
-    let at = base + 10 * n - 10;
-    let kind = table[at];
-    let extra = table[at + 1];
-    let word = frame::four_at(table, at + 2);
-    let first = frame::two_at(table, at + 6);
+    let kind = frame::kind_at(table, base, n);
+    let extra = frame::extra_at(table, base, n);
+    let word = frame::word_at(table, base, n);
+    let first = frame::first_at(table, base, n);
     if !kinds::formed(kind, extra, word, first) {
         return 5;
     }
@@ -165,7 +180,11 @@ fn fault_at(table: &[u8], base: usize, parents: &[u16; 513], n: usize, own: u16,
 fn lower(best: Fault, number: u8, place: u16) -> Fault
     ensures { λ r. ⌜ r ≡ better best number place ⌝ }
 {
-    if number < best.number { Fault { number, place } } else { best }
+    if number < best.number {
+        Fault { number, place }
+    } else {
+        best
+    }
 }
 
 // The lowest number of 5 to 9 that a node meets, and the lowest node that meets it.

@@ -4,7 +4,8 @@ ghost use mathlib.Core.Bool.{_&&_};
 ghost use Prim.Native.Nat.{_+_, _*_, _<_, _≤_};
 ghost use lib.Dec.{leb, eqb};
 ghost use lib.ListN.{length};
-ghost use Rattle.table.specs.Bytes.{functions, nodes, twoAt, fourAt, params, spare, root, kind, first, next};
+ghost use Rattle.table.specs.Bytes.{functions, nodes, twoAt, fourAt, params, spare, root};
+ghost use Rattle.table.specs.Bytes.{kind, extra, word, first, next};
 ghost use Rattle.table.specs.Find.{all};
 ghost use Rattle.table.specs.Check.{among, rootFits, recordFits};
 ghost use Rattle.table.specs.Working.{Framed, IsFunction, At, frameNumber};
@@ -84,6 +85,20 @@ pub(crate) fn kind_at(table: &[u8], base: usize, n: usize) -> u8
     ensures { λ r. ⌜ r ≡ kind (now (table .entry)) n ⌝ }
 {
     table[base + 10 * n - 10]
+}
+
+pub(crate) fn extra_at(table: &[u8], base: usize, n: usize) -> u8
+    requires { ⌜ At (now table) base n ⌝ }
+    ensures { λ r. ⌜ r ≡ extra (now (table .entry)) n ⌝ }
+{
+    table[base + 10 * n - 9]
+}
+
+pub(crate) fn word_at(table: &[u8], base: usize, n: usize) -> u32
+    requires { ⌜ At (now table) base n ⌝ }
+    ensures { λ r. ⌜ r ≡ word (now (table .entry)) n ⌝ }
+{
+    four_at(table, base + 10 * n - 8)
 }
 
 pub(crate) fn first_at(table: &[u8], base: usize, n: usize) -> u16
