@@ -151,7 +151,7 @@ module _ (N : ℕ) (calleeᵇ callee : ℕ → ℕ) (same : (n : ℕ) → callee
 
 module _ (F N : ℕ) (body at : ℕ → Expr) (calleeᵇ : ℕ → ℕ) (same : (n : ℕ) → calleeᵇ n ≡ callee-at at n)
     (calls : (f : ℕ) → 1 ≤ f → f ≤ F → Calling (Range N) (body f)) where
-  sets-decides : (t : ℕ) → t ≤ F → (g m : ℕ) → Decides (callsOf N calleeᵇ body t g m) (sets body at t g m)
+  pub sets-decides : (t : ℕ) → t ≤ F → (g m : ℕ) → Decides (callsOf N calleeᵇ body t g m) (sets body at t g m)
   unfolding callsOf
   sets-decides zero l g m = no-decides
   sets-decides (suc t) l g m = go (ℕ-discrete g (suc t)) (sets-decides t (omega arith))

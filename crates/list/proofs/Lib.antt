@@ -1,5 +1,10 @@
+pub mod BitLaws
+pub mod Bytewise
+pub mod Meets
 pub mod ListedCalls
 pub mod ArbiterFacts
 pub mod CallSetFacts
 pub mod Callees
+pub mod CallLaws
+pub mod ParallelLaws
 pub mod TagFacts

@@ -3,3 +3,4 @@ pub mod Conflict
 pub mod CallSets
 pub mod Arbiters
 pub mod Tags
+pub mod Working
