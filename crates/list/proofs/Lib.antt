@@ -7,4 +7,8 @@ pub mod CallSetFacts
 pub mod Callees
 pub mod CallLaws
 pub mod ParallelLaws
+pub mod WalkLaws
+pub mod NodeLaws
+pub mod ChainLaws
+pub mod WalkMeasure
 pub mod TagFacts
