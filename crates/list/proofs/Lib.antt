@@ -10,5 +10,6 @@ pub mod ParallelLaws
 pub mod WalkLaws
 pub mod NodeLaws
 pub mod ChainLaws
+pub mod NodeWalks
 pub mod WalkMeasure
 pub mod TagFacts

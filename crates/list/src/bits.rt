@@ -1,7 +1,6 @@
 // Packed sets of nodes: node n is bit (n - 1) mod 8 of byte (n - 1) / 8. A row of sets has set g from byte 64 g on.
 use table::Function;
 use table::Node;
-
 ghost use mathlib.Core.Path.{_≡_};
 ghost use mathlib.Core.Bool.{_&&_};
 ghost use Prim.Native.Nat.{ℕ, _+_, _-_, _*_, _%_, _^_, _≤_};

@@ -1,10 +1,9 @@
 // The walk over expressions: C of section 4.2 as packed sets, and PC wherever expressions are evaluated side by side.
 // Node walk and chain walk call each other, into the bodies of callees too; each body is walked once, and what it came to is kept.
 use crate::bits;
-use table::read;
 use table::Function;
 use table::Node;
-
+use table::read;
 ghost use mathlib.Core.Path.{_≡_};
 ghost use mathlib.Core.Bool.{false};
 ghost use Prim.Native.Nat.{ℕ, _≤_};
@@ -103,7 +102,17 @@ fn side_walk(
         };
     }
     let mut own = [0u8; 64];
-    let r = chain_walk(table, sites, f, first, defs, bodies, called, found, &mut own);
+    let r = chain_walk(
+        table,
+        sites,
+        f,
+        first,
+        defs,
+        bodies,
+        called,
+        found,
+        &mut own,
+    );
     bits::meet(found, &own, sites, r.twice);
     bits::join(set, &own);
     r

@@ -47,8 +47,7 @@ loop-again c =
     let a = c .before .before .before .before .args in
     let i = c .before .before .before .loop .i in
     let inv = c .before .before .before .loop .inv in
-    let l : length (c .before .before .before .loop .set) ≡ 64 = inv .1 in
-    (
+    let l : length (c .before .before .before .loop .set) ≡ 64 = inv .1 in (
       omega arith,
       simp length-set l,
       upto-more _ (a .set .now) _ i _ (omega arith) (inv .2) (ap (λ x. bitOr x (getD (a .other .now) i 0)) (inv .2 .left i (omega arith))),

@@ -58,8 +58,7 @@ loop-again : tie.Need-loop-again Inv-loop μ-loop
 loop-again c =
     let a = c .before .before .before .before .before .args in
     let i = c .before .before .before .loop .i in
-    let inv = c .before .before .before .loop .inv in
-    (
+    let inv = c .before .before .before .loop .inv in (
       omega arith,
       simp length-set (inv .1),
       upto-more _ (a .set .now) _ i _ (omega (arith, inv .1)) (inv .2)

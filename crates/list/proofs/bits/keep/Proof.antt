@@ -53,8 +53,7 @@ loop-again : tie.Need-loop-again Inv-loop μ-loop
 loop-again c =
     let a = c .before .before .before .before .args in
     let i = c .before .before .loop .i in
-    let inv = c .before .before .loop .inv in
-    (
+    let inv = c .before .before .loop .inv in (
       omega arith,
       simp length-set (inv .1),
       part-more (64 * a .g .0) (a .set .now) (a .row .now) _ i (omega (arith, inv .1)) (inv .2),

@@ -51,8 +51,7 @@ loop-less c = omega arith
 loop-again : tie.Need-loop-again Inv-loop μ-loop
 loop-again c =
     let a = c .before .before .before .before .before .before .before .args in
-    let l = c .before .before .before .before .before .loop in
-    (
+    let l = c .before .before .before .before .before .loop in (
       omega arith,
       meet-more (a .set .now) (a .row .now) (a .mask) (l .h) (a .found .now) (l .found) _ (l .inv .1)
           (sym (c .before .before .before .has .ensures) ∙ c .before .before .if2 .taken) (c .meet-at .ensures),
@@ -66,8 +65,7 @@ loop-less-2 c = omega arith
 loop-again-2 : tie.Need-loop-again-2 Inv-loop μ-loop
 loop-again-2 c =
     let a = c .before .before .before .before .before .args in
-    let l = c .before .before .before .loop in
-    (
+    let l = c .before .before .before .loop in (
       omega arith,
       meet-skip (a .set .now) (a .row .now) (a .mask) (l .h) (a .found .now) (l .found) (l .inv .1) (sym (c .before .has .ensures) ∙ c .if2 .left),
     )
