@@ -2,6 +2,7 @@
 use crate::frame;
 use crate::kin::Kin;
 use crate::kinds;
+
 ghost use mathlib.Core.Path.{_≡_};
 ghost use mathlib.Core.Bool.{_&&_, _||_, not};
 ghost use Prim.Native.Nat.{ℕ, _+_, _*_, _<_, _≤_};
@@ -97,16 +98,7 @@ fn in_scope(table: &[u8], base: usize, parents: &[u16; 513], d: u32, n: usize) -
 }
 
 // 8: a parameter's index is below the count, a bound node's definiens is in scope.
-fn scope_fits(
-    table: &[u8],
-    base: usize,
-    parents: &[u16; 513],
-    n: usize,
-    kind: u8,
-    extra: u8,
-    word: u32,
-    own: u16,
-) -> bool
+fn scope_fits(table: &[u8], base: usize, parents: &[u16; 513], n: usize, kind: u8, extra: u8, word: u32, own: u16) -> bool
     requires { ⌜ NodeAt (now table) base n kind extra word × Parents (now table) (now parents) × (own ≡ owner (now table) n) ⌝ }
     ensures { λ r. ⌜ r ≡ scoped (now (table .entry)) n ⌝ }
 {
@@ -160,11 +152,7 @@ fn fault_at(table: &[u8], base: usize, parents: &[u16; 513], n: usize, own: u16,
 fn lower(best: Fault, number: u8, place: u16) -> Fault
     ensures { λ r. ⌜ r ≡ better best number place ⌝ }
 {
-    if number < best.number {
-        Fault { number, place }
-    } else {
-        best
-    }
+    if number < best.number { Fault { number, place } } else { best }
 }
 
 // The lowest number of 5 to 9 that a node meets, and the lowest node that meets it.

@@ -1,8 +1,9 @@
 // What each node is part of: its function, its parent, and whether it is in tail position.
-use crate::Function;
-use crate::Node;
 use crate::frame;
 use crate::names::Names;
+use crate::Function;
+use crate::Node;
+
 ghost use mathlib.Core.Path.{_≡_};
 ghost use mathlib.Core.Bool.{true, _&&_};
 ghost use mathlib.Core.List.{map};
@@ -36,11 +37,7 @@ fn parent_of(table: &[u8], base: usize, namer: usize, n: usize, above: u16) -> u
         return 0;
     }
     let first = frame::first_at(table, base, namer);
-    if (first as usize) == n {
-        namer as u16
-    } else {
-        above
-    }
+    if (first as usize) == n { namer as u16 } else { above }
 }
 
 // A branch of an if or the body of a let, whose parent p is in tail position.
@@ -77,11 +74,7 @@ pub(crate) fn collect(table: &[u8], names: Names) -> Kin
         let p = up as usize;
         tail[n] = tail_of(table, base, p, n, tail[p]);
     }
-    Kin {
-        owner,
-        parent,
-        tail,
-    }
+    Kin { owner, parent, tail }
 }
 
 // The same numbers, said to be functions'.

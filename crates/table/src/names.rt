@@ -1,5 +1,6 @@
 // Who names each node: roots, firsts and nexts (refusal 4).
 use crate::frame;
+
 ghost use mathlib.Core.Path.{_≡_};
 ghost use mathlib.Core.Bool.{_&&_, _||_};
 ghost use Prim.Native.Nat.{_+_, _*_, _<_, _≤_};
@@ -55,11 +56,7 @@ fn roots(table: &[u8]) -> Names
         f += 1;
         roots[at] = f;
     }
-    Names {
-        mentions,
-        roots,
-        namers: [0u16; 513],
-    }
+    Names { mentions, roots, namers: [0u16; 513] }
 }
 
 // And what the firsts and nexts name.
@@ -86,11 +83,7 @@ fn links(table: &[u8], tops: Names) -> Names
         namers[d] = n as u16;
     }
     let roots = tops.roots;
-    Names {
-        mentions,
-        roots,
-        namers,
-    }
+    Names { mentions, roots, namers }
 }
 
 // Whether a link is 0 or leads on from node n to a node.
