@@ -14,7 +14,8 @@ use lib.Seq.{getD-set-same, getD-set-other}
 use Rattle.table.proofs.Tests.{eqb-yes, eqb-no}
 use Rattle.list.specs.Tags.{tagged}
 use Rattle.list.specs.Arbiters.{Test}
-use Rattle.list.specs.Working.{bitAt, Bit, Adds, Kept}
+use Rattle.list.specs.Working.{bitAt, Bit, Adds, PutAt, Kept}
+use Rattle.table.specs.Pick.{Range}
 use Rattle.list.proofs.Bytewise.{Part}
 
 -- `1 << k` at a width w above k
@@ -133,18 +134,15 @@ adds-by f s x₀ x l h e = record {
 }
 
 -- one bit written
-pub adds-one : (x : List ℕ) (n : ℕ) → length x ≡ 64 → Bit n
-    → Adds (eqb n) x (set x ((n - 1) / 8) (bitOr (getD x ((n - 1) / 8) 0) (2 ^ ((n - 1) % 8))))
-adds-one x n l b = record { size = length-set x at v ∙ l; bits = λ m c. go m c (ℕ-discrete ((m - 1) / 8) at) }
+pub one-more : (x : List ℕ) (n : ℕ) → 1 ≤ n → (n - 1) / 8 < length x → (m : ℕ) → 1 ≤ m
+    → tagged (set x ((n - 1) / 8) (bitOr (getD x ((n - 1) / 8) 0) (2 ^ ((n - 1) % 8)))) m ≡ tagged x m || eqb n m
+one-more x n b inside m c = go (ℕ-discrete ((m - 1) / 8) at)
   where
     at : ℕ
     at = (n - 1) / 8
 
     v : ℕ
     v = bitOr (getD x at 0) (2 ^ ((n - 1) % 8))
-
-    inside : at < length x
-    inside = omega (arith, byte-of n b, l)
 
     or-no : (p : Bool) → p ≡ p || false
     or-no true = refl
@@ -157,16 +155,54 @@ adds-one x n l b = record { size = length-set x at v ∙ l; bits = λ m c. go m 
         here (yes d) = eqb-yes ((n - 1) % 8) ((m - 1) % 8) (ap (λ x. (x - 1) % 8) d) ∙ sym (eqb-yes n m d)
         here (no d) = eqb-no ((n - 1) % 8) ((m - 1) % 8) (λ r. d (omega (arith, r, e))) ∙ sym (eqb-no n m d)
 
-    go : (m : ℕ) → Bit m → Dec ((m - 1) / 8 ≡ at) → tagged (set x at v) m ≡ tagged x m || eqb n m
-    go m c (yes e) =
+    go : Dec ((m - 1) / 8 ≡ at) → tagged (set x at v) m ≡ tagged x m || eqb n m
+    go (yes e) =
         tagged-bit (set x at v) m ∙ ap (λ y. bitAt y ((m - 1) % 8)) (ap (λ i. getD (set x at v) i 0) e ∙ getD-set-same x at v 0 inside)
         ∙ or-bit (getD x at 0) (2 ^ ((n - 1) % 8)) ((m - 1) % 8)
         ∙ ap₂ (λ p q. p || q) (ap (λ i. bitAt (getD x i 0) ((m - 1) % 8)) (sym e) ∙ sym (tagged-bit x m))
-        (pow-bit ((n - 1) % 8) ((m - 1) % 8) ∙ place n m (b .0) (c .0) e)
-    go m c (no e) =
+        (pow-bit ((n - 1) % 8) ((m - 1) % 8) ∙ place n m b c e)
+    go (no e) =
         tagged-bit (set x at v) m ∙ ap (λ y. bitAt y ((m - 1) % 8)) (getD-set-other x at ((m - 1) / 8) v 0 e) ∙ sym (tagged-bit x m)
         ∙ or-no (tagged x m)
         ∙ ap (λ q. tagged x m || q) (sym (eqb-no n m (λ d. e (ap (λ y. (y - 1) / 8) (sym d)))))
+
+pub adds-one : (x : List ℕ) (n : ℕ) → length x ≡ 64 → Bit n
+    → Adds (eqb n) x (set x ((n - 1) / 8) (bitOr (getD x ((n - 1) / 8) 0) (2 ^ ((n - 1) % 8))))
+adds-one x n l b = record {
+  size = length-set x ((n - 1) / 8) _ ∙ l;
+  bits = λ m c. one-more x n (b .0) (omega (arith, byte-of n b, l)) m (c .0);
+}
+
+-- one bit written in a row
+pub put-row : (x : List ℕ) (g n : ℕ) → length x ≡ 2112 → g ≤ 32 → Bit n
+    → PutAt g n x (set x (64 * g + (n - 1) / 8) (bitOr (getD x (64 * g + (n - 1) / 8) 0) (2 ^ ((n - 1) % 8))))
+put-row x g n l k b = record { size = length-set x (64 * g + (n - 1) / 8) _ ∙ l; bits = bits }
+  where
+    q : ℕ
+    q = 512 * g + n
+
+    low : 1 ≤ q
+    low = omega (arith, b .0)
+
+    inside : (q - 1) / 8 < length x
+    inside = omega (arith, row-byte g n (b .0), byte-of n b, l)
+
+    apart : (g n h m : ℕ) → Bit n → Bit m → eqb (512 * g + n) (512 * h + m) ≡ eqb g h && eqb n m
+    apart g n h m b c = go (ℕ-discrete g h) (ℕ-discrete n m)
+      where
+        go : Dec (g ≡ h) → Dec (n ≡ m) → eqb (512 * g + n) (512 * h + m) ≡ eqb g h && eqb n m
+        go (yes d) (yes e) = eqb-yes (512 * g + n) (512 * h + m) (omega (arith, d, e)) ∙ sym (ap₂ (λ p q. p && q) (eqb-yes g h d) (eqb-yes n m e))
+        go (yes d) (no e) =
+            eqb-no (512 * g + n) (512 * h + m) (λ z. e (omega (arith, d, z))) ∙ sym (ap₂ (λ p q. p && q) (eqb-yes g h d) (eqb-no n m e))
+        go (no d) e = eqb-no (512 * g + n) (512 * h + m) (λ z. d (omega (arith, z, b .0, b .1, c .0, c .1)))
+            ∙ sym (ap (λ p. p && eqb n m) (eqb-no g h d))
+
+    bits : (h m : ℕ) → Range 32 h → Bit m
+        → tagged (set x (64 * g + (n - 1) / 8) (bitOr (getD x (64 * g + (n - 1) / 8) 0) (2 ^ ((n - 1) % 8)))) (512 * h + m)
+        ≡ tagged x (512 * h + m) || (eqb g h && eqb n m)
+    bits h m i c =
+        ap₂ (λ a k. tagged (set x a (bitOr (getD x a 0) (2 ^ k))) (512 * h + m)) (sym (row-byte g n (b .0))) (sym (row-bit g n (b .0)))
+        ∙ one-more x q low inside (512 * h + m) (omega (arith, c .0)) ∙ ap (λ p. tagged x (512 * h + m) || p) (apart g n h m b c)
 
 -- a set that was copied into a row
 pub kept-by : (g : ℕ) (y x₀ x : List ℕ) → length x ≡ 2112 → Part (64 * g) y x₀ x 64 → Kept g y x₀ x

@@ -10,6 +10,8 @@ pub mod ParallelLaws
 pub mod WalkLaws
 pub mod NodeLaws
 pub mod ChainLaws
+pub mod ListLaws
+pub mod SiteLaws
 pub mod NodeWalks
 pub mod WalkMeasure
 pub mod TagFacts

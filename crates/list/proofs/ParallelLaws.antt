@@ -1,19 +1,20 @@
 -- PC from two masks: a call of the children's sets is in conflict exactly if its function is called in two of them
 use Prim.Native.Nat.{ℕ, zero, suc, _+_, _*_, _≤_, _<_}
 use mathlib.Core.Path.{_≡_, refl, subst, sym, ap, ap₂, _∙_}
-use mathlib.Core.Bool.{Bool, true, false, _&&_, _||_, true≢false}
+use mathlib.Core.Bool.{Bool, true, false, _&&_, _||_, not, true≢false}
 use mathlib.Core.List.{List}
 use native.Mathlib.Omega.{arith}
 use native.Mathlib.Decide.{ℕ-discrete}
 use lib.Dec.{eqb, leb, le→leb}
-use Rattle.table.specs.Pick.{Range}
+use Rattle.table.specs.Pick.{pick, Range}
 use Rattle.table.specs.Syntax.{Exprs, none, some}
-use Rattle.table.specs.Bytes.{nodes}
+use Rattle.table.specs.Bytes.{nodes, kind, word}
+use Rattle.table.specs.Naming.{owner}
 use Rattle.table.specs.Working.{IsNode}
 use Rattle.table.proofs.Tests.{T-true, eqb-yes, eqb-no, eqb-true}
 use Rattle.list.specs.Arbiters.{Test, nothing, joined, anyUpTo, callsIn, callsIn*, meeting, parallel}
-use Rattle.list.specs.Tags.{tagged, calleeOf}
-use Rattle.list.specs.Working.{bitAt, Bit, Callee, callsBy, callsAt, callsAt*, parallelAt, calledIn, twiceIn, meetOf, Sited}
+use Rattle.list.specs.Tags.{tagged, isCall, calleeOf}
+use Rattle.list.specs.Working.{bitAt, Bit, Callee, callsBy, callsAt, callsAt*, parallelAt, calledIn, twiceIn, meetOf, site, Sited}
 use Rattle.list.proofs.Meets.{or-no, none-of}
 use Rattle.list.proofs.CallLaws.{or-left, or-right}
 use Rattle.list.proofs.ArbiterFacts.{any-out, any-in, and-both, both-and}
@@ -39,6 +40,16 @@ any-or (suc k) p q = ap (λ a. (p (suc k) || q (suc k)) || a) (any-or k p q) ∙
     swap false true true d = refl
     swap false true false d = refl
     swap false false c d = refl
+
+-- a node that has a callee is a call of it
+call-there : (t : List ℕ) (m : ℕ) → 1 ≤ calleeOf t m → (eqb (kind t m) 4 ≡ true) × (calleeOf t m ≡ word t m)
+unfolding calleeOf isCall
+call-there t m h = go (eqb (kind t m) 4) (eqb (word t m) (owner t m)) h
+  where
+    go : (a b : Bool) → 1 ≤ pick (a && not b) (word t m) 0 → (a ≡ true) × (pick (a && not b) (word t m) 0 ≡ word t m)
+    go true false h = (refl, refl)
+    go true true h = absurd (omega arith)
+    go false b h = absurd (omega arith)
 
 module _ (t : List ℕ) where
   -- the functions called in a set
@@ -171,17 +182,20 @@ module _ (t : List ℕ) where
         each : Test
         each k = bitAt twice k && tagged sites (512 * k + m)
 
-        at-site : (k : ℕ) → Callee k → Range (nodes t) m → each k ≡ twiceIn t es k && eqb k h
-        at-site k c q =
-            ap₂ (λ x y. x && y) (w k c) (sited k m (c .0, omega arith) b)
-            ∙ ap (λ x. twiceIn t es k && (x && eqb k h)) (T-true (leb m (nodes t)) (le→leb m (nodes t) (q .1)))
+        is-site : (k : ℕ) → Callee h → site t k m ≡ eqb k h
+        is-site k c = ap₂ (λ x y. x && eqb k y) (call-there t m (c .0) .0) (sym (call-there t m (c .0) .1))
+
+        at-site : (k : ℕ) → Callee k → Range (nodes t) m → Callee h → each k ≡ twiceIn t es k && eqb k h
+        at-site k c q d =
+            ap₂ (λ x y. x && y) (w k c) (sited .bits k m (c .0, omega arith) b)
+            ∙ ap₂ (λ x y. twiceIn t es k && (x && y)) (T-true (leb m (nodes t)) (le→leb m (nodes t) (q .1))) (is-site k d)
 
         found : Range (nodes t) m → Callee h → anyUpTo 31 each ≡ twiceIn t es h
         found q c = by-true (anyUpTo 31 each) (twiceIn t es h)
             (λ x. let y = any-out 31 each x in
-            let z = and-both (twiceIn t es (y .0)) (eqb (y .0) h) (sym (at-site (y .0) (y .1, y .2) q) ∙ y .3) in
+            let z = and-both (twiceIn t es (y .0)) (eqb (y .0) h) (sym (at-site (y .0) (y .1, y .2) q c) ∙ y .3) in
             ap (twiceIn t es) (sym (eqb-true (y .0) h (z .1))) ∙ z .0)
-            (λ x. any-in 31 each h (c .0) (c .1) (at-site h c q ∙ both-and (twiceIn t es h) (eqb h h) x (eqb-yes h h refl)))
+            (λ x. any-in 31 each h (c .0) (c .1) (at-site h c q c ∙ both-and (twiceIn t es h) (eqb h h) x (eqb-yes h h refl)))
 
         go : (a : Bool) → callsAt* t es m ≡ a → tagged own m && anyUpTo 31 each ≡ callsAt* t es m && twiceIn t es h
         go true q = ap₂ (λ x y. x && y) e (let z = r q in found (z .0) (z .1))

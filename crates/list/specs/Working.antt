@@ -7,7 +7,7 @@ use lib.Dec.{eqb, leb}
 use lib.ListN.{length, getD}
 use Rattle.table.specs.Pick.{pick, Range}
 use Rattle.table.specs.Syntax.{Expr, Exprs, none, some}
-use Rattle.table.specs.Bytes.{functions, nodes, first}
+use Rattle.table.specs.Bytes.{functions, nodes, kind, word, first}
 use Rattle.table.specs.Naming.{owner}
 use Rattle.table.specs.Check.{accepted, checkOf}
 use Rattle.table.specs.Expressions.{exprsAt, exprAt, bodyOf, defsAt, finalAt}
@@ -67,9 +67,17 @@ siblings t defs c = pick defs (defsAt t c) (exprsAt t c)
 abbrev pub kidsAt : List ℕ → Bool → ℕ → Exprs
 kidsAt t defs n = siblings t defs (first t n)
 
--- set h of a row of sets begins at bit 512 h: of function h the nodes that call it
+-- node m calls function h, its own maybe
+abbrev pub site : List ℕ → ℕ → ℕ → Bool
+site t h m = eqb (kind t m) 4 && eqb h (word t m)
+
+-- set h of a row of sets begins at bit 512 h: of function h the nodes, up to k, that call it
+pub record SitedTo (t : List ℕ) (k : ℕ) (sites : List ℕ) : Type 0 where
+  pub size : length sites ≡ 2112
+  pub bits : (h m : ℕ) → Range 32 h → Bit m → tagged sites (512 * h + m) ≡ leb m k && site t h m
+
 abbrev pub Sited : List ℕ → List ℕ → Type 0
-Sited t sites = (h m : ℕ) → Range 32 h → Bit m → tagged sites (512 * h + m) ≡ leb m (nodes t) && eqb h (calleeOf t m)
+Sited t sites = SitedTo t (nodes t) sites
 
 -- what a set has in common with those of the sets 1 to k of a row that a mask names
 unfoldable pub meetOf : (set row : List ℕ) (mask k : ℕ) → Test
@@ -86,6 +94,11 @@ pub record Kept (g : ℕ) (set row row′ : List ℕ) : Type 0 where
   pub size : length row′ ≡ 2112
   pub same : (m : ℕ) → Bit m → tagged row′ (512 * g + m) ≡ tagged set m
   pub other : (h m : ℕ) → (h ≡ g → ⊥) → Bit m → tagged row′ (512 * h + m) ≡ tagged row (512 * h + m)
+
+-- a row to whose set g node n was added
+pub record PutAt (g n : ℕ) (row row′ : List ℕ) : Type 0 where
+  pub size : length row′ ≡ 2112
+  pub bits : (h m : ℕ) → Range 32 h → Bit m → tagged row′ (512 * h + m) ≡ tagged row (512 * h + m) || (eqb g h && eqb n m)
 
 -- a function whose body has been walked
 abbrev pub Seen : List ℕ → ℕ → Type 0

@@ -7,7 +7,7 @@ ghost use Prim.Native.Nat.{ℕ, _+_, _-_, _*_, _%_, _^_, _≤_};
 ghost use lib.Dec.{eqb};
 ghost use lib.ListN.{length};
 ghost use Rattle.list.specs.Tags.{tagged};
-ghost use Rattle.list.specs.Working.{bitAt, Bit, Adds, Kept, meetOf};
+ghost use Rattle.list.specs.Working.{bitAt, Bit, Adds, PutAt, Kept, meetOf};
 
 // The bit of node n in its byte.
 fn bit(n: u16) -> u8
@@ -26,6 +26,17 @@ pub(crate) fn put(set: &mut [u8; 64], n: Node)
     let at = ((k - 1) / 8) as usize;
     let x = set[at];
     set[at] = x | bit(k);
+}
+
+// Puts node n into set g of a row.
+pub(crate) fn put_at(row: &mut [u8; 2112], g: Function, n: Node)
+    requires { ⌜ (length (now row) ≡ 2112) × (g .0 ≤ 32) × Bit (n .0) ⌝ }
+    ensures { λ _. ⌜ PutAt (g .0) (n .0) (now (row .entry)) (now (row .exit)) ⌝ }
+{
+    let k = n.0;
+    let at = 64 * (g.0 as usize) + ((k - 1) / 8) as usize;
+    let x = row[at];
+    row[at] = x | bit(k);
 }
 
 // Joins another set to a set.
