@@ -15,3 +15,6 @@ pub mod SiteLaws
 pub mod NodeWalks
 pub mod WalkMeasure
 pub mod TagFacts
+pub mod Owners
+pub mod TagLoops
+pub mod TagVerdicts

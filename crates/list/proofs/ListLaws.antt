@@ -97,7 +97,7 @@ number-is s (suc k) n x h f =
     moved n j = omega arith
 
 -- the first bytes of the set are the tag bytes
-module _ (t : List ℕ) (ok : Taken t) (found : List ℕ) (size : length found ≡ 64) (fits : (i : ℕ) → getD found i 0 < 256)
+module _ (t : List ℕ) (ok : Taken t) (found : List ℕ) (size : length found ≡ 64) (fits : (i : ℕ) → i < tagLength t → getD found i 0 < 256)
     (is : (m : ℕ) → Bit m → tagged found m ≡ listed t m) where
   s : Test
   s n = leb n (nodes t) && listed t n
@@ -138,7 +138,7 @@ module _ (t : List ℕ) (ok : Taken t) (found : List ℕ) (size : length found �
       ext-getD 0 (take (tagLength t) found) (bytesFrom s (tagLength t) 1) (cut ∙ sym (bytes-length s (tagLength t) 1))
       (λ i h. let l : i < tagLength t = omega (arith, h, cut) in
       getD-take (tagLength t) found i 0 l
-      ∙ number-is s 8 (1 + 8 * i) (getD found i 0) (fits i) (λ j q. bits-at i j (omega (arith, l, short)) q)
+      ∙ number-is s 8 (1 + 8 * i) (getD found i 0) (fits i l) (λ j q. bits-at i j (omega (arith, l, short)) q)
       ∙ sym (byte-is s (tagLength t) 1 i l))
     where
       cut : length (take (tagLength t) found) ≡ tagLength t

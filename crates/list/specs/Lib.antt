@@ -3,4 +3,5 @@ pub mod Conflict
 pub mod CallSets
 pub mod Arbiters
 pub mod Tags
+pub mod Records
 pub mod Working
