@@ -117,7 +117,7 @@ module _ (N : ℕ) (calleeᵇ callee : ℕ → ℕ) (same : (n : ℕ) → callee
       (λ i. or-decides (tᵇ i) (callsIn N calleeᵇ Bᵇ e i) (y i) (C-decides e i))
       (λ i h. ⊎-elim (λ u. r i u) (λ u. C-all (Range N) callee B ranged e (λ c g j. k c g (inl j)) i u) h) (λ c g j. k c g (inr j)) m)
 
-  first-decides : (es : Exprs) → Calling* (Range N) es → (m : ℕ) → Decides (parallel N calleeᵇ Bᵇ nothing es m) (PC callee B ∅ es m)
+  pub first-decides : (es : Exprs) → Calling* (Range N) es → (m : ℕ) → Decides (parallel N calleeᵇ Bᵇ nothing es m) (PC callee B ∅ es m)
   unfolding nothing
   first-decides es k m = PC-decides nothing ∅ es (λ i. no-decides) (λ i h. absurd h) k m
 

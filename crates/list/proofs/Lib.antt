@@ -3,6 +3,8 @@ pub mod Bytewise
 pub mod Meets
 pub mod ListedCalls
 pub mod ArbiterFacts
+pub mod PaperConflict
+pub mod Designs
 pub mod CallSetFacts
 pub mod Callees
 pub mod CallLaws

@@ -1,5 +1,6 @@
 pub mod Sets
 pub mod Conflict
+pub mod Paper
 pub mod CallSets
 pub mod Arbiters
 pub mod Tags
