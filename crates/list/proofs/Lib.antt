@@ -17,6 +17,8 @@ pub mod SiteLaws
 pub mod NodeWalks
 pub mod WalkMeasure
 pub mod TagFacts
+pub mod Totals
+pub mod RecordLoops
 pub mod Owners
 pub mod TagLoops
 pub mod TagVerdicts
