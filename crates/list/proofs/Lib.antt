@@ -19,6 +19,7 @@ pub mod WalkMeasure
 pub mod TagFacts
 pub mod Totals
 pub mod RecordLoops
+pub mod RecordVerdicts
 pub mod Owners
 pub mod TagLoops
 pub mod TagVerdicts
