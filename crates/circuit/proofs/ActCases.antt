@@ -6,7 +6,7 @@ use mathlib.Core.Logic.{inl, inr}
 use native.Mathlib.Omega.{arith}
 use lib.Dec.{eqb}
 use Rattle.table.specs.Syntax.{Expr, const, param, prim, call, self, cond, bind, bound, id}
-use Rattle.circuit.specs.Machine.{State}
+use Rattle.circuit.specs.State.{View}
 use Rattle.circuit.proofs.Shape.{Open, Live}
 use Rattle.table.specs.Pick.{pick}
 use Rattle.table.proofs.Tests.{eqb-true}
@@ -23,7 +23,7 @@ module _ (P : Act → Type 0) where
       (λ e. by-pick (eqb t 2) b stuck (λ e. g (eqb-true t 2 e)) (λ e. z))
 
 -- an opened node at status 1 is not in its second phase
-pub live-open : (s : State) (u : Expr) → Live s u → s .status (id u) ≡ 1 → Open s (id u)
+pub live-open : (s : View) (u : Expr) → Live s u → s .status (id u) ≡ 1 → Open s (id u)
 live-open s (const n v) l e = l
 live-open s (param n i) l e = l
 live-open s (prim n op es) (inl l) e = l .0

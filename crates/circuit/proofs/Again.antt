@@ -7,14 +7,14 @@ use mathlib.Core.List.{List}
 use native.Mathlib.Omega.{arith}
 use native.Mathlib.Decide.{ℕ-discrete}
 use Rattle.table.specs.Syntax.{Expr, Exprs, self, Every, Node}
-use Rattle.circuit.specs.Machine.{State}
+use Rattle.circuit.specs.State.{View}
 use Rattle.circuit.proofs.Shape.{Still, Busy, Live, Opened}
 use Rattle.table.specs.Well.{CallIn, Well}
 use Rattle.table.proofs.CallPlaces.{call-node}
 use Rattle.circuit.proofs.SelfCalls.{self-alone}
 use Rattle.circuit.proofs.Invariant.{Fn, Active, AgainStep, Sound, new-live, stepping, aside, aside-rest}
 
-module _ (apply : ℕ → List ℕ → ℕ) (F : ℕ) (body : ℕ → Expr) (well : Well F body) (s s′ : State) (sound : Sound apply F body s)
+module _ (apply : ℕ → List ℕ → ℕ) (F : ℕ) (body : ℕ → Expr) (well : Well F body) (s s′ : View) (sound : Sound apply F body s)
     (h : ℕ) (r : Fn apply F body h) (n : ℕ) (es : Exprs) (st : AgainStep apply F body s s′ h n es) where
   abbrev U : Expr
   U = self n es

@@ -8,7 +8,7 @@ use native.Mathlib.Omega.{arith}
 use native.Mathlib.Decide.{ℕ-discrete}
 use lib.ListN.{getD}
 use Rattle.table.specs.Syntax.{Expr, id, Every, Node}
-use Rattle.circuit.specs.Machine.{State}
+use Rattle.circuit.specs.State.{View}
 use Rattle.circuit.proofs.Shape.{Still, Busy, Done, Opened}
 use Rattle.circuit.proofs.Moves.{finished}
 use Rattle.table.specs.Well.{CallIn, Well}
@@ -18,7 +18,7 @@ use Rattle.circuit.proofs.Invariant.{Step, inner, enter, leave, again, 
 use Rattle.circuit.specs.Reading.{Outcome, val, Readings, Reads}
 use Rattle.circuit.proofs.Counts.{left-reads, over-left}
 use Rattle.circuit.proofs.Total.{step-before}
-use Rattle.circuit.specs.Sums.{sumTo}
+use Rattle.table.specs.Find.{total}
 use Rattle.circuit.proofs.SumLaws.{sum-zero}
 use Rattle.circuit.proofs.Remaining.{Ends, nowhere, Rest, Expects}
 use Rattle.circuit.proofs.Enter as Enter
@@ -26,23 +26,23 @@ use Rattle.circuit.proofs.Leave as Leave
 use Rattle.circuit.proofs.Again as Again
 
 module _ (apply : ℕ → List ℕ → ℕ) (F : ℕ) (body : ℕ → Expr) (well : Well F body) where
-  pub step-sound : (s s′ : State) → Sound apply F body s → Step apply F body s s′ → Sound apply F body s′
+  pub step-sound : (s s′ : View) → Sound apply F body s → Step apply F body s s′ → Sound apply F body s′
   step-sound s s′ d (inner h r u st) = inner-sound apply F body well s s′ d h r u st
   step-sound s s′ d (enter h r n g es st) = Enter.enter-sound apply F body well s s′ d h r n g es st
   step-sound s s′ d (leave h r n g es st) = Leave.leave-sound apply F body well s s′ d h r n g es st
   step-sound s s′ d (again h r n es st) = Again.again-sound apply F body well s s′ d h r n es st
 
   -- n steps lead from s to s′
-  pub data Steps (s : State) : State → ℕ → Type 0 where
+  pub data Steps (s : View) : View → ℕ → Type 0 where
     rest : Steps s s 0
-    then : {t u : State} {n : ℕ} → Steps s t n → Step apply F body t u → Steps s u (suc n)
+    then : {t u : View} {n : ℕ} → Steps s t n → Step apply F body t u → Steps s u (suc n)
 
-  pub steps-sound : (s s′ : State) (n : ℕ) → Sound apply F body s → Steps s s′ n → Sound apply F body s′
+  pub steps-sound : (s s′ : View) (n : ℕ) → Sound apply F body s → Steps s s′ n → Sound apply F body s′
   steps-sound s s′ n d rest = d
   steps-sound s s′ n d (then {t = t} p st) = step-sound t s′ (steps-sound s t _ d p) st
 
   -- main's root is done: nothing else is under way
-  module _ (s : State) (sound : Sound apply F body s) (r : Fn apply F body F) (over : s .status (id (body F)) ≡ 3) where
+  module _ (s : View) (sound : Sound apply F body s) (r : Fn apply F body F) (over : s .status (id (body F)) ≡ 3) where
     main-done : Done s (body F)
     main-done = finished s (body F) (sound .opened F r (inl refl)) over
 
@@ -68,15 +68,15 @@ module _ (apply : ℕ → List ℕ → ℕ) (F : ℕ) (body : ℕ → Expr) (wel
   module _ (K : Readings)
       (reads : (f v : ℕ) (vs : List ℕ) (o : Outcome) (j i : ℕ) → Fn apply F body f
       → Reads apply K (λ x. getD vs x 0) (body f) (nowhere apply F body K) o j → Ends apply F body K f o v i → K f vs v (j + i)) where
-    pub steps-before : (s s′ : State) (n : ℕ) (W′ R′ : ℕ → ℕ) → Sound apply F body s → Steps s s′ n → Expects apply F body K s′ W′ R′
-        → (W R : ℕ → ℕ) × Expects apply F body K s W R × (sumTo F R ≡ n + sumTo F R′) × (W 0 ≡ W′ 0)
+    pub steps-before : (s s′ : View) (n : ℕ) (W′ R′ : ℕ → ℕ) → Sound apply F body s → Steps s s′ n → Expects apply F body K s′ W′ R′
+        → (W R : ℕ → ℕ) × Expects apply F body K s W R × (total R F ≡ n + total R′ F) × (W 0 ≡ W′ 0)
     steps-before s s′ n W′ R′ d rest e = (W′, R′, e, omega arith, refl)
     steps-before s s′ n W′ R′ d (then {t = t} {n = k} p st) e =
         let b = step-before apply F body K well reads t s′ (steps-sound s t k d p) W′ R′ e st in
         let c = steps-before s t k (b .0) (b .1) d p (b .2) in
         (c .0, c .1, c .2, omega (arith, c .3, b .3), c .4 ∙ b .4)
 
-    end : (s : State) → Sound apply F body s → Fn apply F body F → s .status (id (body F)) ≡ 3
+    end : (s : View) → Sound apply F body s → Fn apply F body F → s .status (id (body F)) ≡ 3
         → Expects apply F body K s (λ m. s .value (id (body F))) (λ f. 0)
     end s d r h = record { active = λ f q a. act f q a (ℕ-discrete f F); rest = λ f q a. refl }
       where
@@ -98,13 +98,13 @@ module _ (apply : ℕ → List ℕ → ℕ) (F : ℕ) (body : ℕ → Expr) (wel
         act f q (inr a) (no e) = absurd (a (asleep s d r h (suc F) f (omega arith) q e))
 
     -- a started circuit: main's body new, every other body idle, every resource free
-    pub record Started (s : State) (args : List ℕ) : Type 0 where
+    pub record Started (s : View) (args : List ℕ) : Type 0 where
       pub main : New apply F body s F
       pub others : (f : ℕ) → Fn apply F body f → (f ≡ F → ⊥) → Every (Still s) (body f)
       pub free : (f : ℕ) → s .occupant f ≡ 0
       pub arguments : (i : ℕ) → s .register F i ≡ getD args i 0
 
-    pub started-sound : (s : State) (args : List ℕ) → Started s args → Sound apply F body s
+    pub started-sound : (s : View) (args : List ℕ) → Started s args → Sound apply F body s
     started-sound s args st = record {
       opened = λ f q a. opened-f f a;
       rest = λ f q a. st .others f q (λ e. a (inl e));
@@ -116,18 +116,18 @@ module _ (apply : ℕ → List ℕ → ℕ) (F : ℕ) (body : ℕ → Expr) (wel
         opened-f f (inl e) = subst (λ x. Opened s (body x)) (sym e) (inl (new-live apply F body s (body F) (st .main .0) (st .main .1)))
         opened-f f (inr z) = absurd (z (st .free f))
 
-    sum-main : (k : ℕ) (R : ℕ → ℕ) → ((f : ℕ) → 1 ≤ f → f ≤ k → R f ≡ 0) → sumTo k R ≡ 0
-    unfolding sumTo
+    sum-main : (k : ℕ) (R : ℕ → ℕ) → ((f : ℕ) → 1 ≤ f → f ≤ k → R f ≡ 0) → total R k ≡ 0
+    unfolding total
     sum-main zero R h = refl
     sum-main (suc k) R h = omega (arith, h (suc k) (omega arith) (omega arith), sum-main k R (λ f a b. h f a (omega arith)))
 
-    sum-last : (k : ℕ) (R : ℕ → ℕ) → 1 ≤ k → ((f : ℕ) → 1 ≤ f → f < k → R f ≡ 0) → sumTo k R ≡ R k
-    unfolding sumTo
+    sum-last : (k : ℕ) (R : ℕ → ℕ) → 1 ≤ k → ((f : ℕ) → 1 ≤ f → f < k → R f ≡ 0) → total R k ≡ R k
+    unfolding total
     sum-last zero R a h = absurd (omega arith)
     sum-last (suc k) R a h = omega (arith, sum-main k R (λ f p q. h f p (omega arith)))
 
     -- the third demand's last sentence
-    pub answer : (s s′ : State) (args : List ℕ) (n : ℕ) → Fn apply F body F → Started s args → Steps s s′ n → s′ .status (id (body F)) ≡ 3
+    pub answer : (s s′ : View) (args : List ℕ) (n : ℕ) → Fn apply F body F → Started s args → Steps s s′ n → s′ .status (id (body F)) ≡ 3
         → K F args (s′ .value (id (body F))) n
     answer s s′ args n r st p h =
         let d = started-sound s args st in

@@ -7,16 +7,15 @@ use mathlib.Core.List.{List}
 use native.Mathlib.Omega.{arith}
 use native.Mathlib.Decide.{ℕ-discrete}
 use Rattle.table.specs.Syntax.{Expr, Exprs, const, param, prim, call, self, cond, bind, bound, none, some, id, Every, Every*}
-use Rattle.circuit.specs.Machine.{State}
+use Rattle.circuit.specs.State.{View, entry}
 use Rattle.circuit.proofs.Shape.{Still, Idle, Open, Busy, Live, Opened*, Opened}
-use Rattle.circuit.specs.TakenBy.{Taken}
+use Rattle.circuit.specs.Reading.{Chosen}
 use Rattle.table.proofs.SyntaxLaws.{every-node}
 use Rattle.circuit.proofs.Moves.{both, both*, done*-still}
 use Rattle.table.proofs.CallPlaces.{call-node}
 use Rattle.circuit.proofs.Invariant.{Fn, Active, Sound, active?}
 use Rattle.table.specs.Pick.{pick}
 use Rattle.table.proofs.Tests.{ltb-no}
-use Rattle.circuit.specs.State.{entry}
 use Rattle.circuit.specs.Step.{over}
 use Rattle.table.specs.Well.{Laid}
 use Rattle.circuit.proofs.LaidFacts.{own-node}
@@ -28,7 +27,7 @@ over-none limit (suc k) l f =
     ap (λ b. pick b true (over limit k l)) (ltb-no limit (entry l 0 (suc k)) (λ h. omega (arith, h, f (suc k) (omega arith) (omega arith))))
     ∙ over-none limit k l (λ m p q. f m p (omega arith))
 
-module _ (s : State) where
+module _ (s : View) where
   abbrev Small : ℕ → Type 0
   Small m = s .status m ≤ 3
 
@@ -55,7 +54,7 @@ module _ (s : State) where
   opened-small e f (inr d) = still-small e (d .1)
 
   taken-small : (b c : Expr) → (Live s b → Every Small b) → (Live s c → Every Small c) → (v : ℕ)
-      → Taken (Opened s b × Every (Idle s) c) (Opened s c × Every (Idle s) b) v → Every Small b × Every Small c
+      → Chosen (Opened s b × Every (Idle s) c) (Opened s c × Every (Idle s) b) v → Every Small b × Every Small c
   taken-small b c f g zero t = (idle-small b (t .1), opened-small c g (t .0))
   taken-small b c f g (suc v) t = (opened-small b f (t .0), idle-small c (t .1))
 
@@ -93,7 +92,7 @@ module _ (s : State) where
     live-small* none o = tt
     live-small* (some e es) o = (opened-small e (λ z. live-small e z) (o .0), live-small* es (o .1))
 
-module _ (apply : ℕ → List ℕ → ℕ) {F N : ℕ} {body at : ℕ → Expr} {home : ℕ → ℕ} (laid : Laid F N body at home) (s : State)
+module _ (apply : ℕ → List ℕ → ℕ) {F N : ℕ} {body at : ℕ → Expr} {home : ℕ → ℕ} (laid : Laid F N body at home) (s : View)
     (sound : Sound apply F body s) where
   pub status-bound : (m : ℕ) → 1 ≤ m → m ≤ N → s .status m ≤ 3
   status-bound m p q = every-node (Small s) m (body (home m)) (go (active? apply F body s (home m))) (own-node laid (home m) m p q refl)

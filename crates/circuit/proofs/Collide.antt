@@ -7,7 +7,7 @@ use mathlib.Core.List.{List}
 use native.Mathlib.Omega.{arith}
 use native.Mathlib.Decide.{ℕ-discrete, decLt}
 use Rattle.table.specs.Syntax.{Expr, Exprs, const, param, prim, call, self, cond, bind, bound, none, some, Sub, Sub*}
-use Rattle.circuit.specs.Machine.{State}
+use Rattle.circuit.specs.State.{View}
 use Rattle.circuit.proofs.Shape.{Still, Busy, Done*, Live}
 use Rattle.circuit.proofs.Moves.{Finished*, finished*}
 use Rattle.table.proofs.CallPlaces.{find, sub-call}
@@ -18,7 +18,7 @@ use Rattle.list.specs.Sets.{Calls}
 use Rattle.list.specs.Conflict.{C, A}
 use Rattle.circuit.proofs.Exclusive.{Way, Way*, way-C, meet}
 
-module _ (apply : ℕ → List ℕ → ℕ) (F : ℕ) (body : ℕ → Expr) (s : State) (callee : ℕ → ℕ) (B : ℕ → Calls) where
+module _ (apply : ℕ → List ℕ → ℕ) (F : ℕ) (body : ℕ → Expr) (s : View) (callee : ℕ → ℕ) (B : ℕ → Calls) where
   -- a busy call whose arguments are done is a way to itself and to each call of the body that it calls
   module _ (n g α : ℕ) (es : Exprs) (busy : s .status n ≡ 2) (done : Done* s es) (goes : (n ≡ α) ⊎ B g α) where
     own : (e : Expr) → call n g es ≡ e → Way s callee B n α e

@@ -6,17 +6,16 @@ use mathlib.Core.Logic.{_⊎_, inl, inr, ⊎-elim}
 use mathlib.Core.List.{List, _∷_}
 use native.Mathlib.Omega.{arith}
 use Rattle.table.specs.Syntax.{Expr, Exprs, const, param, prim, call, self, cond, bind, bound, none, some, id, Every, Every*}
-use Rattle.circuit.specs.Machine.{State}
-use Rattle.circuit.specs.TakenBy.{Taken}
+use Rattle.circuit.specs.State.{View}
+use Rattle.circuit.specs.Reading.{Chosen, Outcome, val, last, Readings, Reads, Reads*}
 use Rattle.circuit.proofs.Shape.{Live}
 use Rattle.circuit.proofs.Frame.{Same}
-use Rattle.circuit.specs.Reading.{Outcome, val, last, Readings, Reads, Reads*}
 use Rattle.table.specs.Environment.{extend, values}
 use Rattle.circuit.proofs.Left.{Left, Left*, Over, Fresh}
 use Rattle.table.specs.Well.{Fits}
 use Rattle.circuit.proofs.Moves.{Finished*, Becomes, Opens, Opens*, Inner, every-id}
 
-module _ (apply : ℕ → List ℕ → ℕ) (K : Readings) (s : State) (W : ℕ → ℕ) (args : ℕ → ℕ) where
+module _ (apply : ℕ → List ℕ → ℕ) (K : Readings) (s : View) (W : ℕ → ℕ) (args : ℕ → ℕ) where
   -- of an expression that is idle or open, all is left
   pub left-reads : (e : Expr) → (s .status (id e) ≡ 0) ⊎ (s .status (id e) ≡ 1) → (ρ : ℕ → ℕ) (o : Outcome) (k : ℕ)
       → Left apply K s W args e ρ o k → Reads apply K args e ρ o k
@@ -83,7 +82,7 @@ module _ (apply : ℕ → List ℕ → ℕ) (K : Readings) (s : State) (W : ℕ 
   fresh-left (bind n ds b) ρ o k h = inr (inl h)
   fresh-left (bound n d) ρ o k h = inr h
 
-module _ (apply : ℕ → List ℕ → ℕ) (K : Readings) (s s′ : State) (W : ℕ → ℕ) (args : ℕ → ℕ) where
+module _ (apply : ℕ → List ℕ → ℕ) (K : Readings) (s s′ : View) (W : ℕ → ℕ) (args : ℕ → ℕ) where
   abbrev Now : Expr → (ℕ → ℕ) → Outcome → ℕ → Type 0
   Now = Left apply K s′ W args
 
@@ -230,30 +229,30 @@ module _ (apply : ℕ → List ℕ → ℕ) (K : Readings) (s s′ : State) (W :
           0,
           h .1 .0,
           over-left apply K s W args a ρ (val (s .value (id a))) 0 (r .1, refl, refl),
-          at (s .value (id a)) (r .4) (subst (Taken (Now b ρ o (h .1 .0)) (Now c ρ o (h .1 .0))) (every-id s s′ (Same s s′) a (r .3) .2)
+          at (s .value (id a)) (r .4) (subst (Chosen (Now b ρ o (h .1 .0)) (Now c ρ o (h .1 .0))) (every-id s s′ (Same s s′) a (r .3) .2)
               (h .1 .1)),
           omega (arith, h .1 .2),
         ),
       )))
     where
-      at : (v : ℕ) → Taken (Opens apply args s s′ b × Every (Same s s′) c) (Opens apply args s s′ c × Every (Same s s′) b) v
-          → Taken (Now b ρ o (h .1 .0)) (Now c ρ o (h .1 .0)) v
-          → Taken (Reads apply K args b ρ o (h .1 .0)) (Reads apply K args c ρ o (h .1 .0)) v
+      at : (v : ℕ) → Chosen (Opens apply args s s′ b × Every (Same s s′) c) (Opens apply args s s′ c × Every (Same s s′) b) v
+          → Chosen (Now b ρ o (h .1 .0)) (Now c ρ o (h .1 .0)) v
+          → Chosen (Reads apply K args b ρ o (h .1 .0)) (Reads apply K args c ρ o (h .1 .0)) v
       at zero p t = opened-reads c ρ o (h .1 .0) (p .0) t
       at (suc v) p t = opened-reads b ρ o (h .1 .0) (p .0) t
   inner-left (cond n a b c) (inr (inr r)) l ρ o k f h =
       inr (inr (inr (r .0, (0, at (s .value (id a)) (r .1), counts (s .value (id a)) (r .1)))))
     where
-      at : (v : ℕ) → Taken ((s .status (id b) ≡ 3) × Becomes apply args s s′ n (s .value (id b))) ((s .status (id c) ≡ 3)
+      at : (v : ℕ) → Chosen ((s .status (id b) ≡ 3) × Becomes apply args s s′ n (s .value (id b))) ((s .status (id c) ≡ 3)
           × Becomes apply args s s′ n (s .value (id c))) v
-          → Taken (Left apply K s W args b ρ o 0) (Left apply K s W args c ρ o 0) v
+          → Chosen (Left apply K s W args b ρ o 0) (Left apply K s W args c ρ o 0) v
       at zero t = over-left apply K s W args c ρ o 0 (t .0, became (cond n a b c) (s .value (id c)) ρ o k (t .1) h .0, refl)
       at (suc v) t = over-left apply K s W args b ρ o 0 (t .0, became (cond n a b c) (s .value (id b)) ρ o k (t .1) h .0, refl)
 
       ends : (v : ℕ) → (o ≡ val v) × (k ≡ 0) → 1 + k ≡ last o + 0
       ends v e = omega (arith, ap last (e .0), e .1)
 
-      counts : (v : ℕ) → Taken ((s .status (id b) ≡ 3) × Becomes apply args s s′ n (s .value (id b))) ((s .status (id c) ≡ 3)
+      counts : (v : ℕ) → Chosen ((s .status (id b) ≡ 3) × Becomes apply args s s′ n (s .value (id b))) ((s .status (id c) ≡ 3)
           × Becomes apply args s s′ n (s .value (id c))) v → 1 + k ≡ last o + 0
       counts zero t = ends (s .value (id c)) (became (cond n a b c) (s .value (id c)) ρ o k (t .1) h)
       counts (suc v) t = ends (s .value (id b)) (became (cond n a b c) (s .value (id b)) ρ o k (t .1) h)

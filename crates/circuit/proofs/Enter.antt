@@ -7,7 +7,7 @@ use mathlib.Core.List.{List}
 use native.Mathlib.Omega.{arith}
 use native.Mathlib.Decide.{ℕ-discrete}
 use Rattle.table.specs.Syntax.{Expr, Exprs, call, Every, Node, Node*}
-use Rattle.circuit.specs.Machine.{State}
+use Rattle.circuit.specs.State.{View}
 use Rattle.circuit.proofs.Shape.{Still, Busy, Live, Opened}
 use Rattle.circuit.proofs.Frame.{Same, opened-over, done-over*}
 use Rattle.table.proofs.SyntaxLaws.{apart-sub, node?}
@@ -19,7 +19,7 @@ use Rattle.table.proofs.CallPlaces.{call-node, sub-call}
 use Rattle.circuit.proofs.Places.{still-busy}
 use Rattle.circuit.proofs.Invariant.{Fn, Active, EnterStep, Sound, new-live, stepping, aside, aside-rest}
 
-module _ (apply : ℕ → List ℕ → ℕ) (F : ℕ) (body : ℕ → Expr) (well : Well F body) (s s′ : State) (sound : Sound apply F body s)
+module _ (apply : ℕ → List ℕ → ℕ) (F : ℕ) (body : ℕ → Expr) (well : Well F body) (s s′ : View) (sound : Sound apply F body s)
     (h : ℕ) (r : Fn apply F body h) (n g : ℕ) (es : Exprs) (st : EnterStep apply F body s s′ h n g es) where
   abbrev U : Expr
   U = call n g es
@@ -53,7 +53,7 @@ module _ (apply : ℕ → List ℕ → ℕ) (F : ℕ) (body : ℕ → Expr) (wel
   apart-hg m a b = h≢g (well .owner h g m (r .0) (r .1) (fn-g .0) (fn-g .1) a b)
 
   -- the state after the step, but with g's body as it was
-  abbrev pub t : State
+  abbrev pub t : View
   t = mix (body g) s s′
 
   pub keeps-t : (m : ℕ) → (m ≡ n → ⊥) → Same s t m

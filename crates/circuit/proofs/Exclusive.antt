@@ -6,11 +6,11 @@ use native.Mathlib.Omega.{arith}
 use Rattle.table.specs.Syntax.{Expr, Exprs, const, param, prim, call, self, cond, bind, bound, none, some, id, Every, Every*}
 use Rattle.list.specs.Sets.{Calls, ∅, only, _∪_}
 use Rattle.list.specs.Conflict.{C, C*, PC, A, A*}
-use Rattle.circuit.specs.Machine.{State}
+use Rattle.circuit.specs.State.{View}
 use Rattle.circuit.proofs.Shape.{Still, Idle, Done, Done*, Opened*, Opened}
-use Rattle.circuit.specs.TakenBy.{Taken}
+use Rattle.circuit.specs.Reading.{Chosen}
 
-module _ (s : State) (callee : ℕ → ℕ) (B : ℕ → Calls) where
+module _ (s : View) (callee : ℕ → ℕ) (B : ℕ → Calls) where
   -- the call u of e is under way with its arguments done, and α is that call or one of the body that it calls
   abbrev mutual
     pub Way : ℕ → ℕ → Expr → Type 0
@@ -110,7 +110,7 @@ module _ (s : State) (callee : ℕ → ℕ) (B : ℕ → Calls) where
     abbrev Meet : Expr → Type 0
     Meet e = Opened s e → Way u α e → Way u′ β e → A callee B e α
 
-    branches : (a b c : Expr) → Meet b → Meet c → (v : ℕ) → Taken (Opened s b × Every (Idle s) c) (Opened s c × Every (Idle s) b) v
+    branches : (a b c : Expr) → Meet b → Meet c → (v : ℕ) → Chosen (Opened s b × Every (Idle s) c) (Opened s c × Every (Idle s) b) v
         → Way u α b ⊎ Way u α c → Way u′ β b ⊎ Way u′ β c → (A callee B a ∪ A callee B b ∪ A callee B c) α
     branches a b c mb mc zero t (inl w) w′ = absurd (idle-way u α b (t .1) w)
     branches a b c mb mc zero t (inr w) (inl w′) = absurd (idle-way u′ β b (t .1) w′)

@@ -4,16 +4,16 @@ use mathlib.Core.Bool.{Bool, true, false}
 use mathlib.Core.Path.{_≡_, refl, subst, sym, _∙_}
 use mathlib.Core.Logic.{inl, inr, ⊎-elim}
 use Rattle.table.specs.Syntax.{Expr, Exprs, const, param, prim, call, self, cond, bind, bound, none, some, id, Every, Every*, Node, Node*}
-use Rattle.circuit.specs.Machine.{State}
+use Rattle.circuit.specs.State.{View}
 use Rattle.circuit.proofs.Shape.{Still, Idle, Open, Busy, Done, Done*, Live, Opened*, Opened}
-use Rattle.circuit.specs.TakenBy.{Taken}
+use Rattle.circuit.specs.Reading.{Chosen}
 use Rattle.table.proofs.SyntaxLaws.{node-id}
 
-abbrev pub Same : State → State → ℕ → Type 0
+abbrev pub Same : View → View → ℕ → Type 0
 Same s s′ m = (s′ .status m ≡ s .status m) × (s′ .second m ≡ s .second m) × (s′ .value m ≡ s .value m)
 
 -- what holds of a node by its status and phase alone goes over
-module _ (s s′ : State) (X : ℕ → Type 0) (keeps : (m : ℕ) → (X m → ⊥) → Same s s′ m) (holds : (g m : ℕ) → (X m → ⊥) → (m ≡ 0 → ⊥)
+module _ (s s′ : View) (X : ℕ → Type 0) (keeps : (m : ℕ) → (X m → ⊥) → Same s s′ m) (holds : (g m : ℕ) → (X m → ⊥) → (m ≡ 0 → ⊥)
     → s .occupant g ≡ m → s′ .occupant g ≡ m) where
   abbrev Clear : Expr → Type 0
   Clear e = (m : ℕ) → Node m e → X m → ⊥
@@ -71,10 +71,10 @@ module _ (s s′ : State) (X : ℕ → Type 0) (keeps : (m : ℕ) → (X m → �
   done-over* none c d = tt
   done-over* (some e es) c d = (done-over e (λ m k. c m (inl k)) (d .0), done-over* es (λ m k. c m (inr k)) (d .1))
 
-  pub taken-over : (X₁ Y₁ X₂ Y₂ : Type 0) → (X₁ → X₂) → (Y₁ → Y₂) → (v w : ℕ) → w ≡ v → Taken X₁ Y₁ v → Taken X₂ Y₂ w
-  taken-over X₁ Y₁ X₂ Y₂ f g v w e t = subst (Taken X₂ Y₂) (sym e) (at v t)
+  pub taken-over : (X₁ Y₁ X₂ Y₂ : Type 0) → (X₁ → X₂) → (Y₁ → Y₂) → (v w : ℕ) → w ≡ v → Chosen X₁ Y₁ v → Chosen X₂ Y₂ w
+  taken-over X₁ Y₁ X₂ Y₂ f g v w e t = subst (Chosen X₂ Y₂) (sym e) (at v t)
     where
-      at : (v : ℕ) → Taken X₁ Y₁ v → Taken X₂ Y₂ v
+      at : (v : ℕ) → Chosen X₁ Y₁ v → Chosen X₂ Y₂ v
       at zero t = g t
       at (suc k) t = f t
 

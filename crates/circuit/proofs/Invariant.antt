@@ -8,7 +8,7 @@ use native.Mathlib.Omega.{arith}
 use native.Mathlib.Decide.{ℕ-discrete}
 use lib.ListN.{getD}
 use Rattle.table.specs.Syntax.{Expr, Exprs, const, param, prim, call, self, cond, bind, bound, id, Every, Node, Sub}
-use Rattle.circuit.specs.Machine.{State}
+use Rattle.circuit.specs.State.{View}
 use Rattle.circuit.proofs.Shape.{Still, Idle, Open, Busy, Live, Opened}
 use Rattle.circuit.proofs.Frame.{Same, still-over, opened-over}
 use Rattle.table.proofs.SyntaxLaws.{node-id, sub-node, every-node}
@@ -23,23 +23,23 @@ module _ (apply : ℕ → List ℕ → ℕ) (F : ℕ) (body : ℕ → Expr) wher
   abbrev pub Fn : ℕ → Type 0
   Fn f = (1 ≤ f) × (f ≤ F)
 
-  abbrev pub Active : State → ℕ → Type 0
+  abbrev pub Active : View → ℕ → Type 0
   Active s f = (f ≡ F) ⊎ (s .occupant f ≡ 0 → ⊥)
 
   -- a body newly opened
-  abbrev pub New : State → ℕ → Type 0
+  abbrev pub New : View → ℕ → Type 0
   New s f = Open s (id (body f)) × Under (Idle s) (body f)
 
-  abbrev pub SameFn : State → State → ℕ → Type 0
+  abbrev pub SameFn : View → View → ℕ → Type 0
   SameFn s s′ f = (s′ .occupant f ≡ s .occupant f) × ((i : ℕ) → s′ .register f i ≡ s .register f i)
 
-  pub record InnerStep (s s′ : State) (h : ℕ) (u : Expr) : Type 0 where
+  pub record InnerStep (s s′ : View) (h : ℕ) (u : Expr) : Type 0 where
     pub place : Sub u (body h)
     pub rule : Inner apply (s .register h) s s′ u
     pub keeps : (m : ℕ) → (Node m u → ⊥) → Same s s′ m
     pub keepsFn : (f : ℕ) → SameFn s s′ f
 
-  pub record EnterStep (s s′ : State) (h n g : ℕ) (es : Exprs) : Type 0 where
+  pub record EnterStep (s s′ : View) (h n g : ℕ) (es : Exprs) : Type 0 where
     pub place : Sub (call n g es) (body h)
     pub waits : Busy s n false
     pub ready : Finished* s es
@@ -51,7 +51,7 @@ module _ (apply : ℕ → List ℕ → ℕ) (F : ℕ) (body : ℕ → Expr) wher
     pub arguments : (i : ℕ) → s′ .register g i ≡ getD (values (s .value) es) i 0
     pub keepsFn : (f : ℕ) → (f ≡ g → ⊥) → SameFn s s′ f
 
-  pub record LeaveStep (s s′ : State) (h n g : ℕ) (es : Exprs) : Type 0 where
+  pub record LeaveStep (s s′ : View) (h n g : ℕ) (es : Exprs) : Type 0 where
     pub place : Sub (call n g es) (body h)
     pub holds : Busy s n true
     pub over : s .status (id (body g)) ≡ 3
@@ -61,7 +61,7 @@ module _ (apply : ℕ → List ℕ → ℕ) (F : ℕ) (body : ℕ → Expr) wher
     pub registers : (i : ℕ) → s′ .register g i ≡ s .register g i
     pub keepsFn : (f : ℕ) → (f ≡ g → ⊥) → SameFn s s′ f
 
-  pub record AgainStep (s s′ : State) (h n : ℕ) (es : Exprs) : Type 0 where
+  pub record AgainStep (s s′ : View) (h n : ℕ) (es : Exprs) : Type 0 where
     pub place : Sub (self n es) (body h)
     pub waits : s .status n ≡ 2
     pub ready : Finished* s es
@@ -71,20 +71,20 @@ module _ (apply : ℕ → List ℕ → ℕ) (F : ℕ) (body : ℕ → Expr) wher
     pub occupants : (f : ℕ) → s′ .occupant f ≡ s .occupant f
     pub keepsFn : (f : ℕ) → (f ≡ h → ⊥) → SameFn s s′ f
 
-  pub data Step (s s′ : State) : Type 0 where
+  pub data Step (s s′ : View) : Type 0 where
     inner : (h : ℕ) → Fn h → (u : Expr) → InnerStep s s′ h u → Step s s′
     enter : (h : ℕ) → Fn h → (n g : ℕ) (es : Exprs) → EnterStep s s′ h n g es → Step s s′
     leave : (h : ℕ) → Fn h → (n g : ℕ) (es : Exprs) → LeaveStep s s′ h n g es → Step s s′
     again : (h : ℕ) → Fn h → (n : ℕ) (es : Exprs) → AgainStep s s′ h n es → Step s s′
 
   -- holds of every state that is reached
-  pub record Sound (s : State) : Type 0 where
+  pub record Sound (s : View) : Type 0 where
     pub opened : (f : ℕ) → Fn f → Active s f → Opened s (body f)
     pub rest : (f : ℕ) → Fn f → (Active s f → ⊥) → Every (Still s) (body f)
     pub held : (f c : ℕ) → Fn f → s .occupant f ≡ c → (c ≡ 0 → ⊥) → (g : ℕ) × Fn g × (f < g) × CallIn c f (body g) × Busy s c true
     pub top : s .occupant F ≡ 0
 
-  pub active? : (s : State) (f : ℕ) → Active s f ⊎ (Active s f → ⊥)
+  pub active? : (s : View) (f : ℕ) → Active s f ⊎ (Active s f → ⊥)
   active? s f = go (ℕ-discrete f F) (ℕ-discrete (s .occupant f) 0)
     where
       go : Dec (f ≡ F) → Dec (s .occupant f ≡ 0) → Active s f ⊎ (Active s f → ⊥)
@@ -92,7 +92,7 @@ module _ (apply : ℕ → List ℕ → ℕ) (F : ℕ) (body : ℕ → Expr) wher
       go (no e) (no z) = inl (inr z)
       go (no e) (yes z) = inr (⊎-elim e (λ k. k z))
 
-  pub new-live : (s : State) (e : Expr) → Open s (id e) → Under (Idle s) e → Live s e
+  pub new-live : (s : View) (e : Expr) → Open s (id e) → Under (Idle s) e → Live s e
   new-live s (const n v) o h = o
   new-live s (param n i) o h = o
   new-live s (prim n op es) o h = inl (o, h)
@@ -102,7 +102,7 @@ module _ (apply : ℕ → List ℕ → ℕ) (F : ℕ) (body : ℕ → Expr) wher
   new-live s (bind n ds b) o h = inl (o, h .0, h .1)
   new-live s (bound n d) o h = o
 
-  module _ (well : Well F body) (s s′ : State) (sound : Sound s) where
+  module _ (well : Well F body) (s s′ : View) (sound : Sound s) where
     -- a node of a body that takes a step: the body is active
     pub stepping : (h : ℕ) → Fn h → (u : Expr) → Sub u (body h) → (Still s (id u) → ⊥) → Active s h × Live s (body h)
     stepping h r u p m = ⊎-elim (λ a. (a, live (sound .opened h r a)))

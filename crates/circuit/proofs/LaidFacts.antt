@@ -9,17 +9,16 @@ use lib.ListN.{length}
 use lib.Dec.{eqb}
 use Rattle.table.specs.Syntax.{Expr, Exprs, const, param, prim, call, self, cond, bind, bound, none, some, id, Every, Every*, Node, Node*}
 use Rattle.table.specs.Syntax.{size, roots}
-use Rattle.circuit.specs.Machine.{State}
+use Rattle.circuit.specs.State.{View, In}
 use Rattle.table.specs.Environment.{values}
 use Rattle.table.specs.Well.{Apart, Apart*, Laid}
 use Rattle.circuit.proofs.Frame.{Same}
 use Rattle.table.proofs.SyntaxLaws.{node-id, sub-node}
 use Rattle.circuit.proofs.Moves.{Under, Finished*, Opens, Opens*}
 use Rattle.table.proofs.Tests.{eqb-true, eqb-yes}
-use Rattle.circuit.specs.State.{In}
 use Rattle.circuit.specs.Step.{all-done}
 
-pub length-values : (s : State) (es : Exprs) → length (values (s .value) es) ≡ size es
+pub length-values : (s : View) (es : Exprs) → length (values (s .value) es) ≡ size es
 length-values s none = refl
 length-values s (some e es) = ap suc (length-values s es)
 
@@ -69,7 +68,7 @@ root-node m (some e es) (inl p) = inl (subst (λ x. Node x e) (sym p) (node-id e
 root-node m (some e es) (inr i) = inr (root-node m es i)
 
 -- a chain whose roots are opened, and nothing else of it changed
-module _ (apply : ℕ → List ℕ → ℕ) (args : ℕ → ℕ) (s s′ : State) where
+module _ (apply : ℕ → List ℕ → ℕ) (args : ℕ → ℕ) (s s′ : View) where
   pub opens-all : (e : Expr) → Apart e → (s′ .status (id e) ≡ 1) × (s′ .second (id e) ≡ s .second (id e))
       → ((m : ℕ) → Node m e → (m ≡ id e → ⊥) → Same s s′ m) → Opens apply args s s′ e
   opens-all e a o f = (o, under-all (Same s s′) e a f)
@@ -83,7 +82,7 @@ module _ (apply : ℕ → List ℕ → ℕ) (args : ℕ → ℕ) (s s′ : State
   )
 
 -- the tests of a chain
-module _ (s : State) where
+module _ (s : View) where
   pub all-done-finished : (es : Exprs) → all-done s es ≡ true → Finished* s es
   all-done-finished none t = tt
   all-done-finished (some e es) t = go (eqb (s .status (id e)) 3) refl t (λ x. all-done-finished es x)

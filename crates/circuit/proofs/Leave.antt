@@ -7,7 +7,7 @@ use mathlib.Core.List.{List}
 use native.Mathlib.Omega.{arith}
 use native.Mathlib.Decide.{ℕ-discrete}
 use Rattle.table.specs.Syntax.{Expr, Exprs, call, Every, Node, Node*}
-use Rattle.circuit.specs.Machine.{State}
+use Rattle.circuit.specs.State.{View}
 use Rattle.circuit.proofs.Shape.{Still, Busy, Done, Live, Opened}
 use Rattle.circuit.proofs.Frame.{done-over*}
 use Rattle.table.proofs.SyntaxLaws.{apart-sub}
@@ -18,7 +18,7 @@ use Rattle.table.proofs.CallPlaces.{call-node, sub-call, call-at}
 use Rattle.circuit.proofs.Places.{sub-live}
 use Rattle.circuit.proofs.Invariant.{Fn, Active, LeaveStep, Sound, stepping, aside, aside-rest}
 
-module _ (apply : ℕ → List ℕ → ℕ) (F : ℕ) (body : ℕ → Expr) (well : Well F body) (s s′ : State) (sound : Sound apply F body s)
+module _ (apply : ℕ → List ℕ → ℕ) (F : ℕ) (body : ℕ → Expr) (well : Well F body) (s s′ : View) (sound : Sound apply F body s)
     (h : ℕ) (r : Fn apply F body h) (n g : ℕ) (es : Exprs) (st : LeaveStep apply F body s s′ h n g es) where
   abbrev U : Expr
   U = call n g es

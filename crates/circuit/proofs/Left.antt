@@ -5,13 +5,12 @@ use mathlib.Core.Path.{_≡_}
 use mathlib.Core.Logic.{_⊎_}
 use mathlib.Core.List.{List, [], _∷_}
 use Rattle.table.specs.Syntax.{Expr, Exprs, const, param, prim, call, self, cond, bind, bound, none, some, id}
-use Rattle.circuit.specs.Machine.{State}
+use Rattle.circuit.specs.State.{View}
 use Rattle.table.specs.Environment.{values, extend}
 use Rattle.circuit.proofs.Shape.{Busy}
-use Rattle.circuit.specs.TakenBy.{Taken}
-use Rattle.circuit.specs.Reading.{Outcome, val, again, last, Readings, Reads}
+use Rattle.circuit.specs.Reading.{Chosen, Outcome, val, again, last, Readings, Reads}
 
-module _ (apply : ℕ → List ℕ → ℕ) (K : Readings) (s : State) (W : ℕ → ℕ) (args : ℕ → ℕ) where
+module _ (apply : ℕ → List ℕ → ℕ) (K : Readings) (s : View) (W : ℕ → ℕ) (args : ℕ → ℕ) where
   abbrev pub Over : ℕ → Outcome → ℕ → Type 0
   Over n o k = (s .status n ≡ 3) × (o ≡ val (s .value n)) × (k ≡ 0)
 
@@ -35,9 +34,9 @@ module _ (apply : ℕ → List ℕ → ℕ) (K : Readings) (s : State) (W : ℕ 
         ⊎ ((s .status n ≡ 2) × ((vs : List ℕ) × (j : ℕ) × Left* es ρ vs j × (o ≡ again vs) × (k ≡ 1 + j)))
     Left (cond n a b c) ρ o k =
         Over n o k ⊎ Fresh (cond n a b c) ρ o k
-        ⊎ (Busy s n false × ((v j i : ℕ) × Left a ρ (val v) j × Taken (Reads apply K args b ρ o i) (Reads apply K args c ρ o i) v
+        ⊎ (Busy s n false × ((v j i : ℕ) × Left a ρ (val v) j × Chosen (Reads apply K args b ρ o i) (Reads apply K args c ρ o i) v
         × (k ≡ 1 + last o + j + i)))
-        ⊎ (Busy s n true × ((i : ℕ) × Taken (Left b ρ o i) (Left c ρ o i) (s .value (id a)) × (k ≡ last o + i)))
+        ⊎ (Busy s n true × ((i : ℕ) × Chosen (Left b ρ o i) (Left c ρ o i) (s .value (id a)) × (k ≡ last o + i)))
     Left (bind n ds b) ρ o k =
         Over n o k ⊎ Fresh (bind n ds b) ρ o k
         ⊎ (Busy s n false × ((vs : List ℕ) × (j i : ℕ) × Left* ds ρ vs j × Reads apply K args b (extend ds vs ρ) o i

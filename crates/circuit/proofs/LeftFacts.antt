@@ -7,19 +7,18 @@ use mathlib.Core.List.{List, _∷_}
 use native.Mathlib.Omega.{arith}
 use Rattle.table.specs.Syntax.{Expr, Exprs, const, param, prim, call, self, cond, bind, bound, none, some, id, Every, Node, Node*, Sub}
 use Rattle.table.specs.Syntax.{Sub*}
-use Rattle.circuit.specs.Machine.{State}
+use Rattle.circuit.specs.State.{View}
 use Rattle.table.specs.Environment.{values, extend}
 use Rattle.circuit.proofs.Shape.{Still, Idle, Busy, Live, Opened*, Opened}
-use Rattle.circuit.specs.TakenBy.{Taken}
+use Rattle.circuit.specs.Reading.{Chosen, Outcome, val, Readings}
 use Rattle.table.specs.Well.{Apart, Apart*, Fits, Fits*}
 use Rattle.circuit.proofs.Frame.{Same}
 use Rattle.table.proofs.SyntaxLaws.{node-id, sub-node, sub-node*}
 use Rattle.circuit.proofs.Within.{idle-not, idle-not*, done-not, done-not*}
-use Rattle.circuit.specs.Reading.{Outcome, val, Readings}
 use Rattle.circuit.proofs.Left.{Over, Fresh, Left, Left*}
 
 -- what is left outside
-module _ (apply : ℕ → List ℕ → ℕ) (K : Readings) (s s′ : State) (W W′ : ℕ → ℕ) (args : ℕ → ℕ) (X : ℕ → Type 0)
+module _ (apply : ℕ → List ℕ → ℕ) (K : Readings) (s s′ : View) (W W′ : ℕ → ℕ) (args : ℕ → ℕ) (X : ℕ → Type 0)
     (keeps : (m : ℕ) → (X m → ⊥) → Same s s′ m) (expects : (m : ℕ) → (X m → ⊥) → W′ m ≡ W m) where
   abbrev After : Expr → (ℕ → ℕ) → Outcome → ℕ → Type 0
   After = Left apply K s′ W′ args
@@ -53,10 +52,10 @@ module _ (apply : ℕ → List ℕ → ℕ) (K : Readings) (s s′ : State) (W W
   values-over none c = refl
   values-over (some e es) c = λ i. keeps (id e) (c (id e) (inl (node-id e))) .2 i ∷ values-over es (λ m k. c m (inr k)) i
 
-  taken-back : (X₁ Y₁ X₂ Y₂ : Type 0) → (X₁ → X₂) → (Y₁ → Y₂) → (v w : ℕ) → v ≡ w → Taken X₁ Y₁ v → Taken X₂ Y₂ w
-  taken-back X₁ Y₁ X₂ Y₂ f g v w e t = subst (Taken X₂ Y₂) e (at v t)
+  taken-back : (X₁ Y₁ X₂ Y₂ : Type 0) → (X₁ → X₂) → (Y₁ → Y₂) → (v w : ℕ) → v ≡ w → Chosen X₁ Y₁ v → Chosen X₂ Y₂ w
+  taken-back X₁ Y₁ X₂ Y₂ f g v w e t = subst (Chosen X₂ Y₂) e (at v t)
     where
-      at : (v : ℕ) → Taken X₁ Y₁ v → Taken X₂ Y₂ v
+      at : (v : ℕ) → Chosen X₁ Y₁ v → Chosen X₂ Y₂ v
       at zero t = g t
       at (suc k) t = f t
 
@@ -151,13 +150,14 @@ module _ (apply : ℕ → List ℕ → ℕ) (K : Readings) (s s′ : State) (W W
     )
 
 -- what is left of a body
-module _ (apply : ℕ → List ℕ → ℕ) (K : Readings) (s s′ : State) (W W′ : ℕ → ℕ) (args : ℕ → ℕ) (u : Expr) (d : ℕ)
+module _ (apply : ℕ → List ℕ → ℕ) (K : Readings) (s s′ : View) (W W′ : ℕ → ℕ) (args : ℕ → ℕ) (u : Expr) (d : ℕ)
     (keeps : (m : ℕ) → (Node m u → ⊥) → Same s s′ m) (expects : (m : ℕ) → (Node m u → ⊥) → W′ m ≡ W m)
     (moving : Still s (id u) → ⊥)
     (local : (ρ : ℕ → ℕ) (o : Outcome) (k : ℕ) → Live s u → Fits (s .value) u ρ → Left apply K s′ W′ args u ρ o k
     → Left apply K s W args u ρ o (d + k)) where
   abbrev Back : Expr → Type 0
-  Back e = (ρ : ℕ → ℕ) (o : Outcome) (k : ℕ) → Live s e → Fits (s .value) e ρ → Left apply K s′ W′ args e ρ o k → Left apply K s W args e ρ o (d + k)
+  Back e = (ρ : ℕ → ℕ) (o : Outcome) (k : ℕ) → Live s e → Fits (s .value) e ρ → Left apply K s′ W′ args e ρ o k
+      → Left apply K s W args e ρ o (d + k)
 
   abbrev Y : ℕ → Type 0
   Y m = Node m u
@@ -183,11 +183,11 @@ module _ (apply : ℕ → List ℕ → ℕ) (K : Readings) (s s′ : State) (W W
   phases′ : (n : ℕ) → (Node n u → ⊥) → s .second n ≡ true → s′ .second n ≡ false → ⊥
   phases′ n x p q = true≢false (sym p ∙ sym (keeps n x .1) ∙ q)
 
-  branch : (L₁ L₂ A₁ A₂ B₁ B₂ : Type 0) → (L₁ → A₁ → B₁) → (L₂ → A₂ → B₂) → (v w : ℕ) → w ≡ v → Taken L₁ L₂ v → Taken A₁ A₂ w
-      → Taken B₁ B₂ v
-  branch L₁ L₂ A₁ A₂ B₁ B₂ f g v w e l t = at v l (subst (Taken A₁ A₂) e t)
+  branch : (L₁ L₂ A₁ A₂ B₁ B₂ : Type 0) → (L₁ → A₁ → B₁) → (L₂ → A₂ → B₂) → (v w : ℕ) → w ≡ v → Chosen L₁ L₂ v → Chosen A₁ A₂ w
+      → Chosen B₁ B₂ v
+  branch L₁ L₂ A₁ A₂ B₁ B₂ f g v w e l t = at v l (subst (Chosen A₁ A₂) e t)
     where
-      at : (v : ℕ) → Taken L₁ L₂ v → Taken A₁ A₂ v → Taken B₁ B₂ v
+      at : (v : ℕ) → Chosen L₁ L₂ v → Chosen A₁ A₂ v → Chosen B₁ B₂ v
       at zero l t = g l t
       at (suc k) l t = f l t
 
@@ -352,7 +352,8 @@ module _ (apply : ℕ → List ℕ → ℕ) (K : Readings) (s s′ : State) (W W
           l .0,
           (
             d + g .1 .0,
-            back-opened b (λ ρ′ o′ k′ l′ f′ h′. left-within b (h .3) p ρ′ o′ k′ l′ f′ h′) p (extend ds (values (s .value) ds) ρ) o (g .1 .0) (l .2)
+            back-opened b (λ ρ′ o′ k′ l′ f′ h′. left-within b (h .3) p ρ′ o′ k′ l′ f′ h′) p (extend ds (values (s .value) ds) ρ) o
+                (g .1 .0) (l .2)
                 (f .1)
                 (subst (λ vs. Left apply K s′ W′ args b (extend ds vs ρ) o (g .1 .0))
                 (values-over apply K s s′ W W′ args Y keeps expects ds (λ m k x. h .4 m k (sub-node u m b p x))) (g .1 .1)),

@@ -8,13 +8,11 @@ use native.Mathlib.Nat.{not-suc-le-zero}
 use native.Mathlib.Decide.{ℕ-discrete}
 use lib.ListN.{getD}
 use Rattle.table.specs.Syntax.{Expr, Exprs, const, param, prim, call, self, cond, bind, bound, none, some}
-use Rattle.circuit.specs.TakenBy.{Taken}
-use Rattle.circuit.specs.Reading.{Outcome, val, again, last, Readings, Reads, Reads*}
+use Rattle.circuit.specs.Reading.{Chosen, Outcome, val, again, last, Readings, Reads, Reads*, Round, stops, goes}
 use Rattle.table.specs.Environment.{extend}
 use Rattle.table.specs.Pick.{mixed}
-use Rattle.circuit.specs.Rounds.{Round, stops, goes}
 use Rattle.table.specs.Well.{CallIn, CallIn*}
-use Rattle.circuit.specs.Rounds as Rounds
+use Rattle.circuit.specs.Reading as Reading
 
 -- a change of what calls read to, for the calls of e
 module _ (apply : ℕ → List ℕ → ℕ) (K K′ : Readings) (args : ℕ → ℕ) where
@@ -50,7 +48,7 @@ module _ (apply : ℕ → List ℕ → ℕ) (K K′ : Readings) (args : ℕ → 
       h .5,
     )
       where
-        either : (v : ℕ) (X Y X′ Y′ : Type 0) → (X → X′) → (Y → Y′) → Taken X Y v → Taken X′ Y′ v
+        either : (v : ℕ) (X Y X′ Y′ : Type 0) → (X → X′) → (Y → Y′) → Chosen X Y v → Chosen X′ Y′ v
         either zero X Y X′ Y′ p q t = q t
         either (suc v) X Y X′ Y′ p q t = p t
     reads-over (bind n ds b) f ρ o k h = (
@@ -108,12 +106,12 @@ module _ (apply : ℕ → List ℕ → ℕ) (K : Readings) (unique : Unique K) (
     reads-unique (cond n a b c) ρ o q k l x y =
         let t = reads-unique a ρ (val (x .0)) (val (y .0)) (x .1) (y .1) (x .3) (y .3) in
         let e = val-inj (x .0) (y .0) (t .0) in
-        let r = branch (x .0) (x .4) (subst (Taken (Reads apply K args b ρ q (y .2)) (Reads apply K args c ρ q (y .2))) (sym e) (y .4))
+        let r = branch (x .0) (x .4) (subst (Chosen (Reads apply K args b ρ q (y .2)) (Reads apply K args c ρ q (y .2))) (sym e) (y .4))
         (λ u w. reads-unique b ρ o q (x .2) (y .2) u w) (λ u w. reads-unique c ρ o q (x .2) (y .2) u w) in
         (r .0, omega (arith, x .5, y .5, t .1, r .1, ap last (r .0)))
       where
-        branch : (v : ℕ) → Taken (Reads apply K args b ρ o (x .2)) (Reads apply K args c ρ o (x .2)) v
-            → Taken (Reads apply K args b ρ q (y .2)) (Reads apply K args c ρ q (y .2)) v
+        branch : (v : ℕ) → Chosen (Reads apply K args b ρ o (x .2)) (Reads apply K args c ρ o (x .2)) v
+            → Chosen (Reads apply K args b ρ q (y .2)) (Reads apply K args c ρ q (y .2)) v
             → (Reads apply K args b ρ o (x .2) → Reads apply K args b ρ q (y .2) → (o ≡ q) × (x .2 ≡ y .2))
             → (Reads apply K args c ρ o (x .2) → Reads apply K args c ρ q (y .2) → (o ≡ q) × (x .2 ≡ y .2)) → (o ≡ q) × (x .2 ≡ y .2)
         branch zero u w f g = g u w
@@ -156,7 +154,7 @@ module _ (apply : ℕ → List ℕ → ℕ) (K : Readings) (unique : Unique K) (
 
 module _ (apply : ℕ → List ℕ → ℕ) (body : ℕ → Expr) where
   abbrev readings : ℕ → Readings
-  readings = Rounds.readings apply body
+  readings = Reading.readings apply body
 
   pub readings-unique : (t : ℕ) → Unique (readings t)
   readings-unique zero g vs v w k l x y = absurd x

@@ -2,13 +2,13 @@
 use Prim.Native.Nat.{ℕ}
 use mathlib.Core.Path.{_≡_, refl}
 use Rattle.table.specs.Syntax.{Expr, Node}
-use Rattle.circuit.specs.Machine.{State}
+use Rattle.circuit.specs.State.{View}
 use Rattle.circuit.proofs.Frame.{Same}
 use Rattle.table.specs.Pick.{mixed}
 use Rattle.table.proofs.SyntaxLaws.{node?}
 
 -- s at the nodes of e, and s′ at all others
-abbrev pub mix : Expr → State → State → State
+abbrev pub mix : Expr → View → View → View
 mix e s s′ = record {
   status = λ m. mixed (node? m e) (s .status m) (s′ .status m);
   second = λ m. mixed (node? m e) (s .second m) (s′ .second m);
@@ -17,7 +17,7 @@ mix e s s′ = record {
   occupant = s′ .occupant;
 }
 
-module _ (e : Expr) (s s′ : State) where
+module _ (e : Expr) (s s′ : View) where
   pub mix-in : (m : ℕ) → Node m e → Same s (mix e s s′) m
   mix-in m k = go (node? m e)
     where

@@ -6,9 +6,9 @@ use mathlib.Core.Logic.{_⊎_, inl, inr, ⊎-elim}
 use mathlib.Core.List.{List}
 use native.Mathlib.Omega.{arith}
 use Rattle.table.specs.Syntax.{Expr, Exprs, const, param, prim, call, self, cond, bind, bound, none, some, id, Every, Every*}
-use Rattle.circuit.specs.Machine.{State}
+use Rattle.circuit.specs.State.{View}
 use Rattle.circuit.proofs.Shape.{Still, Idle, Open, Busy, Done, Done*, Live, Opened*, Opened}
-use Rattle.circuit.specs.TakenBy.{Taken}
+use Rattle.circuit.specs.Reading.{Chosen}
 use Rattle.circuit.proofs.Frame.{Same}
 use Rattle.table.specs.Environment.{values}
 
@@ -24,11 +24,11 @@ Under P (bind n ds b) = Every* P ds × Every P b
 Under P (bound n d) = Unit {0}
 
 -- all their roots are done
-abbrev pub Finished* : State → Exprs → Type 0
+abbrev pub Finished* : View → Exprs → Type 0
 Finished* s none = Unit {0}
 Finished* s (some e es) = (s .status (id e) ≡ 3) × Finished* s es
 
-module _ (apply : ℕ → List ℕ → ℕ) (args : ℕ → ℕ) (s s′ : State) where
+module _ (apply : ℕ → List ℕ → ℕ) (args : ℕ → ℕ) (s s′ : View) where
   abbrev pub Becomes : ℕ → ℕ → Type 0
   Becomes n v = (s′ .status n ≡ 3) × (s′ .second n ≡ false) × (s′ .value n ≡ v)
 
@@ -55,9 +55,9 @@ module _ (apply : ℕ → List ℕ → ℕ) (args : ℕ → ℕ) (s s′ : State
   Inner (self n es) = Open s n × Busy s′ n false × Opens* es
   Inner (cond n a b c) =
       (Open s n × Busy s′ n false × Opens a × Keeps b × Keeps c)
-      ⊎ (Busy s n false × (s .status (id a) ≡ 3) × Busy s′ n true × Keeps a × Taken (Opens b × Keeps c) (Opens c × Keeps b)
+      ⊎ (Busy s n false × (s .status (id a) ≡ 3) × Busy s′ n true × Keeps a × Chosen (Opens b × Keeps c) (Opens c × Keeps b)
       (s .value (id a)))
-      ⊎ (Busy s n true × Taken ((s .status (id b) ≡ 3) × Becomes n (s .value (id b))) ((s .status (id c) ≡ 3)
+      ⊎ (Busy s n true × Chosen ((s .status (id b) ≡ 3) × Becomes n (s .value (id b))) ((s .status (id c) ≡ 3)
       × Becomes n (s .value (id c))) (s .value (id a)) × Keeps a × Keeps b × Keeps c)
   Inner (bind n ds b) =
       (Open s n × Busy s′ n false × Opens* ds × Keeps b)
@@ -82,7 +82,7 @@ module _ (P Q R : ℕ → Type 0) (f : (n : ℕ) → P n → Q n → R n) where
     both* none p q = tt
     both* (some e es) p q = (both e (p .0) (q .0), both* es (p .1) (q .1))
 
-module _ (s s′ : State) where
+module _ (s s′ : View) where
   still-same : (n : ℕ) → Same s s′ n → Still s n → Still s′ n
   still-same n k h = (⊎-elim (λ e. inl (k .0 ∙ e)) (λ e. inr (k .0 ∙ e)) (h .0), k .1 ∙ h .1)
 
@@ -116,7 +116,7 @@ module _ (s s′ : State) where
   done-kept* (some e es) k d = (done-kept e (k .0) (d .0), done-kept* es (k .1) (d .1))
 
 -- what is opened and has status 3 is done
-module _ (s : State) where
+module _ (s : View) where
   pub live-status : (e : Expr) → Live s e → s .status (id e) ≡ 3 → ⊥
   live-status (const n v) l h = omega arith
   live-status (param n i) l h = omega arith
@@ -154,7 +154,7 @@ module _ (s : State) where
   idle-still e h = both (Idle s) (Idle s) (Still s) idle-still-node e h h
 
 -- the shape after a step inside a body
-module _ (apply : ℕ → List ℕ → ℕ) (args : ℕ → ℕ) (s s′ : State) where
+module _ (apply : ℕ → List ℕ → ℕ) (args : ℕ → ℕ) (s s′ : View) where
   pub opens-live : (e : Expr) → Every (Idle s) e → Opens apply args s s′ e → Live s′ e
   opens-live (const n v) i o = (o .0 .0, o .0 .1 ∙ i .1)
   opens-live (param n j) i o = (o .0 .0, o .0 .1 ∙ i .1)
@@ -203,14 +203,14 @@ module _ (apply : ℕ → List ℕ → ℕ) (args : ℕ → ℕ) (s s′ : State
         turn (s .value (id a)) (s′ .value (id a)) (every-id s s′ (Same s s′) a (r .3) .2) (r .4),
       )))
     where
-      at : (v : ℕ) → Taken (Opens apply args s s′ b × Every (Same s s′) c) (Opens apply args s s′ c × Every (Same s s′) b) v
-          → Taken (Opened s′ b × Every (Idle s′) c) (Opened s′ c × Every (Idle s′) b) v
+      at : (v : ℕ) → Chosen (Opens apply args s s′ b × Every (Same s s′) c) (Opens apply args s s′ c × Every (Same s s′) b) v
+          → Chosen (Opened s′ b × Every (Idle s′) c) (Opened s′ c × Every (Idle s′) b) v
       at zero t = (inl (opens-live c (l .3) (t .0)), idle-kept s s′ b (t .1) (l .2))
       at (suc v) t = (inl (opens-live b (l .2) (t .0)), idle-kept s s′ c (t .1) (l .3))
 
-      turn : (v w : ℕ) → w ≡ v → Taken (Opens apply args s s′ b × Every (Same s s′) c) (Opens apply args s s′ c × Every (Same s s′) b) v
-          → Taken (Opened s′ b × Every (Idle s′) c) (Opened s′ c × Every (Idle s′) b) w
-      turn v w e t = subst (Taken (Opened s′ b × Every (Idle s′) c) (Opened s′ c × Every (Idle s′) b)) (sym e) (at v t)
+      turn : (v w : ℕ) → w ≡ v → Chosen (Opens apply args s s′ b × Every (Same s s′) c) (Opens apply args s s′ c × Every (Same s s′) b) v
+          → Chosen (Opened s′ b × Every (Idle s′) c) (Opened s′ c × Every (Idle s′) b) w
+      turn v w e t = subst (Chosen (Opened s′ b × Every (Idle s′) c) (Opened s′ c × Every (Idle s′) b)) (sym e) (at v t)
   inner-live (cond n a b c) (inr (inl r)) (inr (inr l)) = absurd (true≢false (sym (l .0 .1) ∙ r .0 .1))
   inner-live (cond n a b c) (inr (inr r)) (inl l) = absurd (omega arith)
   inner-live (cond n a b c) (inr (inr r)) (inr (inl l)) = absurd (true≢false (sym (r .0 .1) ∙ l .0 .1))
@@ -227,9 +227,9 @@ module _ (apply : ℕ → List ℕ → ℕ) (args : ℕ → ℕ) (s s′ : State
         ),
       )
 
-      end : (v : ℕ) → Taken ((s .status (id b) ≡ 3) × Becomes apply args s s′ n (s .value (id b))) ((s .status (id c) ≡ 3)
+      end : (v : ℕ) → Chosen ((s .status (id b) ≡ 3) × Becomes apply args s s′ n (s .value (id b))) ((s .status (id c) ≡ 3)
           × Becomes apply args s s′ n (s .value (id c))) v
-          → Taken (Opened s b × Every (Idle s) c) (Opened s c × Every (Idle s) b) v → Done s′ (cond n a b c)
+          → Chosen (Opened s b × Every (Idle s) c) (Opened s c × Every (Idle s) b) v → Done s′ (cond n a b c)
       end zero t o = kept _ (t .1) (idle-still s b (o .1)) (finished s c (o .0) (t .0) .1)
       end (suc v) t o = kept _ (t .1) (finished s b (o .0) (t .0) .1) (idle-still s c (o .1))
   inner-live (bind n ds b) (inl r) (inl l) = inl (inr (inl (r .1, opens-live* ds (l .1) (r .2), idle-kept s s′ b (r .3) (l .2))))

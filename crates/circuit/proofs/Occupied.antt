@@ -1,5 +1,5 @@
 -- over steps from a start, whatever the tags: entries exceed leavings by one where a resource is occupied, and by none elsewhere
-use Prim.Native.Nat.{ℕ, zero, suc, _+_, _/_, _%_, _≤_, _<_}
+use Prim.Native.Nat.{ℕ, suc, _+_, _/_, _%_, _≤_, _<_}
 use mathlib.Core.Bool.{Bool, true, false, true≢false}
 use mathlib.Core.Path.{_≡_, refl, subst, sym, ap, _∙_}
 use mathlib.Core.Logic.{_⊎_, inl, inr, ⊎-elim}
@@ -9,34 +9,22 @@ use native.Mathlib.Decide.{ℕ-discrete}
 use lib.Dec.{eqb}
 use Rattle.table.proofs.LaidOut.{call-here}
 use Rattle.table.specs.Syntax.{Expr, Exprs, const, param, prim, call, self, cond, bind, bound, id, Sub}
-use Rattle.circuit.specs.Machine.{State}
+use Rattle.circuit.specs.State.{View, State512, view}
 use Rattle.circuit.proofs.Shape.{Still, Busy, Live}
 use Rattle.table.specs.Well.{CallIn, Laid}
 use Rattle.table.proofs.CallPlaces.{call-node, sub-call}
 use Rattle.circuit.proofs.Places.{sub-live}
 use Rattle.table.specs.Pick.{pick, Range}
 use Rattle.table.specs.Environment.{put}
-use Rattle.circuit.specs.Sums.{sumTo}
-use Rattle.circuit.proofs.SumLaws.{sum-put, sum-zero, put-same, put-other}
+use Rattle.table.specs.Find.{total}
+use Rattle.circuit.proofs.SumLaws.{sum-ext, sum-add, sum-put, sum-zero, put-same, put-other}
 use Rattle.circuit.proofs.Invariant.{Fn, Sound, stepping}
 use Rattle.table.proofs.Tests.{eqb-true, eqb-yes, eqb-no}
-use Rattle.circuit.specs.State.{State512, view}
 use Rattle.circuit.specs.Step.{does, Move, act, perform}
 use Rattle.circuit.proofs.Performed.{Does, Acted}
 use Rattle.circuit.proofs.StepFacts.{Good, moved-does, moved-step}
 use Rattle.circuit.proofs.Thirds.{third, third-busy, third-other, third-own}
-use Rattle.circuit.specs.Play.{count, calls, entries, leavings}
-
--- sums over the nodes, entry by entry
-pub sum-ext : (k : ℕ) (f g : ℕ → ℕ) → ((c : ℕ) → 1 ≤ c → c ≤ k → f c ≡ g c) → sumTo k f ≡ sumTo k g
-unfolding sumTo
-sum-ext zero f g h = refl
-sum-ext (suc k) f g h = omega (arith, h (suc k) (omega arith) (omega arith), sum-ext k f g (λ c p q. h c p (omega arith)))
-
-pub sum-add : (k : ℕ) (f g h : ℕ → ℕ) → ((c : ℕ) → 1 ≤ c → c ≤ k → f c ≡ g c + h c) → sumTo k f ≡ sumTo k g + sumTo k h
-unfolding sumTo
-sum-add zero f g h e = refl
-sum-add (suc k) f g h e = omega (arith, e (suc k) (omega arith) (omega arith), sum-add k f g h (λ c p q. e c p (omega arith)))
+use Rattle.circuit.specs.Play.{count, calls, enterings, exits, entries, leavings}
 
 pub count-same : (c n : ℕ) (ns : List ℕ) → c ≡ n → count c (n ∷ ns) ≡ suc (count c ns)
 unfolding count
@@ -49,11 +37,11 @@ count-other c n ns e = ap (λ b. pick b (suc (count c ns)) (count c ns)) (eqb-no
 next-third : (k : ℕ) → suc k % 3 ≡ (k % 3 + 1) % 3
 next-third k = omega arith
 
-thirds-split : (k t : ℕ) → k % 3 ≡ t → (k + 1) / 3 ≡ k / 3 + t / 2
+thirds-split : (k t : ℕ) → k % 3 ≡ t → enterings k ≡ exits k + t / 2
 thirds-split k t e = omega arith
 
 -- of the steps taken at a call, the remainder by three is its phase
-abbrev pub Phased : (ℕ → List ℕ → ℕ) → ℕ → (ℕ → Expr) → State → List ℕ → Type 0
+abbrev pub Phased : (ℕ → List ℕ → ℕ) → ℕ → (ℕ → Expr) → View → List ℕ → Type 0
 Phased apply F body s ns = (f c g : ℕ) → Fn apply F body f → CallIn c g (body f) → count c ns % 3 ≡ third s c
 
 module _ (apply : ℕ → List ℕ → ℕ) {F N : ℕ} {body at : ℕ → Expr} {home : ℕ → ℕ} (laid : Laid F N body at home) where
@@ -84,7 +72,7 @@ module _ (apply : ℕ → List ℕ → ℕ) {F N : ℕ} {body at : ℕ → Expr}
             ∙ sym (third-other apply laid (view s) (view (perform N home body s n m)) (good .sound) f c g n q i m x
             (moved-step apply laid s good n r m here .0) (moved-step apply laid s good n r m here .1) e)
 
-  calls-call : (u : Expr) (f : ℕ) → calls u f ≡ true → (n : ℕ) × (es : Exprs) × (u ≡ call n f es)
+  pub calls-call : (u : Expr) (f : ℕ) → calls u f ≡ true → (n : ℕ) × (es : Exprs) × (u ≡ call n f es)
   calls-call (const n v) f e = absurd (true≢false (sym e))
   calls-call (param n i) f e = absurd (true≢false (sym e))
   calls-call (prim n op es) f e = absurd (true≢false (sym e))
@@ -95,13 +83,20 @@ module _ (apply : ℕ → List ℕ → ℕ) {F N : ℕ} {body at : ℕ → Expr}
   calls-call (bound n d) f e = absurd (true≢false (sym e))
 
   -- a node that calls f, as a call of its function's body
-  called : (c f : ℕ) → 1 ≤ c → c ≤ N → calls (at c) f ≡ true → (es : Exprs) × Sub (call c f es) (body (home c))
+  pub called : (c f : ℕ) → 1 ≤ c → c ≤ N → calls (at c) f ≡ true → (es : Exprs) × Sub (call c f es) (body (home c))
   called c f p q e =
       let k = calls-call (at c) f e in
       let i : k .0 ≡ c = sym (ap id (k .2)) ∙ laid .number c p q in
       (k .1, subst (λ x. Sub (call x f (k .1)) (body (home c))) i (subst (λ u. Sub u (body (home c))) (k .2) (laid .placed c p q)))
 
-  module _ (s : State) (sound : Sound apply F body s) where
+  -- the phase of a call, by the number of its steps
+  pub call-phase : (s : View) (c f : ℕ) → 1 ≤ c → c ≤ N → calls (at c) f ≡ true → (ns : List ℕ) → Phased apply F body s ns
+      → count c ns % 3 ≡ third s c
+  call-phase s c f p q e ns ph =
+      let k = called c f p q e in
+      ph (home c) c f (laid .home-there c p q) (sub-call c f (k .0) (body (home c)) (k .1))
+
+  module _ (s : View) (sound : Sound apply F body s) where
     third-two : (c : ℕ) → third s c ≡ 2 → Busy s c true
     third-two c e = go (eqb (s .status c) 2) (s .second c) refl refl e
       where
@@ -147,7 +142,7 @@ module _ (apply : ℕ → List ℕ → ℕ) {F N : ℕ} {body at : ℕ → Expr}
           go true e (inr z) = z
           go false e h = refl
 
-      insides : Dec (s .occupant f ≡ 0) → sumTo N inside ≡ pick (eqb (s .occupant f) 0) 0 1
+      insides : Dec (s .occupant f ≡ 0) → total inside N ≡ pick (eqb (s .occupant f) 0) 0 1
       insides (yes z) = sum-ext N inside (λ c. 0) (λ c p q. inside-not c p q (λ e. omega (arith, e, z, p))) ∙ sum-zero N
           ∙ sym (ap (λ b. pick b 0 1) (eqb-yes (s .occupant f) 0 z))
       insides (no z) =
@@ -180,14 +175,15 @@ module _ (apply : ℕ → List ℕ → ℕ) {F N : ℕ} {body at : ℕ → Expr}
       pub entries-leavings : (ns : List ℕ) → Phased apply F body s ns
           → entries N at f ns ≡ leavings N at f ns + pick (eqb (s .occupant f) 0) 0 1
       entries-leavings ns ph =
-          sum-add N (λ c. pick (calls (at c) f) ((count c ns + 1) / 3) 0) (λ c. pick (calls (at c) f) (count c ns / 3) 0) inside split
+          sum-add N (λ c. pick (calls (at c) f) (enterings (count c ns)) 0) (λ c. pick (calls (at c) f) (exits (count c ns)) 0) inside split
           ∙ ap (λ x. leavings N at f ns + x) (insides (ℕ-discrete (s .occupant f) 0))
         where
-          split : (c : ℕ) → 1 ≤ c → c ≤ N → pick (calls (at c) f) ((count c ns + 1) / 3) 0 ≡ pick (calls (at c) f)
-              (count c ns / 3) 0 + inside c
+          split : (c : ℕ) → 1 ≤ c → c ≤ N → pick (calls (at c) f) (enterings (count c ns)) 0 ≡ pick (calls (at c) f)
+              (exits (count c ns)) 0 + inside c
           split c p q = go (calls (at c) f) refl
             where
-              go : (b : Bool) → calls (at c) f ≡ b → pick b ((count c ns + 1) / 3) 0 ≡ pick b (count c ns / 3) 0 + pick b (third s c / 2) 0
+              go : (b : Bool) → calls (at c) f ≡ b
+                  → pick b (enterings (count c ns)) 0 ≡ pick b (exits (count c ns)) 0 + pick b (third s c / 2) 0
               go true e = let k = called c f p q e in thirds-split (count c ns) (third s c)
                   (ph (home c) c f (laid .home-there c p q) (sub-call c f (k .0) (body (home c)) (k .1)))
               go false e = refl

@@ -1,5 +1,5 @@
 -- a table started with its own list
-use Prim.Native.Nat.{ℕ, _-_}
+use Prim.Native.Nat.{ℕ}
 use mathlib.Core.Path.{_≡_, refl, ap, _∙_}
 use mathlib.Core.List.{List}
 use lib.Dec.{eqb}
@@ -9,9 +9,8 @@ use Rattle.table.specs.Check.{Verdict, accepted, stage, checkOf}
 use Rattle.table.specs.Expressions.{bodyOf}
 use Rattle.table.proofs.FindLaws.{same}
 use Rattle.table.proofs.Passed.{goes-on}
-use Rattle.circuit.specs.State.{State512}
+use Rattle.circuit.specs.State.{State512, circuitStart}
 use Rattle.circuit.specs.Circuit.{started, checkStart, startAfter, startOf}
-use Rattle.circuit.specs.Start.{startOf as circuitStart}
 use Rattle.circuit.specs.Demand.{DemandThree}
 use Rattle.circuit.proofs.Demands.{start-passes, demand}
 use Rattle.list.specs.Tags.{tagsOf, after}

@@ -5,17 +5,16 @@ use mathlib.Core.Path.{refl}
 use mathlib.Core.List.{List}
 use native.Mathlib.Omega.{arith}
 use Rattle.table.specs.Syntax.{Expr}
-use Rattle.circuit.specs.Machine.{State}
+use Rattle.circuit.specs.State.{View, State512, Sized, view}
 use Rattle.circuit.proofs.Frame.{Same}
-use Rattle.circuit.specs.State.{State512, Sized, view}
-use Rattle.circuit.specs.Step.{Move, begins, turns, finishes, enters, leaves, restarts, perform, stepOf}
+use Rattle.circuit.specs.Step.{Move, begins, turns, finishes, enters, leaves, restarts, perform, circuitStep}
 use Rattle.circuit.proofs.Performed.{SameFunction, Does, Fair}
 use Rattle.table.specs.Pick.{Range}
 use Rattle.table.specs.Well.{Laid}
 use Rattle.circuit.proofs.StepTaken.{step-cases}
 use Rattle.circuit.proofs.StepFacts.{moved-does}
 
-module _ (F N : ℕ) (home : ℕ → ℕ) (body : ℕ → Expr) (s s′ : State) (n : ℕ) (r : Range N n) where
+module _ (F N : ℕ) (home : ℕ → ℕ) (body : ℕ → Expr) (s s′ : View) (n : ℕ) (r : Range N n) where
   does-past : (a : Move) → Fair F N home body n a → Does N home body s s′ n a → (m : ℕ) → N < m → Same s s′ m
   does-past (begins ns) f d m h = (
     d .others m (λ e. omega (arith, e, h, r .1)) (λ i. omega (arith, f .0 m i .1, h)),
@@ -44,13 +43,13 @@ module _ (apply : ℕ → List ℕ → ℕ) {F N : ℕ} {body at : ℕ → Expr}
   same-function : (f : ℕ) → SameFunction (view s) (view s) f
   same-function f = (refl, λ i. refl)
 
-  pub nodes-past : (m : ℕ) → N < m → Same (view s) (view (stepOf apply F N body at home tags s n .state)) m
+  pub nodes-past : (m : ℕ) → N < m → Same (view s) (view (circuitStep apply F N body at home tags s n .state)) m
   nodes-past m h = step-cases apply laid tags s n (λ r. Same (view s) (view (r .state)) m)
       (λ e. same m) (λ e. same m) (λ e. same m) (λ r e. same m) (λ r e k. same m) (λ r e k. same m)
       (λ r e a k. let d = moved-does apply laid s sized n r a k in
       does-past F N home body (view s) (view (perform N home body s n a)) n r a (d .0) (d .1) m h)
 
-  pub functions-past : (f : ℕ) → F < f → SameFunction (view s) (view (stepOf apply F N body at home tags s n .state)) f
+  pub functions-past : (f : ℕ) → F < f → SameFunction (view s) (view (circuitStep apply F N body at home tags s n .state)) f
   functions-past f h = step-cases apply laid tags s n (λ r. SameFunction (view s) (view (r .state)) f)
       (λ e. same-function f) (λ e. same-function f) (λ e. same-function f) (λ r e. same-function f) (λ r e k. same-function f)
       (λ r e k. same-function f)

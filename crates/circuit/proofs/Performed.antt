@@ -7,10 +7,9 @@ use native.Mathlib.Omega.{arith}
 use lib.Dec.{eqb, ltb}
 use lib.ListN.{length, getD}
 use Rattle.table.specs.Syntax.{Expr, id}
-use Rattle.circuit.specs.Machine.{State}
+use Rattle.circuit.specs.State.{View, State512, Sized, entry, write, view, clear, In}
 use Rattle.circuit.proofs.Frame.{Same}
 use Rattle.table.proofs.Tests.{eqb-yes, eqb-no, ltb-true, ltb-yes}
-use Rattle.circuit.specs.State.{State512, Sized, entry, write, view, clear, In}
 use Rattle.circuit.proofs.StateLaws.{length-write, length-clear, length-fill, length-opened, entry-same, entry-other, clear-mine}
 use Rattle.circuit.proofs.StateLaws.{clear-other, fill-mine, fill-other, opened-in, opened-other}
 use Rattle.circuit.specs.Step.{Act, stuck, blocked, does, Move, begins, turns, finishes, enters, leaves, restarts, mine, reset}
@@ -18,10 +17,10 @@ use Rattle.circuit.specs.Step.{finish, perform}
 use Rattle.table.specs.Pick.{Range}
 
 -- registers and occupant of a function
-abbrev pub SameFunction : State → State → ℕ → Type 0
+abbrev pub SameFunction : View → View → ℕ → Type 0
 SameFunction s s′ f = (s′ .occupant f ≡ s .occupant f) × ((i : ℕ) → s′ .register f i ≡ s .register f i)
 
-pub record Begins (s s′ : State) (n : ℕ) (ns : List ℕ) : Type 0 where
+pub record Begins (s s′ : View) (n : ℕ) (ns : List ℕ) : Type 0 where
   pub busy : s′ .status n ≡ 2
   pub opens : (m : ℕ) → In m ns → s′ .status m ≡ 1
   pub others : (m : ℕ) → (m ≡ n → ⊥) → (In m ns → ⊥) → s′ .status m ≡ s .status m
@@ -29,7 +28,7 @@ pub record Begins (s s′ : State) (n : ℕ) (ns : List ℕ) : Type 0 where
   pub valued : (m : ℕ) → s′ .value m ≡ s .value m
   pub functions : (f : ℕ) → SameFunction s s′ f
 
-pub record Turns (s s′ : State) (n k : ℕ) : Type 0 where
+pub record Turns (s s′ : View) (n k : ℕ) : Type 0 where
   pub opens : s′ .status k ≡ 1
   pub others : (m : ℕ) → (m ≡ k → ⊥) → s′ .status m ≡ s .status m
   pub second : s′ .second n ≡ true
@@ -37,27 +36,27 @@ pub record Turns (s s′ : State) (n k : ℕ) : Type 0 where
   pub valued : (m : ℕ) → s′ .value m ≡ s .value m
   pub functions : (f : ℕ) → SameFunction s s′ f
 
-pub record Finishes (s s′ : State) (n v : ℕ) : Type 0 where
+pub record Finishes (s s′ : View) (n v : ℕ) : Type 0 where
   pub status : s′ .status n ≡ 3
   pub second : s′ .second n ≡ false
   pub value : s′ .value n ≡ v
   pub others : (m : ℕ) → (m ≡ n → ⊥) → Same s s′ m
 
 -- a function's body as new: `own` are its nodes, r is its root; `but` is not spoken of
-pub record Resets (s s′ : State) (own but : ℕ → Type 0) (r g : ℕ) (vs : List ℕ) : Type 0 where
+pub record Resets (s s′ : View) (own but : ℕ → Type 0) (r g : ℕ) (vs : List ℕ) : Type 0 where
   pub root : (s′ .status r ≡ 1) × (s′ .second r ≡ false)
   pub idle : (m : ℕ) → own m → (m ≡ r → ⊥) → (s′ .status m ≡ 0) × (s′ .second m ≡ false)
   pub others : (m : ℕ) → (but m → ⊥) → (own m → ⊥) → Same s s′ m
   pub registers : (i : ℕ) → s′ .register g i ≡ getD vs i 0
   pub functions : (f : ℕ) → (f ≡ g → ⊥) → SameFunction s s′ f
 
-pub record Enters (s s′ : State) (own : ℕ → Type 0) (r g : ℕ) (vs : List ℕ) (n : ℕ) : Type 0 where
+pub record Enters (s s′ : View) (own : ℕ → Type 0) (r g : ℕ) (vs : List ℕ) (n : ℕ) : Type 0 where
   pub new : Resets s s′ own (λ m. m ≡ n) r g vs
   pub status : s′ .status n ≡ s .status n
   pub second : s′ .second n ≡ true
   pub occupies : s′ .occupant g ≡ n
 
-pub record Leaves (s s′ : State) (n g v : ℕ) : Type 0 where
+pub record Leaves (s s′ : View) (n g v : ℕ) : Type 0 where
   pub done : Finishes s s′ n v
   pub frees : s′ .occupant g ≡ 0
   pub registers : (f i : ℕ) → s′ .register f i ≡ s .register f i
@@ -68,7 +67,7 @@ abbrev pub Owns : ℕ → (ℕ → ℕ) → ℕ → ℕ → Type 0
 Owns N home g m = (1 ≤ m) × (m ≤ N) × (home m ≡ g)
 
 module _ (N : ℕ) (home : ℕ → ℕ) (body : ℕ → Expr) where
-  abbrev pub Does : State → State → ℕ → Move → Type 0
+  abbrev pub Does : View → View → ℕ → Move → Type 0
   Does s s′ n (begins ns) = Begins s s′ n ns
   Does s s′ n (turns k) = Turns s s′ n k
   Does s s′ n (finishes v) = Finishes s s′ n v × ((f : ℕ) → SameFunction s s′ f)
@@ -78,7 +77,7 @@ module _ (N : ℕ) (home : ℕ → ℕ) (body : ℕ → Expr) where
       Resets s s′ (Owns N home f) (λ m. ⊥) (id (body f)) f vs × ((g : ℕ) → s′ .occupant g ≡ s .occupant g)
 
   -- the node has a move, and it is made
-  abbrev pub Acted : State → State → ℕ → Act → Type 0
+  abbrev pub Acted : View → View → ℕ → Act → Type 0
   Acted s s′ n stuck = ⊥
   Acted s s′ n blocked = ⊥
   Acted s s′ n (does m) = Does s s′ n m
@@ -125,7 +124,7 @@ module _ (F N : ℕ) (home : ℕ → ℕ) (few-functions : F ≤ 32) (few : N �
 
   -- after a reset of function g, whose root is r
   module _ (g r : ℕ) (vs : List ℕ) (own : Owns N home g r) where
-    abbrev t : State
+    abbrev t : View
     t = view (reset N home s g r vs)
 
     status-idle : (m : ℕ) → Owns N home g m → (m ≡ r → ⊥) → t .status m ≡ 0

@@ -7,26 +7,26 @@ use mathlib.Core.List.{List}
 use native.Mathlib.Omega.{arith}
 use Rattle.table.specs.Syntax.{Expr, Exprs, const, param, prim, call, self, cond, bind, bound, none, some, id, Every, Every*, Node, Node*}
 use Rattle.table.specs.Syntax.{Sub, Sub*}
-use Rattle.circuit.specs.Machine.{State}
+use Rattle.circuit.specs.State.{View}
 use Rattle.circuit.proofs.Shape.{Still, Idle, Done*, Live, Opened*, Opened}
-use Rattle.circuit.specs.TakenBy.{Taken}
+use Rattle.circuit.specs.Reading.{Chosen}
 use Rattle.table.proofs.SyntaxLaws.{every-node, every-node*}
 use Rattle.circuit.proofs.Within.{idle-not, idle-not*, done-not, done-not*}
 use Rattle.circuit.proofs.Moves.{Becomes, Inner, finished, finished*}
 
 -- a part that is under way is live itself
-module _ (s : State) (u : Expr) (moving : Still s (id u) → ⊥) where
+module _ (s : View) (u : Expr) (moving : Still s (id u) → ⊥) where
   opened-live : (e : Expr) → (Live s e → Live s u) → Sub u e → Opened s e → Live s u
   opened-live e f p (inl l) = f l
   opened-live e f p (inr d) = absurd (done-not s u moving e d p)
 
   second : (b c : Expr) → (Live s b → Live s u) → Sub u b → (v : ℕ)
-      → Taken (Opened s b × Every (Idle s) c) (Opened s c × Every (Idle s) b) v → Live s u
+      → Chosen (Opened s b × Every (Idle s) c) (Opened s c × Every (Idle s) b) v → Live s u
   second b c f p zero t = absurd (idle-not s u moving b (t .1) p)
   second b c f p (suc v) t = opened-live b f p (t .0)
 
   third : (b c : Expr) → (Live s c → Live s u) → Sub u c → (v : ℕ)
-      → Taken (Opened s b × Every (Idle s) c) (Opened s c × Every (Idle s) b) v → Live s u
+      → Chosen (Opened s b × Every (Idle s) c) (Opened s c × Every (Idle s) b) v → Live s u
   third b c f p zero t = opened-live c f p (t .0)
   third b c f p (suc v) t = absurd (idle-not s u moving c (t .1) p)
 
@@ -69,7 +69,7 @@ module _ (s : State) (u : Expr) (moving : Still s (id u) → ⊥) where
     sub-live* (some e es) (inr p) o = sub-live* es p (o .1)
 
 -- nothing is busy in what is still or idle
-module _ (s : State) (c : ℕ) (busy : s .status c ≡ 2) where
+module _ (s : View) (c : ℕ) (busy : s .status c ≡ 2) where
   pub still-busy : (e : Expr) → Every (Still s) e → Node c e → ⊥
   still-busy e h k = ⊎-elim (λ z. omega arith) (λ z. omega arith) (every-node (Still s) c e h k .0)
 
@@ -88,7 +88,7 @@ module _ (s : State) (c : ℕ) (busy : s .status c ≡ 2) where
   done-busy* (some e es) d (inr k) = done-busy* es (d .1) k
 
   -- below a node that takes a step inside its body nothing is busy
-  pub inner-busy : (apply : ℕ → List ℕ → ℕ) (args : ℕ → ℕ) (s′ : State) (u : Expr) → Inner apply args s s′ u → Live s u → Node c u
+  pub inner-busy : (apply : ℕ → List ℕ → ℕ) (args : ℕ → ℕ) (s′ : View) (u : Expr) → Inner apply args s s′ u → Live s u → Node c u
       → c ≡ id u
   inner-busy apply args s′ (const n v) r l k = k
   inner-busy apply args s′ (param n i) r l k = k
@@ -118,8 +118,8 @@ module _ (s : State) (c : ℕ) (busy : s .status c ≡ 2) where
   inner-busy apply args s′ (cond n x y z) (inr (inr r)) (inr (inr l)) (inr (inl k)) = absurd (still-busy x (l .1 .1) k)
   inner-busy apply args s′ (cond n x y z) (inr (inr r)) (inr (inr l)) (inr (inr k)) = absurd (go (s .value (id x)) (r .1) (l .2) k)
     where
-      go : (v : ℕ) → Taken ((s .status (id y) ≡ 3) × Becomes apply args s s′ n (s .value (id y))) ((s .status (id z) ≡ 3)
-          × Becomes apply args s s′ n (s .value (id z))) v → Taken (Opened s y × Every (Idle s) z) (Opened s z × Every (Idle s) y) v
+      go : (v : ℕ) → Chosen ((s .status (id y) ≡ 3) × Becomes apply args s s′ n (s .value (id y))) ((s .status (id z) ≡ 3)
+          × Becomes apply args s s′ n (s .value (id z))) v → Chosen (Opened s y × Every (Idle s) z) (Opened s z × Every (Idle s) y) v
           → Node c y ⊎ Node c z → ⊥
       go zero t o (inl k) = idle-busy y (o .1) k
       go zero t o (inr k) = still-busy z (finished s z (o .0) (t .0) .1) k

@@ -8,15 +8,15 @@ use native.Mathlib.Omega.{arith}
 use native.Mathlib.Decide.{ℕ-discrete}
 use native.Mathlib.Nat.{not-suc-le-zero}
 use Rattle.table.specs.Syntax.{Expr, Exprs, const, param, prim, call, self, cond, bind, bound, none, some, id, Every, Sub, Sub*}
-use Rattle.circuit.specs.Machine.{State}
+use Rattle.circuit.specs.State.{View}
 use Rattle.circuit.proofs.Shape.{Idle, Open, Busy, Live, Opened*, Opened}
-use Rattle.circuit.specs.TakenBy.{Taken}
+use Rattle.circuit.specs.Reading.{Chosen}
 use Rattle.circuit.proofs.Moves.{Finished*}
 use Rattle.table.proofs.CallPlaces.{find}
 use Rattle.table.specs.Well.{CallIn, CallIn*, Well}
 use Rattle.circuit.proofs.Invariant.{Fn, Active, Sound}
 
-module _ (apply : ℕ → List ℕ → ℕ) (F : ℕ) (body : ℕ → Expr) (s : State) where
+module _ (apply : ℕ → List ℕ → ℕ) (F : ℕ) (body : ℕ → Expr) (s : View) where
   -- the node of u has a step
   abbrev pub Able : Expr → Type 0
   Able (const n v) = Open s n
@@ -25,7 +25,7 @@ module _ (apply : ℕ → List ℕ → ℕ) (F : ℕ) (body : ℕ → Expr) (s :
   Able (call n g es) = Open s n ⊎ (Busy s n false × Finished* s es × (s .occupant g ≡ 0)) ⊎ (Busy s n true × (s .status (id (body g)) ≡ 3))
   Able (self n es) = Open s n ⊎ ((s .status n ≡ 2) × Finished* s es)
   Able (cond n a b c) = Open s n ⊎ (Busy s n false × (s .status (id a) ≡ 3))
-      ⊎ (Busy s n true × Taken (s .status (id b) ≡ 3) (s .status (id c) ≡ 3) (s .value (id a)))
+      ⊎ (Busy s n true × Chosen (s .status (id b) ≡ 3) (s .status (id c) ≡ 3) (s .value (id a)))
   Able (bind n ds b) = Open s n ⊎ (Busy s n false × Finished* s ds) ⊎ (Busy s n true × (s .status (id b) ≡ 3))
   Able (bound n d) = Open s n
 
@@ -84,14 +84,14 @@ module _ (apply : ℕ → List ℕ → ℕ) (F : ℕ) (body : ℕ → Expr) (s :
 
   branch : (n : ℕ) (a b c : Expr) → Busy s n true → (Live s b → Seen (λ u. Sub u b) (λ c g. CallIn c g b))
       → (Live s c → Seen (λ u. Sub u c) (λ d g. CallIn d g c))
-      → (v : ℕ) → s .value (id a) ≡ v → Taken (Opened s b × Every (Idle s) c) (Opened s c × Every (Idle s) b) v
+      → (v : ℕ) → s .value (id a) ≡ v → Chosen (Opened s b × Every (Idle s) c) (Opened s c × Every (Idle s) b) v
       → Seen (λ u. Sub u (cond n a b c)) (λ d g. CallIn d g (cond n a b c))
   branch n a b c h f g zero e t =
-      ⊎-elim (λ d. own (cond n a b c) (inr (inr (h, subst (Taken (s .status (id b) ≡ 3) (s .status (id c) ≡ 3)) (sym e) d))))
+      ⊎-elim (λ d. own (cond n a b c) (inr (inr (h, subst (Chosen (s .status (id b) ≡ 3) (s .status (id c) ≡ 3)) (sym e) d))))
       (λ x. up (λ u. Sub u c) (λ u. Sub u (cond n a b c)) (λ d g. CallIn d g c) (λ d g. CallIn d g (cond n a b c))
       (λ u p. inr (inr (inr p))) (λ d g k. inr (inr k)) x) (opened-seen c g (t .0))
   branch n a b c h f g (suc v) e t =
-      ⊎-elim (λ d. own (cond n a b c) (inr (inr (h, subst (Taken (s .status (id b) ≡ 3) (s .status (id c) ≡ 3)) (sym e) d))))
+      ⊎-elim (λ d. own (cond n a b c) (inr (inr (h, subst (Chosen (s .status (id b) ≡ 3) (s .status (id c) ≡ 3)) (sym e) d))))
       (λ x. up (λ u. Sub u b) (λ u. Sub u (cond n a b c)) (λ d g. CallIn d g b) (λ d g. CallIn d g (cond n a b c))
       (λ u p. inr (inr (inl p))) (λ d g k. inr (inl k)) x) (opened-seen b f (t .0))
 

@@ -3,13 +3,13 @@ use Prim.Native.Nat.{ℕ, suc, _+_}
 use mathlib.Core.Path.{_≡_, subst, fun-ext}
 use mathlib.Core.List.{List}
 use Rattle.table.specs.Syntax.{Expr, Node}
-use Rattle.circuit.specs.Machine.{State}
+use Rattle.circuit.specs.State.{View}
 use Rattle.circuit.proofs.Frame.{Same}
 use Rattle.circuit.proofs.Left.{Left}
 use Rattle.circuit.proofs.LeftFacts.{left-over}
 use Rattle.circuit.proofs.Invariant.{Fn, Active}
 use Rattle.circuit.specs.Reading.{Outcome, val, Readings}
-use Rattle.circuit.specs.Sums.{sumTo}
+use Rattle.table.specs.Find.{total}
 use Rattle.circuit.specs.Reading as Reading
 
 module _ (apply : ℕ → List ℕ → ℕ) (F : ℕ) (body : ℕ → Expr) (K : Readings) where
@@ -22,17 +22,17 @@ module _ (apply : ℕ → List ℕ → ℕ) (F : ℕ) (body : ℕ → Expr) (K :
   nowhere d = 0
 
   -- f, as it stands, is to return v after k more steps of its own and of the calls that it has yet to make
-  abbrev pub Rest : State → (ℕ → ℕ) → ℕ → ℕ → ℕ → Type 0
+  abbrev pub Rest : View → (ℕ → ℕ) → ℕ → ℕ → ℕ → Type 0
   Rest s W f v k = (o : Outcome) × (j i : ℕ) × Left apply K s W (s .register f) (body f) nowhere o j × Ends f o v i × (k ≡ j + i)
 
-  pub record Expects (s : State) (W R : ℕ → ℕ) : Type 0 where
+  pub record Expects (s : View) (W R : ℕ → ℕ) : Type 0 where
     pub active : (f : ℕ) → Fn apply F body f → Active apply F body s f → Rest s W f (W (s .occupant f)) (R f)
     pub rest : (f : ℕ) → Fn apply F body f → (Active apply F body s f → ⊥) → R f ≡ 0
 
-  abbrev pub Before : State → (ℕ → ℕ) → (ℕ → ℕ) → Type 0
-  Before s W′ R′ = (W R : ℕ → ℕ) × Expects s W R × (sumTo F R ≡ suc (sumTo F R′)) × (W 0 ≡ W′ 0)
+  abbrev pub Before : View → (ℕ → ℕ) → (ℕ → ℕ) → Type 0
+  Before s W′ R′ = (W R : ℕ → ℕ) × Expects s W R × (total R F ≡ suc (total R′ F)) × (W 0 ≡ W′ 0)
 
-  module _ (s s′ : State) (W′ : ℕ → ℕ) where
+  module _ (s s′ : View) (W′ : ℕ → ℕ) where
     -- a function that the step does not touch
     module _ (X : ℕ → Type 0) (keeps : (m : ℕ) → (X m → ⊥) → Same s s′ m) (W : ℕ → ℕ) (expects : (m : ℕ) → (X m → ⊥) → W′ m ≡ W m) where
       pub aside-rest′ : (f v k : ℕ) → ((m : ℕ) → Node m (body f) → X m → ⊥) → ((i : ℕ) → s′ .register f i ≡ s .register f i)

@@ -5,11 +5,10 @@ use mathlib.Core.Logic.{_⊎_, inl, inr, ⊎-elim}
 use mathlib.Core.List.{List}
 use native.Mathlib.Omega.{arith}
 use Rattle.table.specs.Syntax.{Expr, Exprs, const, param, prim, call, self, cond, bind, bound, none, some, id, Every, Sub, Sub*}
-use Rattle.circuit.specs.Machine.{State}
+use Rattle.circuit.specs.State.{View}
 use Rattle.circuit.proofs.Shape.{Still, Idle, Live, Opened}
-use Rattle.circuit.specs.TakenBy.{Taken}
+use Rattle.circuit.specs.Reading.{Chosen, again, Readings}
 use Rattle.circuit.proofs.Within.{idle-not, done-not}
-use Rattle.circuit.specs.Reading.{again, Readings}
 use Rattle.table.specs.Environment.{extend, values}
 use Rattle.circuit.proofs.Left.{Left}
 use Rattle.circuit.proofs.Counts.{over-left*}
@@ -42,7 +41,7 @@ module _ (n : ℕ) (es : Exprs) where
     no-self* (some e xs) h (inl p) = no-self e (h .0) p
     no-self* (some e xs) h (inr p) = no-self* xs (h .1) p
 
-module _ (s : State) (n : ℕ) (es : Exprs) (at : s .status n ≡ 2) (ready : Finished* s es) where
+module _ (s : View) (n : ℕ) (es : Exprs) (at : s .status n ≡ 2) (ready : Finished* s es) where
   moves : Still s n → ⊥
   moves h = ⊎-elim (λ z. omega arith) (λ z. omega arith) (h .0)
 
@@ -77,7 +76,7 @@ module _ (s : State) (n : ℕ) (es : Exprs) (at : s .status n ≡ 2) (ready : Fi
     self-alone (cond m x y z) t (inr (inr (inl p))) (inr (inl l)) k = idle-not s U moves y (l .2) p
     self-alone (cond m x y z) t (inr (inr (inl p))) (inr (inr l)) k = go (λ l′ k′. self-alone y (t .1) p l′ k′) (s .value (id x)) (l .2) k
       where
-        go : (Live s y → CallIn c f y → ⊥) → (v : ℕ) → Taken (Opened s y × Every (Idle s) z) (Opened s z × Every (Idle s) y) v
+        go : (Live s y → CallIn c f y → ⊥) → (v : ℕ) → Chosen (Opened s y × Every (Idle s) z) (Opened s z × Every (Idle s) y) v
             → CallIn c f x ⊎ CallIn c f y ⊎ CallIn c f z → ⊥
         go g v o (inl k) = still-busy s c busy x (l .1 .1) (call-node c f x k)
         go g zero o (inr k) = idle-not s U moves y (o .1) p
@@ -87,7 +86,7 @@ module _ (s : State) (n : ℕ) (es : Exprs) (at : s .status n ≡ 2) (ready : Fi
     self-alone (cond m x y z) t (inr (inr (inr p))) (inr (inl l)) k = idle-not s U moves z (l .3) p
     self-alone (cond m x y z) t (inr (inr (inr p))) (inr (inr l)) k = go (λ l′ k′. self-alone z (t .2) p l′ k′) (s .value (id x)) (l .2) k
       where
-        go : (Live s z → CallIn c f z → ⊥) → (v : ℕ) → Taken (Opened s y × Every (Idle s) z) (Opened s z × Every (Idle s) y) v
+        go : (Live s z → CallIn c f z → ⊥) → (v : ℕ) → Chosen (Opened s y × Every (Idle s) z) (Opened s z × Every (Idle s) y) v
             → CallIn c f x ⊎ CallIn c f y ⊎ CallIn c f z → ⊥
         go g v o (inl k) = still-busy s c busy x (l .1 .1) (call-node c f x k)
         go g (suc v) o (inr k) = idle-not s U moves z (o .1) p
@@ -129,8 +128,8 @@ module _ (s : State) (n : ℕ) (es : Exprs) (at : s .status n ≡ 2) (ready : Fi
     self-left (cond m x y z) t (inr (inr (inl p))) (inr (inr l)) ρ =
         inr (inr (inr (l .0, (1, go (λ l′. self-left y (t .1) p l′ ρ) (s .value (id x)) (l .2), refl))))
       where
-        go : (Live s y → One y ρ) → (v : ℕ) → Taken (Opened s y × Every (Idle s) z) (Opened s z × Every (Idle s) y) v
-            → Taken (One y ρ) (One z ρ) v
+        go : (Live s y → One y ρ) → (v : ℕ) → Chosen (Opened s y × Every (Idle s) z) (Opened s z × Every (Idle s) y) v
+            → Chosen (One y ρ) (One z ρ) v
         go g zero o = absurd (idle-not s U moves y (o .1) p)
         go g (suc v) o = left-opened y ρ g p (o .0)
     self-left (cond m x y z) t (inr (inr (inr p))) (inl l) ρ = absurd (idle-not s U moves z (l .3) p)
@@ -138,8 +137,8 @@ module _ (s : State) (n : ℕ) (es : Exprs) (at : s .status n ≡ 2) (ready : Fi
     self-left (cond m x y z) t (inr (inr (inr p))) (inr (inr l)) ρ =
         inr (inr (inr (l .0, (1, go (λ l′. self-left z (t .2) p l′ ρ) (s .value (id x)) (l .2), refl))))
       where
-        go : (Live s z → One z ρ) → (v : ℕ) → Taken (Opened s y × Every (Idle s) z) (Opened s z × Every (Idle s) y) v
-            → Taken (One y ρ) (One z ρ) v
+        go : (Live s z → One z ρ) → (v : ℕ) → Chosen (Opened s y × Every (Idle s) z) (Opened s z × Every (Idle s) y) v
+            → Chosen (One y ρ) (One z ρ) v
         go g zero o = left-opened z ρ g p (o .0)
         go g (suc v) o = absurd (idle-not s U moves z (o .1) p)
     self-left (bind m ds b) t (inl p) l ρ = mine (bind m ds b) p ρ

@@ -4,32 +4,32 @@ use mathlib.Core.Bool.{Bool, true, false}
 use mathlib.Core.Path.{_≡_}
 use mathlib.Core.Logic.{_⊎_}
 use Rattle.table.specs.Syntax.{Expr, Exprs, const, param, prim, call, self, cond, bind, bound, none, some, id, Every, Every*}
-use Rattle.circuit.specs.Machine.{State}
-use Rattle.circuit.specs.TakenBy.{Taken}
+use Rattle.circuit.specs.State.{View}
+use Rattle.circuit.specs.Reading.{Chosen}
 
 -- done, or never opened
-abbrev pub Still : State → ℕ → Type 0
+abbrev pub Still : View → ℕ → Type 0
 Still s n = ((s .status n ≡ 0) ⊎ (s .status n ≡ 3)) × (s .second n ≡ false)
 
 -- never opened
-abbrev pub Idle : State → ℕ → Type 0
+abbrev pub Idle : View → ℕ → Type 0
 Idle s n = (s .status n ≡ 0) × (s .second n ≡ false)
 
 -- opened, and not yet at its first step
-abbrev pub Open : State → ℕ → Type 0
+abbrev pub Open : View → ℕ → Type 0
 Open s n = (s .status n ≡ 1) × (s .second n ≡ false)
 
-abbrev pub Busy : State → ℕ → Bool → Type 0
+abbrev pub Busy : View → ℕ → Bool → Type 0
 Busy s n p = (s .status n ≡ 2) × (s .second n ≡ p)
 
-abbrev pub Done : State → Expr → Type 0
+abbrev pub Done : View → Expr → Type 0
 Done s e = (s .status (id e) ≡ 3) × Every (Still s) e
 
-abbrev pub Done* : State → Exprs → Type 0
+abbrev pub Done* : View → Exprs → Type 0
 Done* s none = Unit {0}
 Done* s (some e es) = Done s e × Done* s es
 
-module _ (s : State) where
+module _ (s : View) where
   -- an expression that was opened and isn't done
   abbrev mutual
     pub Live : Expr → Type 0
@@ -42,7 +42,7 @@ module _ (s : State) where
     Live (cond n a b c) =
         (Open s n × Every (Idle s) a × Every (Idle s) b × Every (Idle s) c)
         ⊎ (Busy s n false × (Live a ⊎ Done s a) × Every (Idle s) b × Every (Idle s) c)
-        ⊎ (Busy s n true × Done s a × Taken ((Live b ⊎ Done s b) × Every (Idle s) c) ((Live c ⊎ Done s c) × Every (Idle s) b)
+        ⊎ (Busy s n true × Done s a × Chosen ((Live b ⊎ Done s b) × Every (Idle s) c) ((Live c ⊎ Done s c) × Every (Idle s) b)
         (s .value (id a)))
     Live (bind n ds b) =
         (Open s n × Every* (Idle s) ds × Every (Idle s) b)
@@ -54,5 +54,5 @@ module _ (s : State) where
     Opened* none = Unit {0}
     Opened* (some e es) = (Live e ⊎ Done s e) × Opened* es
 
-abbrev pub Opened : State → Expr → Type 0
+abbrev pub Opened : View → Expr → Type 0
 Opened s e = Live s e ⊎ Done s e

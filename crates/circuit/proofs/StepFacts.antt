@@ -6,20 +6,20 @@ use mathlib.Core.Logic.{_⊎_, ⊎-elim}
 use mathlib.Core.List.{List}
 use native.Mathlib.Omega.{arith}
 use Rattle.table.specs.Syntax.{Expr, id, Node, Sub}
-use Rattle.circuit.specs.Machine.{State}
+use Rattle.circuit.specs.State.{View, State512, Sized, view}
 use Rattle.table.proofs.SyntaxLaws.{node-id, sub-node}
 use Rattle.table.specs.Pick.{pick, Range}
-use Rattle.circuit.proofs.Invariant.{Fn, Sound, Step}
+use Rattle.circuit.proofs.Invariant.{Fn, Sound}
 use Rattle.circuit.proofs.Progress.{Able, progress}
 use Rattle.circuit.proofs.Answers.{step-sound}
 use Rattle.table.proofs.Tests.{eqb-true, eqb-yes}
-use Rattle.circuit.specs.State.{State512, Sized, view}
-use Rattle.circuit.specs.Step.{does, Move, done, act, Answer, taken, answered, refused, Stepped, told, over, perform, stepOf}
+use Rattle.circuit.specs.Step.{does, Move, done, act, Reply, taken, answered, refused, refusal, Stepped, over, perform}
+use Rattle.circuit.specs.Step.{circuitStep}
 use Rattle.circuit.proofs.Performed.{Does, Acted, Fair, FairAct, perform-does, perform-sized}
 use Rattle.circuit.specs.Play.{Accepted}
 use Rattle.table.specs.Well.{Laid}
 use Rattle.circuit.proofs.StepSound.{StepAt, acted-step}
-use Rattle.circuit.proofs.StepTaken.{Moves, Blocks, Waits, act-fair, able-moves, blocked-waits, waits-blocks, step-cases}
+use Rattle.circuit.proofs.StepTaken.{Moves, Blocks, Waits, act-fair, able-moves, blocked-waits, step-cases}
 use Rattle.circuit.proofs.Numbered.{sub-unique}
 use Rattle.circuit.proofs.Bounded.{over-none, status-bound, occupant-bound}
 
@@ -33,7 +33,7 @@ module _ (apply : ℕ → List ℕ → ℕ) {F N : ℕ} {body at : ℕ → Expr}
     pub sound : Sound apply F body (view s)
 
   abbrev pub step : (ℕ → Bool) → State512 → ℕ → Stepped
-  step = stepOf apply F N body at home
+  step = circuitStep apply F N body at home
 
   abbrev pub InRange : ℕ → Type 0
   InRange = Range N
@@ -53,7 +53,7 @@ module _ (apply : ℕ → List ℕ → ℕ) {F N : ℕ} {body at : ℕ → Expr}
   module _ (s : State512) (good : Good s) (n : ℕ) (r : InRange n) (m : Move) (here : act apply body (home n) (view s) (at n) ≡ does m) where
     pub moved-step : StepAt apply F body (view s) (view (perform N home body s n m)) n
     moved-step =
-        let t : State = view (perform N home body s n m) in
+        let t : View = view (perform N home body s n m) in
         subst (StepAt apply F body (view s) t) (laid .number n (r .0) (r .1))
         (acted-step apply laid (view s) t (good .sound) (home n) (fn-home n r) (at n) (laid .placed n (r .0) (r .1))
         (subst (Acted N home body (view s) t (id (at n))) (sym here)
@@ -66,28 +66,8 @@ module _ (apply : ℕ → List ℕ → ℕ) {F N : ℕ} {body at : ℕ → Expr}
       sound = step-sound apply F body (laid .well) (view s) (view (perform N home body s n m)) (good .sound) (moved-step .0);
     }
 
-  -- a step that isn't refused is one of the abstract circuit, and answers exactly if main's root is done after it
+  -- when a step is refused, and when it isn't
   module _ (tags : ℕ → Bool) (s : State512) (good : Good s) (n : ℕ) where
-    pub step-good : Good (step tags s n .state)
-    step-good = step-cases apply laid tags s n (λ r. Good (r .state)) (λ e. good) (λ e. good) (λ e. good) (λ r e. good) (λ r e h. good)
-        (λ r e h. good)
-        (λ r e m h. moved-good s good n r m h)
-
-    pub step-step : Accepted (step tags s n .answer) → Step apply F body (view s) (view (step tags s n .state))
-    step-step = step-cases apply laid tags s n (λ r. Accepted (r .answer) → Step apply F body (view s) (view (r .state)))
-        (λ e. absurd) (λ e. absurd) (λ e. absurd) (λ r e. absurd) (λ r e h. absurd) (λ r e h. absurd)
-        (λ r e m h a. moved-step s good n r m h .0)
-
-    pub step-tells : Accepted (step tags s n .answer) → step tags s n .answer ≡ told (id (body F)) (view (step tags s n .state))
-    step-tells = step-cases apply laid tags s n (λ r. Accepted (r .answer) → r .answer ≡ told (id (body F)) (view (r .state)))
-        (λ e. absurd) (λ e. absurd) (λ e. absurd) (λ r e. absurd) (λ r e h. absurd) (λ r e h. absurd) (λ r e m h a. refl)
-
-    -- a refused step leaves the state
-    pub step-kept : (Accepted (step tags s n .answer) → ⊥) → step tags s n .state ≡ s
-    step-kept = step-cases apply laid tags s n (λ r. (Accepted (r .answer) → ⊥) → r .state ≡ s)
-        (λ e a. refl) (λ e a. refl) (λ e a. refl) (λ r e a. refl) (λ r e h a. refl) (λ r e h a. refl)
-        (λ r e m h a. absurd (a (told-accepted (done (view (perform N home body s n m)) (id (body F))) _)))
-
     no-bad : over 3 N (s .status) ≡ false
     no-bad = over-none 3 N (s .status) (status-bound apply laid (view s) (good .sound))
 
@@ -101,7 +81,7 @@ module _ (apply : ℕ → List ℕ → ℕ) {F N : ℕ} {body at : ℕ → Expr}
     other a b c d e p q k = let i : a ≡ c = cc in absurd (⊎-elim (λ z. p (i ∙ z)) (λ z. q (i ∙ z)) k)
 
     -- 22 and 23 only for a call that waits at an occupied resource
-    abbrev Held : Answer → Type 0
+    abbrev Held : Reply → Type 0
     Held x = (k p : ℕ) → x ≡ refused k p → (k ≡ 22) ⊎ (k ≡ 23) → InRange n × Waits (view s) (at n) × (k ≡ pick (tags n) 22 23) × (p ≡ n)
 
     told-not : (b : Bool) (v : ℕ) → Held (pick b (answered v) taken)
@@ -120,10 +100,10 @@ module _ (apply : ℕ → List ℕ → ℕ) {F N : ℕ} {body at : ℕ → Expr}
         (view (perform N home body s n m) .value (id (body F))))
 
     -- main done: 20 at every node
-    pub step-over : InRange n → view s .status (id (body F)) ≡ 3 → step tags s n .answer ≡ refused 20 n
+    pub step-over : InRange n → view s .status (id (body F)) ≡ 3 → step tags s n ≡ refusal s 20 n
     step-over r e =
         let d : done (view s) (id (body F)) ≡ true = eqb-yes (view s .status (id (body F))) 3 e in
-        step-cases apply laid tags s n (λ r. r .answer ≡ refused 20 n)
+        step-cases apply laid tags s n (λ r. r ≡ refusal s 20 n)
         (λ f. absurd (f r)) (not-true (over 3 N (s .status)) no-bad) (not-true (over N F (s .occupant)) no-stray)
         (λ q f. refl) (λ q f h. not-true (done (view s) (id (body F))) f d) (λ q f h. not-true (done (view s) (id (body F))) f d)
         (λ q f m h. not-true (done (view s) (id (body F))) f d)
@@ -136,16 +116,6 @@ module _ (apply : ℕ → List ℕ → ℕ) {F N : ℕ} {body at : ℕ → Expr}
         (λ q f. absurd (e (eqb-true (view s .status (id (body F))) 3 f))) (λ q f h. subst Moves h a) (λ q f h. subst Moves h a)
         (λ q f m h. told-accepted (done (view (perform N home body s n m)) (id (body F)))
         (view (perform N home body s n m) .value (id (body F))))
-
-    -- a call that waits at an occupied resource is refused 22 or 23 by its tag
-    pub step-blocked : InRange n → (view s .status (id (body F)) ≡ 3 → ⊥) → Waits (view s) (at n)
-        → step tags s n .answer ≡ refused (pick (tags n) 22 23) n
-    step-blocked r e w =
-        let a = waits-blocks apply laid (view s) (home n) (fn-home n r) (at n) w in
-        step-cases apply laid tags s n (λ r. r .answer ≡ refused (pick (tags n) 22 23) n)
-        (λ f. absurd (f r)) (not-true (over 3 N (s .status)) no-bad) (not-true (over N F (s .occupant)) no-stray)
-        (λ q f. absurd (e (eqb-true (view s .status (id (body F))) 3 f))) (λ q f h. absurd (subst Blocks h a)) (λ q f h. refl)
-        (λ q f m h. absurd (subst Blocks h a))
 
     -- a node that is able to in the abstract circuit
     pub step-able : (h : ℕ) → Fn apply F body h → (u : Expr) → Sub u (body h) → id u ≡ n → Able apply F body (view s) u

@@ -7,10 +7,10 @@ use mathlib.Core.List.{List, [], _∷_}
 use native.Mathlib.Omega.{arith}
 use lib.Dec.{eqb}
 use Rattle.table.specs.Syntax.{Expr, Exprs, const, param, prim, call, self, cond, bind, bound, id, Node, Node*, Sub, roots}
-use Rattle.circuit.specs.Machine.{State}
+use Rattle.circuit.specs.State.{View, In}
 use Rattle.table.specs.Environment.{values}
 use Rattle.circuit.proofs.Shape.{Still, Idle, Open, Live}
-use Rattle.circuit.specs.TakenBy.{Taken}
+use Rattle.circuit.specs.Reading.{Chosen}
 use Rattle.table.specs.Well.{Apart, Apart*, Laid}
 use Rattle.circuit.proofs.Frame.{Same}
 use Rattle.table.proofs.SyntaxLaws.{node-id, apart-sub}
@@ -19,7 +19,6 @@ use Rattle.table.proofs.CallPlaces.{sub-call}
 use Rattle.circuit.proofs.Places.{sub-live}
 use Rattle.circuit.proofs.Invariant.{Fn, New, Sound, Step, inner, enter, leave, again, stepping}
 use Rattle.table.proofs.Tests.{eqb-true}
-use Rattle.circuit.specs.State.{In}
 use Rattle.circuit.specs.Step.{stuck, does, finishes, enters, done, all-done, branch, act}
 use Rattle.circuit.proofs.Performed.{Begins, Turns, Finishes, Resets, Owns, Does, Acted}
 use Rattle.circuit.proofs.ActCases.{by-pick, by-state, live-open}
@@ -28,17 +27,17 @@ use Rattle.circuit.proofs.LaidFacts.{own-node}
 
 module _ (apply : ℕ → List ℕ → ℕ) (F : ℕ) (body : ℕ → Expr) where
   -- the node of a step
-  abbrev pub stepped : {s s′ : State} → Step apply F body s s′ → ℕ
+  abbrev pub stepped : {s s′ : View} → Step apply F body s s′ → ℕ
   stepped (inner h r u st) = id u
   stepped (enter h r n g es st) = n
   stepped (leave h r n g es st) = n
   stepped (again h r n es st) = n
 
-  abbrev pub StepAt : State → State → ℕ → Type 0
+  abbrev pub StepAt : View → View → ℕ → Type 0
   StepAt s s′ n = (st : Step apply F body s s′) × (stepped st ≡ n)
 
 module _ (apply : ℕ → List ℕ → ℕ) {F N : ℕ} {body at : ℕ → Expr} {home : ℕ → ℕ} (laid : Laid F N body at home) where
-  module _ (s s′ : State) (sound : Sound apply F body s) (h : ℕ) (r : Fn apply F body h) where
+  module _ (s s′ : View) (sound : Sound apply F body s) (h : ℕ) (r : Fn apply F body h) where
     still-not : (n t : ℕ) → s .status n ≡ t → (t ≡ 1) ⊎ (t ≡ 2) → Still s n → ⊥
     still-not n t e k h = ⊎-elim (λ a. ⊎-elim (λ b. omega (arith, a, b, e)) (λ b. omega (arith, a, b, e)) (h .0))
         (λ a. ⊎-elim (λ b. omega (arith, a, b, e)) (λ b. omega (arith, a, b, e)) (h .0)) k
@@ -222,7 +221,7 @@ module _ (apply : ℕ → List ℕ → ℕ) {F N : ℕ} {body at : ℕ → Expr}
         apart-root (suc v) e = x .1 (subst (λ y. Node y b) (sym e) (node-id b))
 
         over : (v : ℕ) → done s (id (branch v b c)) ≡ true → Finishes s s′ n (s .value (id (branch v b c)))
-            → Taken ((s .status (id b) ≡ 3) × Becomes apply (s .register h) s s′ n (s .value (id b)))
+            → Chosen ((s .status (id b) ≡ 3) × Becomes apply (s .register h) s s′ n (s .value (id b)))
             ((s .status (id c) ≡ 3) × Becomes apply (s .register h) s s′ n (s .value (id c))) v
         over zero f d = (eqb-true (s .status (id c)) 3 f, becomes n (s .value (id c)) d)
         over (suc v) f d = (eqb-true (s .status (id b)) 3 f, becomes n (s .value (id b)) d)
@@ -232,7 +231,7 @@ module _ (apply : ℕ → List ℕ → ℕ) {F N : ℕ} {body at : ℕ → Expr}
         below (suc v) d = turned-kept n (id b) a (x .0) (λ k. x .6 (id b) k (node-id b)) d
 
         taken : (v : ℕ) → Turns s s′ n (id (branch v b c))
-            → Taken (Opens apply (s .register h) s s′ b × Keeps apply (s .register h) s s′ c)
+            → Chosen (Opens apply (s .register h) s s′ b × Keeps apply (s .register h) s s′ c)
             (Opens apply (s .register h) s s′ c × Keeps apply (s .register h) s s′ b) v
         taken zero d = (turned n c (x .2) (x .5) d, turned-kept n (id c) b (x .1) (λ k. x .8 (id c) k (node-id c)) d)
         taken (suc v) d = (turned n b (x .1) (x .4) d, turned-kept n (id b) c (x .2) (x .8 (id b) (node-id b)) d)

@@ -7,20 +7,19 @@ use mathlib.Core.List.{List}
 use native.Mathlib.Omega.{arith}
 use lib.Dec.{eqb, ltb}
 use Rattle.table.specs.Syntax.{Expr, Exprs, const, param, prim, call, self, cond, bind, bound, id, Node, Sub}
-use Rattle.circuit.specs.Machine.{State}
+use Rattle.circuit.specs.State.{View, State512, view}
 use Rattle.table.specs.Environment.{values}
 use Rattle.circuit.proofs.Shape.{Busy}
-use Rattle.circuit.specs.TakenBy.{Taken}
+use Rattle.circuit.specs.Reading.{Chosen}
 use Rattle.table.proofs.SyntaxLaws.{node-id, apart-sub, sub-node}
 use Rattle.circuit.proofs.Moves.{Finished*}
 use Rattle.table.proofs.CallPlaces.{sub-call}
 use Rattle.table.specs.Pick.{pick, Range}
 use Rattle.circuit.proofs.Invariant.{Fn}
 use Rattle.circuit.proofs.Progress.{Able}
-use Rattle.table.proofs.Tests.{eqb-true, eqb-yes, eqb-no, eqb-false, ltb-true, ltb-false}
-use Rattle.circuit.specs.State.{State512, view}
-use Rattle.circuit.specs.Step.{Act, stuck, blocked, does, Move, turns, finishes, leaves, restarts, done, all-done, branch}
-use Rattle.circuit.specs.Step.{by-status, act, refused, Stepped, told, outcome, over, perform, stepOf}
+use Rattle.table.proofs.Tests.{eqb-true, eqb-yes, eqb-false, ltb-true, ltb-false}
+use Rattle.circuit.specs.Step.{Act, stuck, blocked, does, Move, turns, finishes, restarts, done, all-done, branch}
+use Rattle.circuit.specs.Step.{by-status, act, refused, Stepped, told, outcome, over, perform, circuitStep}
 use Rattle.circuit.proofs.Performed.{Owns, FairAct}
 use Rattle.table.specs.Well.{Laid}
 use Rattle.circuit.proofs.LaidFacts.{length-values, root-node, all-done-finished, finished-all-done}
@@ -37,7 +36,7 @@ Blocks blocked = Unit {0}
 Blocks (does m) = ⊥
 
 -- a call that waits at an occupied resource, its arguments done
-abbrev pub Waits : State → Expr → Type 0
+abbrev pub Waits : View → Expr → Type 0
 Waits s u = (n g : ℕ) × (es : Exprs) × (u ≡ call n g es) × Busy s n false × Finished* s es × (s .occupant g ≡ 0 → ⊥)
 
 -- the case that a test takes
@@ -55,7 +54,7 @@ module _ (P : Act → Type 0) where
   at-busy t o b e h = subst (λ c. P (by-status c o b)) (sym e) h
 
 module _ (apply : ℕ → List ℕ → ℕ) {F N : ℕ} {body at : ℕ → Expr} {home : ℕ → ℕ} (laid : Laid F N body at home) where
-  module _ (s : State) (h : ℕ) (r : Fn apply F body h) where
+  module _ (s : View) (h : ℕ) (r : Fn apply F body h) where
     range : (u : Expr) → Sub u (body h) → (m : ℕ) → Node m u → Range N m
     range u p m k = let i = laid .inside h m (r .0) (r .1) (sub-node u m (body h) p k) in (i .1, i .2)
 
@@ -155,7 +154,7 @@ module _ (apply : ℕ → List ℕ → ℕ) {F N : ℕ} {body at : ℕ → Expr}
     able-moves (cond n a b c) (inr (inr x)) = at-busy Moves (s .status n) _ _ (x .0 .0) (pick-true Moves (s .second n) _ _ (x .0 .1)
         (pick-true Moves (done s (id (branch (s .value (id a)) b c))) _ _ (chosen (s .value (id a)) (x .1)) tt))
       where
-        chosen : (v : ℕ) → Taken (s .status (id b) ≡ 3) (s .status (id c) ≡ 3) v → done s (id (branch v b c)) ≡ true
+        chosen : (v : ℕ) → Chosen (s .status (id b) ≡ 3) (s .status (id c) ≡ 3) v → done s (id (branch v b c)) ≡ true
         chosen zero e = eqb-yes (s .status (id c)) 3 e
         chosen (suc v) e = eqb-yes (s .status (id b)) 3 e
     able-moves (bind n ds b) (inl o) = at-open Moves (s .status n) _ _ (o .0) tt
@@ -182,7 +181,8 @@ module _ (apply : ℕ → List ℕ → ℕ) {F N : ℕ} {body at : ℕ → Expr}
     blocked-waits (bound n d) = free n (bound n d) (s .status n) _ _ (λ z. z) (λ z. z)
     blocked-waits (prim n op es) = free n (prim n op es) (s .status n) _ _ (λ z. z)
         (open-test (all-done s es) (finishes (apply op (values (s .value) es))))
-    blocked-waits (self n es) = free n (self n es) (s .status n) _ _ (λ z. z) (open-test (all-done s es) (restarts h (values (s .value) es)))
+    blocked-waits (self n es) = free n (self n es) (s .status n) _ _ (λ z. z)
+        (open-test (all-done s es) (restarts h (values (s .value) es)))
     blocked-waits (cond n a b c) =
         let r : Expr = branch (s .value (id a)) b c in
         free n (cond n a b c) (s .status n) _ _ (λ z. z) (two-tests (s .second n) (done s (id r)) (done s (id a))
@@ -191,24 +191,12 @@ module _ (apply : ℕ → List ℕ → ℕ) {F N : ℕ} {body at : ℕ → Expr}
         (two-tests (s .second n) (done s (id b)) (all-done s ds) (finishes (s .value (id b))) (turns (id b)))
     blocked-waits (call n g es) = by-state (λ x. Blocks x → Waits s (call n g es)) (s .status n) _ _ (λ e. absurd)
         (λ t. by-pick (λ x. Blocks x → Waits s (call n g es)) (s .second n) _ _
-        (λ w k. absurd (open-test (done s (id (body g))) (leaves g (s .value (id (body g)))) k))
+        (λ w k. absurd (open-test (done s (id (body g))) _ k))
         (λ w. by-pick (λ x. Blocks x → Waits s (call n g es)) (all-done s es) _ _
         (λ f. by-pick (λ x. Blocks x → Waits s (call n g es)) (eqb (s .occupant g) 0) _ _ (λ e. absurd)
         (λ e k. (n, g, es, refl, (t, w), all-done-finished s es f, eqb-false (s .occupant g) 0 e)))
         (λ e. absurd)))
         absurd
-
-    -- and a call that waits so is blocked
-    pub waits-blocks : (u : Expr) → Waits s u → Blocks (act apply body h s u)
-    waits-blocks u w = subst (λ x. Blocks (act apply body h s x)) (sym (w .3)) (waiting (w .0) (w .1) (w .2) (w .4) (w .5) (w .6))
-      where
-        waiting : (n g : ℕ) (es : Exprs) → Busy s n false → Finished* s es → (s .occupant g ≡ 0 → ⊥)
-            → Blocks (act apply body h s (call n g es))
-        waiting n g es b f o =
-            at-busy Blocks (s .status n) _ _ (b .0)
-            (pick-false Blocks (s .second n) _ _ (b .1)
-            (pick-true Blocks (all-done s es) _ _ (finished-all-done s es f)
-            (pick-false Blocks (eqb (s .occupant g) 0) _ _ (eqb-no (s .occupant g) 0 o) tt)))
 
   -- the cases of a step, in the order of document 01
   module _ (tags : ℕ → Bool) (s : State512) (n : ℕ) (P : Stepped → Type 0) where
@@ -242,8 +230,8 @@ module _ (apply : ℕ → List ℕ → ℕ) {F N : ℕ} {body at : ℕ → Expr}
         → (Range N n → Main ≡ false → Here ≡ blocked → Refuses (pick (tags n) 22 23) n)
         → (Range N n → Main ≡ false → (m : Move) → Here ≡ does m
         → P (record { answer = told (id (body F)) (view (perform N home body s n m)); state = perform N home body s n m }))
-        → P (stepOf apply F N body at home tags s n)
-    unfolding stepOf
+        → P (circuitStep apply F N body at home tags s n)
+    unfolding circuitStep
     step-cases c12 c24 c24′ c20 c21 c22 c =
         by-test (eqb n 0) _ _ (λ e. c12 (λ r. omega (arith, r .0, eqb-true n 0 e)))
         (λ e0. by-test (ltb N n) _ _ (λ e. c12 (λ r. omega (arith, r .1, ltb-true N n e)))

@@ -1,4 +1,4 @@
--- a function changed at one number, and its sum
+-- sums over 1 to k: of a function changed at one number, entry by entry
 use Prim.Native.Nat.{ℕ, zero, suc, _+_, _≤_, _<_}
 use mathlib.Core.Bool.{Bool, true, false}
 use mathlib.Core.Path.{_≡_, refl, subst, sym, ap}
@@ -7,7 +7,7 @@ use native.Mathlib.Decide.{ℕ-discrete}
 use lib.Dec.{eqb, eqb-refl, eqb→eq, T}
 use Rattle.table.specs.Environment.{put}
 use Rattle.table.specs.Pick.{pick}
-use Rattle.circuit.specs.Sums.{sumTo}
+use Rattle.table.specs.Find.{total}
 
 pub put-same : (R : ℕ → ℕ) (n v : ℕ) → put R n v n ≡ v
 put-same R n v = go (eqb n n) (eqb-refl n)
@@ -23,22 +23,33 @@ put-other R n v m d = go (eqb n m) (λ t. d (sym (eqb→eq n m t)))
     go true f = absurd (f tt)
     go false f = refl
 
-sum-past : (k : ℕ) (R : ℕ → ℕ) (n v : ℕ) → k < n → sumTo k (put R n v) ≡ sumTo k R
-unfolding sumTo
+sum-past : (k : ℕ) (R : ℕ → ℕ) (n v : ℕ) → k < n → total (put R n v) k ≡ total R k
+unfolding total
 sum-past zero R n v h = refl
 sum-past (suc k) R n v h = omega (arith, put-other R n v (suc k) (λ e. omega (arith, e, h)), sum-past k R n v (omega arith))
 
-pub sum-put : (k : ℕ) (R : ℕ → ℕ) (n v : ℕ) → 1 ≤ n → n ≤ k → sumTo k (put R n v) + R n ≡ sumTo k R + v
-unfolding sumTo
+pub sum-put : (k : ℕ) (R : ℕ → ℕ) (n v : ℕ) → 1 ≤ n → n ≤ k → total (put R n v) k + R n ≡ total R k + v
+unfolding total
 sum-put zero R n v a b = absurd (omega arith)
 sum-put (suc k) R n v a b = go (ℕ-discrete n (suc k)) (λ c. sum-put k R n v a c)
   where
-    go : Dec (n ≡ suc k) → (n ≤ k → sumTo k (put R n v) + R n ≡ sumTo k R + v) → put R n v (suc k) + sumTo k (put R n v) + R n
-        ≡ R (suc k) + sumTo k R + v
+    go : Dec (n ≡ suc k) → (n ≤ k → total (put R n v) k + R n ≡ total R k + v) → put R n v (suc k) + total (put R n v) k + R n
+        ≡ R (suc k) + total R k + v
     go (yes e) f = omega (arith, subst (λ x. put R n v x ≡ v) e (put-same R n v), ap R e, sum-past k R n v (omega (arith, e)))
     go (no d) f = omega (arith, put-other R n v (suc k) (λ e. d (sym e)), f (omega (arith, b, d)))
 
-pub sum-zero : (k : ℕ) → sumTo k (λ f. 0) ≡ 0
-unfolding sumTo
+pub sum-zero : (k : ℕ) → total (λ f. 0) k ≡ 0
+unfolding total
 sum-zero zero = refl
 sum-zero (suc k) = omega (arith, sum-zero k)
+
+-- sums over the nodes, entry by entry
+pub sum-ext : (k : ℕ) (f g : ℕ → ℕ) → ((c : ℕ) → 1 ≤ c → c ≤ k → f c ≡ g c) → total f k ≡ total g k
+unfolding total
+sum-ext zero f g h = refl
+sum-ext (suc k) f g h = omega (arith, h (suc k) (omega arith) (omega arith), sum-ext k f g (λ c p q. h c p (omega arith)))
+
+pub sum-add : (k : ℕ) (f g h : ℕ → ℕ) → ((c : ℕ) → 1 ≤ c → c ≤ k → f c ≡ g c + h c) → total f k ≡ total g k + total h k
+unfolding total
+sum-add zero f g h e = refl
+sum-add (suc k) f g h e = omega (arith, e (suc k) (omega arith) (omega arith), sum-add k f g h (λ c p q. e c p (omega arith)))

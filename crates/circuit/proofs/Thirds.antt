@@ -8,7 +8,7 @@ use native.Mathlib.Omega.{arith}
 use native.Mathlib.Decide.{ℕ-discrete}
 use lib.Dec.{eqb}
 use Rattle.table.specs.Syntax.{Expr, Exprs, call, id, Sub}
-use Rattle.circuit.specs.Machine.{State}
+use Rattle.circuit.specs.State.{View, In}
 use Rattle.circuit.proofs.Shape.{Still, Busy, Live}
 use Rattle.circuit.proofs.Frame.{Same}
 use Rattle.table.specs.Well.{CallIn, Laid}
@@ -18,7 +18,6 @@ use Rattle.circuit.proofs.SelfCalls.{self-alone}
 use Rattle.table.specs.Pick.{pick, Range}
 use Rattle.circuit.proofs.Invariant.{Fn, Sound, Step, inner, enter, leave, again, inner-moving, stepping}
 use Rattle.table.proofs.Tests.{eqb-yes, eqb-no}
-use Rattle.circuit.specs.State.{In}
 use Rattle.circuit.proofs.StateLaws.{in?}
 use Rattle.circuit.specs.Step.{Act, Move, begins, turns, finishes, enters, leaves, restarts, done, all-done, act}
 use Rattle.circuit.proofs.Performed.{Resets, Owns, Does, Acted}
@@ -28,19 +27,19 @@ use Rattle.circuit.proofs.Enter as Enter
 use Rattle.circuit.proofs.Again as Again
 
 -- 1 for a busy call in its first phase, 2 in its second, 0 for an idle, open or done one
-abbrev pub third : State → ℕ → ℕ
+abbrev pub third : View → ℕ → ℕ
 third s c = pick (eqb (s .status c) 2) (pick (s .second c) 2 1) 0
 
-pub third-busy : (s : State) (c : ℕ) (b : Bool) → Busy s c b → third s c ≡ pick b 2 1
+pub third-busy : (s : View) (c : ℕ) (b : Bool) → Busy s c b → third s c ≡ pick b 2 1
 third-busy s c b h = ap (λ x. pick x (pick (s .second c) 2 1) 0) (eqb-yes (s .status c) 2 (h .0)) ∙ ap (λ x. pick x 2 1) (h .1)
 
-pub third-rest : (s : State) (c : ℕ) → (s .status c ≡ 2 → ⊥) → third s c ≡ 0
+pub third-rest : (s : View) (c : ℕ) → (s .status c ≡ 2 → ⊥) → third s c ≡ 0
 third-rest s c h = ap (λ x. pick x (pick (s .second c) 2 1) 0) (eqb-no (s .status c) 2 h)
 
-third-same : (s s′ : State) (c : ℕ) → Same s s′ c → third s′ c ≡ third s c
+third-same : (s s′ : View) (c : ℕ) → Same s s′ c → third s′ c ≡ third s c
 third-same s s′ c h = λ i. pick (eqb (h .0 i) 2) (pick (h .1 i) 2 1) 0
 
-module _ (apply : ℕ → List ℕ → ℕ) {F N : ℕ} {body at : ℕ → Expr} {home : ℕ → ℕ} (laid : Laid F N body at home) (s s′ : State)
+module _ (apply : ℕ → List ℕ → ℕ) {F N : ℕ} {body at : ℕ → Expr} {home : ℕ → ℕ} (laid : Laid F N body at home) (s s′ : View)
     (sound : Sound apply F body s) where
   -- a busy call keeps its state while another node takes a step
   module _ (f c g : ℕ) (q : Fn apply F body f) (i : CallIn c g (body f)) (busy : s .status c ≡ 2) where

@@ -7,7 +7,7 @@ use native.Mathlib.Omega.{arith}
 use native.Mathlib.Decide.{ℕ-discrete}
 use lib.ListN.{getD}
 use Rattle.table.specs.Syntax.{Expr, Exprs, call, self, id, Node}
-use Rattle.circuit.specs.Machine.{State}
+use Rattle.circuit.specs.State.{View}
 use Rattle.circuit.proofs.Shape.{Live}
 use Rattle.table.specs.Environment.{values, put}
 use Rattle.circuit.proofs.Left.{Left}
@@ -33,19 +33,19 @@ module _ (apply : ℕ → List ℕ → ℕ) (F : ℕ) (body : ℕ → Expr) (K :
   abbrev nowhere : ℕ → ℕ
   nowhere = Remaining.nowhere apply F body K
 
-  abbrev Rest : State → (ℕ → ℕ) → ℕ → ℕ → ℕ → Type 0
+  abbrev Rest : View → (ℕ → ℕ) → ℕ → ℕ → ℕ → Type 0
   Rest = Remaining.Rest apply F body K
 
-  abbrev Expects : State → (ℕ → ℕ) → (ℕ → ℕ) → Type 0
+  abbrev Expects : View → (ℕ → ℕ) → (ℕ → ℕ) → Type 0
   Expects = Remaining.Expects apply F body K
 
-  abbrev Before : State → (ℕ → ℕ) → (ℕ → ℕ) → Type 0
+  abbrev Before : View → (ℕ → ℕ) → (ℕ → ℕ) → Type 0
   Before = Remaining.Before apply F body K
 
   module _ (well : Well F body)
       (reads : (f v : ℕ) (vs : List ℕ) (o : Outcome) (j i : ℕ) → Fn apply F body f → Reads apply K (λ x. getD vs x 0) (body f) nowhere o j
       → Ends f o v i → K f vs v (j + i))
-      (s s′ : State) (sound : Sound apply F body s) (W′ R′ : ℕ → ℕ) (after : Expects s′ W′ R′) where
+      (s s′ : View) (sound : Sound apply F body s) (W′ R′ : ℕ → ℕ) (after : Expects s′ W′ R′) where
     module _ (h : ℕ) (r : Fn apply F body h) (n g : ℕ) (es : Exprs) (st : LeaveStep apply F body s s′ h n g es) where
       g<h₃ : (1 ≤ g) × (g < h)
       g<h₃ = Leave.g<h apply F body well s s′ sound h r n g es st

@@ -8,7 +8,7 @@ use native.Mathlib.Omega.{arith}
 use native.Mathlib.Decide.{ℕ-discrete}
 use lib.ListN.{getD}
 use Rattle.table.specs.Syntax.{Expr, Exprs, call, id, Node}
-use Rattle.circuit.specs.Machine.{State}
+use Rattle.circuit.specs.State.{View}
 use Rattle.circuit.proofs.Shape.{Still, Live}
 use Rattle.circuit.proofs.Frame.{Same}
 use Rattle.table.proofs.SyntaxLaws.{sub-node}
@@ -21,7 +21,7 @@ use Rattle.table.specs.Well.{Well}
 use Rattle.circuit.proofs.Invariant.{InnerStep, Fn, Active, EnterStep, Sound, stepping, inner-moving}
 use Rattle.circuit.specs.Reading.{Outcome, Readings, Reads}
 use Rattle.circuit.proofs.Counts.{left-reads, over-left*, inner-left}
-use Rattle.circuit.specs.Sums.{sumTo}
+use Rattle.table.specs.Find.{total}
 use Rattle.circuit.proofs.SumLaws.{put-same, put-other, sum-put}
 use Rattle.circuit.proofs.Remaining.{aside-rest′}
 use Rattle.circuit.proofs.Enter as Enter
@@ -34,19 +34,19 @@ module _ (apply : ℕ → List ℕ → ℕ) (F : ℕ) (body : ℕ → Expr) (K :
   abbrev nowhere : ℕ → ℕ
   nowhere = Remaining.nowhere apply F body K
 
-  abbrev Rest : State → (ℕ → ℕ) → ℕ → ℕ → ℕ → Type 0
+  abbrev Rest : View → (ℕ → ℕ) → ℕ → ℕ → ℕ → Type 0
   Rest = Remaining.Rest apply F body K
 
-  abbrev Expects : State → (ℕ → ℕ) → (ℕ → ℕ) → Type 0
+  abbrev Expects : View → (ℕ → ℕ) → (ℕ → ℕ) → Type 0
   Expects = Remaining.Expects apply F body K
 
-  abbrev Before : State → (ℕ → ℕ) → (ℕ → ℕ) → Type 0
+  abbrev Before : View → (ℕ → ℕ) → (ℕ → ℕ) → Type 0
   Before = Remaining.Before apply F body K
 
   module _ (well : Well F body)
       (reads : (f v : ℕ) (vs : List ℕ) (o : Outcome) (j i : ℕ) → Fn apply F body f → Reads apply K (λ x. getD vs x 0) (body f) nowhere o j
       → Ends f o v i → K f vs v (j + i))
-      (s s′ : State) (sound : Sound apply F body s) (W′ R′ : ℕ → ℕ) (after : Expects s′ W′ R′) where
+      (s s′ : View) (sound : Sound apply F body s) (W′ R′ : ℕ → ℕ) (after : Expects s′ W′ R′) where
     module _ (h : ℕ) (r : Fn apply F body h) (u : Expr) (st : InnerStep apply F body s s′ h u) where
       mv : Still s (id u) → ⊥
       mv = inner-moving apply F body well s s′ sound (s .register h) u (st .rule)
@@ -112,7 +112,7 @@ module _ (apply : ℕ → List ℕ → ℕ) (F : ℕ) (body : ℕ → Expr) (K :
       n≢0₂ : n ≡ 0 → ⊥
       n≢0₂ = Enter.n≢0 apply F body well s s′ sound h r n g es st
 
-      abbrev t₂ : State
+      abbrev t₂ : View
       t₂ = mix (body g) s s′
 
       active-g : Active apply F body s′ g
@@ -181,12 +181,12 @@ module _ (apply : ℕ → List ℕ → ℕ) (F : ℕ) (body : ℕ → Expr) (K :
           active = λ f q a. act f q a (ℕ-discrete f h) (ℕ-discrete f g);
           rest = λ f q a. rst f q a (ℕ-discrete f g);
         },
-        total,
+        whole,
         refl,
       )
         where
-          total : sumTo F R₂ ≡ suc (sumTo F R′)
-          total = omega (
+          whole : total R₂ F ≡ suc (total R′ F)
+          whole = omega (
             arith,
             sum-put F (put R′ h (R′ h + suc (R′ g))) g 0 (fn-g₂ .0) (fn-g₂ .1),
             sum-put F R′ h (R′ h + suc (R′ g)) (r .0) (r .1),

@@ -5,13 +5,13 @@ use mathlib.Core.Path.{_≡_, subst}
 use mathlib.Core.Logic.{inl, inr}
 use Rattle.table.specs.Syntax.{Expr, Exprs, const, param, prim, call, self, cond, bind, bound, none, some, id, Every, Every*, Node, Sub}
 use Rattle.table.specs.Syntax.{Sub*}
-use Rattle.circuit.specs.Machine.{State}
+use Rattle.circuit.specs.State.{View}
 use Rattle.circuit.proofs.Shape.{Still, Idle, Done, Done*, Live, Opened*, Opened}
 use Rattle.table.specs.Well.{Apart, Apart*}
 use Rattle.circuit.proofs.Frame.{Same, idle-over, done-over, done-over*, opened-over, opened-over*, busy-frame, taken-over}
 use Rattle.table.proofs.SyntaxLaws.{node-id, every-node, every-node*, sub-node*, sub-node}
 
-module _ (s : State) (u : Expr) (moving : Still s (id u) → ⊥) where
+module _ (s : View) (u : Expr) (moving : Still s (id u) → ⊥) where
   pub idle-not : (e : Expr) → Every (Idle s) e → Sub u e → ⊥
   idle-not e h p = let i : Idle s (id u) = every-node (Idle s) (id u) e h (sub-node u (id u) e p (node-id u)) in moving (inl (i .0), i .1)
 
@@ -27,7 +27,7 @@ module _ (s : State) (u : Expr) (moving : Still s (id u) → ⊥) where
   done-not* (some e es) d (inl p) = done-not e (d .0) p
   done-not* (some e es) d (inr p) = done-not* es (d .1) p
 
-module _ (s s′ : State) (u : Expr)
+module _ (s s′ : View) (u : Expr)
     (keeps : (m : ℕ) → (Node m u → ⊥) → Same s s′ m)
     (holds : (g m : ℕ) → (Node m u → ⊥) → (m ≡ 0 → ⊥) → s .occupant g ≡ m → s′ .occupant g ≡ m)
     (moving : Still s (id u) → ⊥)

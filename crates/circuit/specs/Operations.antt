@@ -1,4 +1,4 @@
--- the operations of a primitive (document 01, "The table"): values are 32-bit; add, subtract and double wrap
+-- the operations of a primitive (document 01, "The table"): "Values are 32-bit; add, subtract and double wrap modulo 2^32"
 use Prim.Native.Nat.{ℕ, _+_, _-_, _*_, _/_, _%_, _^_}
 use mathlib.Core.List.{List, [], _∷_}
 use lib.Bits.{bitAnd, bitOr, bitXor}
@@ -6,7 +6,7 @@ use lib.Dec.{eqb, ltb}
 use lib.ListN.{getD}
 use Rattle.table.specs.Pick.{pick}
 
--- beside gives its last child's value
+-- "beside gives its last child's value"
 unfoldable pub lastValue : List ℕ → ℕ
 lastValue [] = 0
 lastValue (v ∷ []) = v
@@ -16,7 +16,9 @@ lastValue (v ∷ (w ∷ ws)) = lastValue (w ∷ ws)
 unfoldable pub wrap : ℕ → ℕ
 wrap x = x % 2 ^ 32
 
-unfoldable pub operate : ℕ → List ℕ → ℕ
+-- "0 add, 1 subtract, 2 and, 3 or, 4 xor, 8 equal, 9 less (two children each); 5 double, 6 halve, 7 low bit (one child); 10 beside";
+-- "halve rounds down, equal and less (unsigned) give 1 or 0"
+unfoldable pub operate : (operation : ℕ) → (values : List ℕ) → ℕ
 unfolding wrap
 operate op vs =
     let x = getD vs 0 0 in

@@ -23,11 +23,11 @@ pick-false b x y e = ap (λ c. pick c x y) e
 
 -- by what names a node, in any table
 module _ (t : List ℕ) (n : ℕ) (i : 1 ≤ n) where
-  owner-step : owner t n ≡ pick (eqb (namer t n) 0) (rootOf t n) (owner t (namer t n))
+  pub owner-step : owner t n ≡ pick (eqb (namer t n) 0) (rootOf t n) (owner t (namer t n))
   unfolding owner
   owner-step = back-step (namer t) (λ n r. pick (eqb (namer t n) 0) (rootOf t n) r) 0 (namer-lower t) n i
 
-  parent-step : parent t n ≡ pick (eqb (namer t n) 0) 0 (pick (eqb (first t (namer t n)) n) (namer t n) (parent t (namer t n)))
+  pub parent-step : parent t n ≡ pick (eqb (namer t n) 0) 0 (pick (eqb (first t (namer t n)) n) (namer t n) (parent t (namer t n)))
   unfolding parent
   parent-step =
       back-step (namer t) (λ n r. pick (eqb (namer t n) 0) 0 (pick (eqb (first t (namer t n)) n) (namer t n) r)) 0 (namer-lower t) n i
@@ -81,7 +81,7 @@ unfolding parent back backBy
 parent-zero t = refl
 
 module _ (t : List ℕ) (n : ℕ) (i : 1 ≤ n) where
-  tail-step : tail t n ≡ pick (eqb (parent t n) 0) true (tailChild t (parent t n) n && tail t (parent t n))
+  pub tail-step : tail t n ≡ pick (eqb (parent t n) 0) true (tailChild t (parent t n) n && tail t (parent t n))
   unfolding tail
   tail-step = back-step (parent t) (λ n r. pick (eqb (parent t n) 0) true (tailChild t (parent t n) n && r)) true (parent-lower t) n i
 

@@ -2,6 +2,13 @@ pub mod SyntaxLaws
 pub mod CallPlaces
 pub mod Tests
 pub mod FindLaws
+pub mod KindLaws
+pub mod Loops
+pub mod Copied
+pub mod NameLoops
+pub mod KinLoops
+pub mod FaultLaws
+pub mod SurveyLaws
 pub mod Passed
 pub mod Links
 pub mod Family
@@ -13,6 +20,8 @@ pub mod NodePlaces
 pub mod NumbersApart
 pub mod Tails
 pub mod Scopes
+pub mod ChainLoop
+pub mod CountLaws
 pub mod Accepted
 pub mod LaidOut
 pub mod CheckedDesigns

@@ -58,11 +58,11 @@ module _ (value : ℕ → ℕ) (ρ : ℕ → ℕ) (d : ℕ) where
   extend-old (some e es) p = let r = extend-old es p in put-one e (extend es (values value es) ρ d) (decide e) (λ n. r)
 
 module _ (t : List ℕ) where
-  under-step : (p n : ℕ) → 1 ≤ n → underLast t p n ≡ ((eqb (parent t n) p && eqb (next t n) 0) || underLast t p (parent t n))
+  pub under-step : (p n : ℕ) → 1 ≤ n → underLast t p n ≡ ((eqb (parent t n) p && eqb (next t n) 0) || underLast t p (parent t n))
   unfolding underLast
   under-step p n i = back-step (parent t) (λ n r. (eqb (parent t n) p && eqb (next t n) 0) || r) false (parent-lower t) n i
 
-  under-zero : (p : ℕ) → underLast t p 0 ≡ false
+  pub under-zero : (p : ℕ) → underLast t p 0 ≡ false
   unfolding underLast back backBy
   under-zero p = refl
 

@@ -3,6 +3,7 @@ use Prim.Native.Nat.{ℕ, zero, suc}
 use mathlib.Core.Path.{_≡_}
 use mathlib.Core.List.{List, [], _∷_}
 use lib.Dec.{leb}
+use lib.ListN.{replicate}
 use Rattle.table.specs.declared.Function.{Function}
 use Rattle.table.specs.declared.Node.{Node}
 use Rattle.table.specs.declared.Checked.{Checked}
@@ -38,6 +39,14 @@ ownersOf t = tabulate (λ n. record { 0 = ifAccepted (checkOf t) (ofNode t (owne
 
 unfoldable pub parentsOf : List ℕ → List Node
 parentsOf t = tabulate (λ n. record { 0 = ifAccepted (checkOf t) (ofNode t (parent t) n) 0 }) 513 0
+
+-- a refusal, with nothing told of the nodes
+abbrev pub blankOf : ℕ → ℕ → Findings
+blankOf number place = record {
+  checked = Refused number (record { 0 = place });
+  owner = replicate 513 (record { 0 = 0 });
+  parent = replicate 513 (record { 0 = 0 });
+}
 
 pub record Surveyed (t : List ℕ) (r : Findings) : Type 0 where
   pub checked : verdictOf (r .checked) ≡ checkOf t

@@ -2,7 +2,6 @@
 use crate::frame;
 use crate::kin::Kin;
 use crate::kinds;
-
 ghost use mathlib.Core.Path.{_≡_};
 ghost use mathlib.Core.Bool.{_&&_, _||_, not};
 ghost use Prim.Native.Nat.{ℕ, _+_, _*_, _<_, _≤_};
@@ -24,7 +23,14 @@ pub struct Fault {
 fn callee_fits(kind: u8, word: u32, own: u16) -> bool
     ensures { λ r. ⌜ r ≡ (not (eqb kind 4) || among 1 own word) ⌝ }
 {
-    kind != 4 || (1 <= word && word <= (own as u32))
+    if kind != 4 {
+        return true;
+    }
+    if word < 1 {
+        false
+    } else {
+        word <= (own as u32)
+    }
 }
 
 // The number of siblings from c on.
@@ -49,8 +55,7 @@ fn callee_params(table: &[u8], kind: u8, word: u32) -> u8
     if kind != 4 {
         return 0;
     }
-    let f = word as usize;
-    table[4 * f]
+    frame::params_at(table, word as usize)
 }
 
 // 7: as many children as kind and operation allow.
@@ -62,7 +67,11 @@ fn count_fits(table: &[u8], base: usize, n: usize, kind: u8, extra: u8, word: u3
     let c = kinds::child_counts(kind, extra, p);
     let first = frame::first_at(table, base, n);
     let j = chain_length(table, base, first);
-    (c.low as usize) <= j && j <= (c.high as usize)
+    if j < (c.low as usize) {
+        false
+    } else {
+        j <= (c.high as usize)
+    }
 }
 
 // Whether n or a node above it is the last child of p.
@@ -73,8 +82,8 @@ fn under_last(table: &[u8], base: usize, parents: &[u16; 513], p: usize, n: usiz
     let mut a = n;
     while p < a {
         let up = parents[a] as usize;
-        if up == p && frame::next_at(table, base, a) == 0 {
-            return true;
+        if up == p {
+            return frame::next_at(table, base, a) == 0;
         }
         a = up;
     }
@@ -87,24 +96,41 @@ fn in_scope(table: &[u8], base: usize, parents: &[u16; 513], d: u32, n: usize) -
     ensures { λ r. ⌜ r ≡ inScope (now (table .entry)) d n ⌝ }
 {
     let k = d as usize;
-    if k == 0 || frame::last(table) < k {
+    if k == 0 {
+        return false;
+    }
+    if frame::last_node(table) < k {
         return false;
     }
     let p = parents[k] as usize;
-    if p == 0 || frame::kind_at(table, base, p) != 6 || frame::next_at(table, base, k) == 0 {
+    if p == 0 {
+        return false;
+    }
+    if frame::kind_at(table, base, p) != 6 {
+        return false;
+    }
+    if frame::next_at(table, base, k) == 0 {
         return false;
     }
     under_last(table, base, parents, p, n)
 }
 
 // 8: a parameter's index is below the count, a bound node's definiens is in scope.
-fn scope_fits(table: &[u8], base: usize, parents: &[u16; 513], n: usize, kind: u8, extra: u8, word: u32, own: u16) -> bool
+fn scope_fits(
+    table: &[u8],
+    base: usize,
+    parents: &[u16; 513],
+    n: usize,
+    kind: u8,
+    extra: u8,
+    word: u32,
+    own: u16,
+) -> bool
     requires { ⌜ NodeAt (now table) base n kind extra word × Parents (now table) (now parents) × (own ≡ owner (now table) n) ⌝ }
     ensures { λ r. ⌜ r ≡ scoped (now (table .entry)) n ⌝ }
 {
     if kind == 2 {
-        let f = own as usize;
-        return extra < table[4 * f];
+        return extra < frame::params_at(table, own as usize);
     }
     if kind == 7 {
         return in_scope(table, base, parents, word, n);
@@ -116,7 +142,10 @@ fn scope_fits(table: &[u8], base: usize, parents: &[u16; 513], n: usize, kind: u
 fn tail_fits(kind: u8, word: u32, own: u16, tail: bool) -> bool
     ensures { λ r. ⌜ r ≡ (not (eqb kind 4 && eqb word own) || tail) ⌝ }
 {
-    kind != 4 || word != (own as u32) || tail
+    if kind != 4 {
+        return true;
+    }
+    if word == (own as u32) { tail } else { true }
 }
 
 // The first number that a node meets, 10 where it meets none.
@@ -125,11 +154,10 @@ fn fault_at(table: &[u8], base: usize, parents: &[u16; 513], n: usize, own: u16,
     requires { ⌜ (own ≡ owner (now table) n) × (tail ≡ tailOf (now table) n) ⌝ }
     ensures { λ r. ⌜ r ≡ faultAt (now (table .entry)) n ⌝ }
 {
-    let at = base + 10 * n - 10;
-    let kind = table[at];
-    let extra = table[at + 1];
-    let word = frame::four_at(table, at + 2);
-    let first = frame::two_at(table, at + 6);
+    let kind = frame::kind_at(table, base, n);
+    let extra = frame::extra_at(table, base, n);
+    let word = frame::word_at(table, base, n);
+    let first = frame::first_at(table, base, n);
     if !kinds::formed(kind, extra, word, first) {
         return 5;
     }
@@ -152,7 +180,11 @@ fn fault_at(table: &[u8], base: usize, parents: &[u16; 513], n: usize, own: u16,
 fn lower(best: Fault, number: u8, place: u16) -> Fault
     ensures { λ r. ⌜ r ≡ better best number place ⌝ }
 {
-    if number < best.number { Fault { number, place } } else { best }
+    if number < best.number {
+        Fault { number, place }
+    } else {
+        best
+    }
 }
 
 // The lowest number of 5 to 9 that a node meets, and the lowest node that meets it.
@@ -161,7 +193,7 @@ pub(crate) fn lowest(table: &[u8], kin: Kin) -> Fault
     ensures { λ r. ⌜ faultVerdict (now (table .entry)) r ≡ checkNodes (now (table .entry)) ⌝ }
 {
     let base = frame::base(table);
-    let last = frame::last(table);
+    let last = frame::last_node(table);
     let parents = kin.parent;
     let mut best = Fault {
         number: 10,

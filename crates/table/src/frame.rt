@@ -4,10 +4,11 @@ ghost use mathlib.Core.Bool.{_&&_};
 ghost use Prim.Native.Nat.{_+_, _*_, _<_, _≤_};
 ghost use lib.Dec.{leb, eqb};
 ghost use lib.ListN.{length};
-ghost use Rattle.table.specs.Bytes.{functions, nodes, twoAt, fourAt, kind, first, next};
+ghost use Rattle.table.specs.Bytes.{functions, nodes, twoAt, fourAt, params, spare, root};
+ghost use Rattle.table.specs.Bytes.{kind, extra, word, first, next};
 ghost use Rattle.table.specs.Find.{all};
-ghost use Rattle.table.specs.Check.{rootFits, recordFits};
-ghost use Rattle.table.specs.Working.{Framed, At, frameNumber};
+ghost use Rattle.table.specs.Check.{among, rootFits, recordFits};
+ghost use Rattle.table.specs.Working.{Framed, IsFunction, At, frameNumber};
 
 // The number of two bytes, the lower one first.
 pub(crate) fn two(low: u8, high: u8) -> u16
@@ -34,20 +35,49 @@ pub(crate) fn four_at(table: &[u8], at: usize) -> u32
     (low as u32) + 65536 * (high as u32)
 }
 
+// Main's number.
+pub(crate) fn last_function(table: &[u8]) -> usize
+    requires { ⌜ Framed (now table) ⌝ }
+    ensures { λ r. ⌜ r ≡ functions (now (table .entry)) ⌝ }
+{
+    two_at(table, 0) as usize
+}
+
+// The last node's number.
+pub(crate) fn last_node(table: &[u8]) -> usize
+    requires { ⌜ Framed (now table) ⌝ }
+    ensures { λ r. ⌜ r ≡ nodes (now (table .entry)) ⌝ }
+{
+    two_at(table, 2) as usize
+}
+
 // Where the node records begin.
 pub(crate) fn base(table: &[u8]) -> usize
     requires { ⌜ Framed (now table) ⌝ }
     ensures { λ r. ⌜ r ≡ 4 + 4 * functions (now (table .entry)) ⌝ }
 {
-    4 + 4 * (two_at(table, 0) as usize)
+    4 + 4 * last_function(table)
 }
 
-// The last node's number.
-pub(crate) fn last(table: &[u8]) -> usize
-    requires { ⌜ Framed (now table) ⌝ }
-    ensures { λ r. ⌜ r ≡ nodes (now (table .entry)) ⌝ }
+pub(crate) fn params_at(table: &[u8], f: usize) -> u8
+    requires { ⌜ Framed (now table) × IsFunction (now table) f ⌝ }
+    ensures { λ r. ⌜ r ≡ params (now (table .entry)) f ⌝ }
 {
-    two_at(table, 2) as usize
+    table[4 * f]
+}
+
+pub(crate) fn spare_at(table: &[u8], f: usize) -> u8
+    requires { ⌜ Framed (now table) × IsFunction (now table) f ⌝ }
+    ensures { λ r. ⌜ r ≡ spare (now (table .entry)) f ⌝ }
+{
+    table[4 * f + 1]
+}
+
+pub(crate) fn root_at(table: &[u8], f: usize) -> u16
+    requires { ⌜ Framed (now table) × IsFunction (now table) f ⌝ }
+    ensures { λ r. ⌜ r ≡ root (now (table .entry)) f ⌝ }
+{
+    two_at(table, 4 * f + 2)
 }
 
 pub(crate) fn kind_at(table: &[u8], base: usize, n: usize) -> u8
@@ -55,6 +85,20 @@ pub(crate) fn kind_at(table: &[u8], base: usize, n: usize) -> u8
     ensures { λ r. ⌜ r ≡ kind (now (table .entry)) n ⌝ }
 {
     table[base + 10 * n - 10]
+}
+
+pub(crate) fn extra_at(table: &[u8], base: usize, n: usize) -> u8
+    requires { ⌜ At (now table) base n ⌝ }
+    ensures { λ r. ⌜ r ≡ extra (now (table .entry)) n ⌝ }
+{
+    table[base + 10 * n - 9]
+}
+
+pub(crate) fn word_at(table: &[u8], base: usize, n: usize) -> u32
+    requires { ⌜ At (now table) base n ⌝ }
+    ensures { λ r. ⌜ r ≡ word (now (table .entry)) n ⌝ }
+{
+    four_at(table, base + 10 * n - 8)
 }
 
 pub(crate) fn first_at(table: &[u8], base: usize, n: usize) -> u16
@@ -81,7 +125,16 @@ pub(crate) fn number(table: &[u8]) -> u8
     }
     let f = two_at(table, 0) as usize;
     let n = two_at(table, 2) as usize;
-    if f < 1 || 32 < f || n < 1 || 512 < n {
+    if f < 1 {
+        return 2;
+    }
+    if 32 < f {
+        return 2;
+    }
+    if n < 1 {
+        return 2;
+    }
+    if 512 < n {
         return 2;
     }
     if len != 4 + 4 * f + 10 * n {
@@ -95,17 +148,23 @@ pub(crate) fn roots_fit(table: &[u8]) -> bool
     requires { ⌜ Framed (now table) ⌝ }
     ensures { λ r. ⌜ r ≡ all (rootFits (now (table .entry))) (functions (now (table .entry))) ⌝ }
 {
-    let count = two_at(table, 0) as usize;
-    let last = two_at(table, 2);
-    let mut i: usize = 0;
-    while i < count {
-        let root = two_at(table, 4 * i + 6);
-        if root < 1 || last < root {
+    let main = last_function(table);
+    let last = last_node(table);
+    let mut f: usize = 0;
+    while f < main {
+        f += 1;
+        if !root_fits(root_at(table, f), last) {
             return false;
         }
-        i += 1;
     }
     true
+}
+
+fn root_fits(root: u16, last: usize) -> bool
+    ensures { λ r. ⌜ r ≡ among 1 last root ⌝ }
+{
+    let n = root as usize;
+    if n < 1 { false } else { n <= last }
 }
 
 // Whether every parameter count and spare byte is allowed.
@@ -113,15 +172,19 @@ pub(crate) fn records_fit(table: &[u8]) -> bool
     requires { ⌜ Framed (now table) ⌝ }
     ensures { λ r. ⌜ r ≡ all (recordFits (now (table .entry))) (functions (now (table .entry))) ⌝ }
 {
-    let count = two_at(table, 0) as usize;
-    let mut i: usize = 0;
-    while i < count {
-        let params = table[4 * i + 4];
-        let spare = table[4 * i + 5];
-        if 8 < params || spare != 0 {
+    let main = last_function(table);
+    let mut f: usize = 0;
+    while f < main {
+        f += 1;
+        if !record_fits(params_at(table, f), spare_at(table, f)) {
             return false;
         }
-        i += 1;
     }
     true
+}
+
+fn record_fits(params: u8, spare: u8) -> bool
+    ensures { λ r. ⌜ r ≡ (leb params 8 && eqb spare 0) ⌝ }
+{
+    if params <= 8 { spare == 0 } else { false }
 }

@@ -1,9 +1,8 @@
 // What each node is part of: its function, its parent, and whether it is in tail position.
-use crate::frame;
-use crate::names::Names;
 use crate::Function;
 use crate::Node;
-
+use crate::frame;
+use crate::names::Names;
 ghost use mathlib.Core.Path.{_≡_};
 ghost use mathlib.Core.Bool.{true, _&&_};
 ghost use mathlib.Core.List.{map};
@@ -37,7 +36,11 @@ fn parent_of(table: &[u8], base: usize, namer: usize, n: usize, above: u16) -> u
         return 0;
     }
     let first = frame::first_at(table, base, namer);
-    if (first as usize) == n { namer as u16 } else { above }
+    if (first as usize) == n {
+        namer as u16
+    } else {
+        above
+    }
 }
 
 // A branch of an if or the body of a let, whose parent p is in tail position.
@@ -51,7 +54,13 @@ fn tail_of(table: &[u8], base: usize, p: usize, n: usize, above: bool) -> bool
     let kind = frame::kind_at(table, base, p);
     let first = frame::first_at(table, base, p);
     let next = frame::next_at(table, base, n);
-    ((kind == 5 && (first as usize) != n) || (kind == 6 && next == 0)) && above
+    if kind == 5 {
+        return if (first as usize) == n { false } else { above };
+    }
+    if kind == 6 {
+        return if next == 0 { above } else { false };
+    }
+    false
 }
 
 // Parents and namers are lower than their nodes, so one pass in ascending order fills all three.
@@ -60,7 +69,7 @@ pub(crate) fn collect(table: &[u8], names: Names) -> Kin
     ensures { λ r. ⌜ Related (now (table .entry)) r ⌝ }
 {
     let base = frame::base(table);
-    let last = frame::last(table);
+    let last = frame::last_node(table);
     let mut owner = [0u16; 513];
     let mut parent = [0u16; 513];
     let mut tail = [true; 513];
@@ -74,30 +83,34 @@ pub(crate) fn collect(table: &[u8], names: Names) -> Kin
         let p = up as usize;
         tail[n] = tail_of(table, base, p, n, tail[p]);
     }
-    Kin { owner, parent, tail }
+    Kin {
+        owner,
+        parent,
+        tail,
+    }
 }
 
 // The same numbers, said to be functions'.
-pub(crate) fn functions(of: [u16; 513]) -> [Function; 513]
-    ensures { λ r. ⌜ r ≡ map asFunction of ⌝ }
+pub(crate) fn functions(raw: [u16; 513]) -> [Function; 513]
+    ensures { λ r. ⌜ r ≡ map asFunction raw ⌝ }
 {
     let mut r = [Function(0); 513];
     let mut i: usize = 0;
     while i < 513 {
-        r[i] = Function(of[i]);
+        r[i] = Function(raw[i]);
         i += 1;
     }
     r
 }
 
 // The same numbers, said to be nodes'.
-pub(crate) fn nodes(of: [u16; 513]) -> [Node; 513]
-    ensures { λ r. ⌜ r ≡ map asNode of ⌝ }
+pub(crate) fn nodes(raw: [u16; 513]) -> [Node; 513]
+    ensures { λ r. ⌜ r ≡ map asNode raw ⌝ }
 {
     let mut r = [Node(0); 513];
     let mut i: usize = 0;
     while i < 513 {
-        r[i] = Node(of[i]);
+        r[i] = Node(raw[i]);
         i += 1;
     }
     r

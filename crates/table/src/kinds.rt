@@ -26,7 +26,10 @@ pub(crate) fn child_counts(kind: u8, op: u8, params: u8) -> Counts
 {
     match kind {
         3 => operation_counts(op),
-        4 => Counts { low: params, high: params },
+        4 => Counts {
+            low: params,
+            high: params,
+        },
         5 => Counts { low: 3, high: 3 },
         6 => Counts { low: 2, high: 9 },
         _ => Counts { low: 0, high: 0 },

@@ -6,7 +6,7 @@ mod kinds;
 mod names;
 pub mod read;
 
-ghost use Rattle.table.specs.Survey.{Surveyed, verdictOf};
+ghost use Rattle.table.specs.Survey.{Surveyed, verdictOf, blankOf};
 ghost use Rattle.table.specs.Check.{checkOf};
 ghost use Rattle.table.specs.Working.{Framed};
 ghost use mathlib.Core.Path.{_≡_};
@@ -80,7 +80,9 @@ fn inspect(table: &[u8]) -> Findings
 }
 
 // A refusal, with nothing told of the nodes.
-fn blank(number: u8, place: u16) -> Findings {
+fn blank(number: u8, place: u16) -> Findings
+    ensures { λ r. ⌜ r ≡ blankOf number place ⌝ }
+{
     Findings {
         checked: Checked::Refused(number, Node(place)),
         owner: [Function(0); 513],

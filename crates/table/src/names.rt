@@ -1,6 +1,5 @@
 // Who names each node: roots, firsts and nexts (refusal 4).
 use crate::frame;
-
 ghost use mathlib.Core.Path.{_≡_};
 ghost use mathlib.Core.Bool.{_&&_, _||_};
 ghost use Prim.Native.Nat.{_+_, _*_, _<_, _≤_};
@@ -45,18 +44,22 @@ fn roots(table: &[u8]) -> Names
     requires { ⌜ Framed (now table) ⌝ }
     ensures { λ r. ⌜ Rooted (now (table .entry)) r ⌝ }
 {
-    let count = frame::two_at(table, 0);
+    let main = frame::last_function(table);
     let mut mentions = [0u16; 513];
     let mut roots = [0u16; 513];
-    let mut f: u16 = 0;
-    while f < count {
-        let root = frame::two_at(table, 4 * (f as usize) + 6);
+    let mut f: usize = 0;
+    while f < main {
+        f += 1;
+        let root = frame::root_at(table, f);
         let at = slot(root);
         mentions[at] = mentions[at] + 1;
-        f += 1;
-        roots[at] = f;
+        roots[at] = f as u16;
     }
-    Names { mentions, roots, namers: [0u16; 513] }
+    Names {
+        mentions,
+        roots,
+        namers: [0u16; 513],
+    }
 }
 
 // And what the firsts and nexts name.
@@ -65,7 +68,7 @@ fn links(table: &[u8], tops: Names) -> Names
     ensures { λ r. ⌜ Named (now (table .entry)) r ⌝ }
 {
     let base = frame::base(table);
-    let last = frame::last(table);
+    let last = frame::last_node(table);
     let mut mentions = tops.mentions;
     let mut namers = tops.namers;
     let mut n: usize = 0;
@@ -83,7 +86,11 @@ fn links(table: &[u8], tops: Names) -> Names
         namers[d] = n as u16;
     }
     let roots = tops.roots;
-    Names { mentions, roots, namers }
+    Names {
+        mentions,
+        roots,
+        namers,
+    }
 }
 
 // Whether a link is 0 or leads on from node n to a node.
@@ -91,14 +98,26 @@ fn forward(n: usize, link: u16, last: usize) -> bool
     ensures { λ r. ⌜ r ≡ (eqb link 0 || (ltb n link && leb link last)) ⌝ }
 {
     let to = link as usize;
-    to == 0 || (n < to && to <= last)
+    if to == 0 {
+        return true;
+    }
+    if n < to { to <= last } else { false }
 }
 
 // Whether a node passes 4: its links, how often it is named, and no next at a root.
 fn linked_at(n: usize, first: u16, next: u16, mentions: u16, root: u16, last: usize) -> bool
     ensures { λ r. ⌜ r ≡ linkedBy n first next mentions root last ⌝ }
 {
-    forward(n, first, last) && forward(n, next, last) && mentions == 1 && (root == 0 || next == 0)
+    if !forward(n, first, last) {
+        return false;
+    }
+    if !forward(n, next, last) {
+        return false;
+    }
+    if mentions != 1 {
+        return false;
+    }
+    if root == 0 { true } else { next == 0 }
 }
 
 // The lowest node that meets refusal 4, 0 where none does.
@@ -107,7 +126,7 @@ pub(crate) fn lowest_unlinked(table: &[u8], names: Names) -> u16
     ensures { λ r. ⌜ r ≡ lowest (linked (now (table .entry))) (nodes (now (table .entry))) ⌝ }
 {
     let base = frame::base(table);
-    let last = frame::last(table);
+    let last = frame::last_node(table);
     let mut n: usize = 0;
     while n < last {
         n += 1;

@@ -1,7 +1,6 @@
 // Total readers of a table's fields: past the end every byte reads 0.
 use crate::Function;
 use crate::Node;
-
 ghost use mathlib.Core.Path.{_≡_};
 ghost use Prim.Native.Nat.{_+_, _-_, _*_, _<_, _≤_};
 ghost use Rattle.table.specs.Bytes.{byteAt, twoAt, fourAt, functions, nodes, functionAt, nodeAt};
@@ -63,7 +62,11 @@ fn node_at(table: &[u8], n: Node) -> usize
 {
     let count = two_at(table, 0) as usize;
     let k = n.0 as usize;
-    if k == 0 { 4 + 4 * count } else { 4 + 4 * count + 10 * (k - 1) }
+    if k == 0 {
+        4 + 4 * count
+    } else {
+        4 + 4 * count + 10 * (k - 1)
+    }
 }
 
 pub fn params(table: &[u8], f: Function) -> u8

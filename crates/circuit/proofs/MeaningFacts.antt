@@ -1,0 +1,123 @@
+-- the meaning of each type of the circuit tells its values apart: an equation on the meaning fixes the whole value
+use Prim.Native.Nat.{ℕ}
+use mathlib.Core.Path.{_≡_, refl, sym, ap, _∙_}
+use mathlib.Core.List.{List, [], _∷_, map}
+use Rattle.table.specs.declared.Node.{Node}
+use Rattle.circuit.specs.State.{State512}
+use Rattle.circuit.specs.Step.{Reply, taken, answered, refused}
+use Rattle.circuit.specs.Circuit.{started, turned}
+use Rattle.circuit.specs.Circuit as Circuit
+use Rattle.circuit.specs.Runs.{whole, stopped, gave, atRest, spent, barred, names, nothing, unasked}
+use Rattle.circuit.specs.Runs as Runs
+use Rattle.circuit.specs.declared.State.{State}
+use Rattle.circuit.specs.declared.Answer.{Answer}
+use Rattle.circuit.specs.declared.Answer.the-variants as Answer
+use Rattle.circuit.specs.declared.Stepped.{Stepped}
+use Rattle.circuit.specs.declared.Opening.{Opening}
+use Rattle.circuit.specs.declared.Opening.the-variants as Opening
+use Rattle.circuit.specs.declared.Started.{Started}
+use Rattle.circuit.specs.declared.Halt.{Halt}
+use Rattle.circuit.specs.declared.Halt.the-variants as Halt
+use Rattle.circuit.specs.declared.Ran.{Ran}
+use Rattle.circuit.specs.declared.Ended.{Ended}
+use Rattle.circuit.specs.declared.Ended.the-variants as Ended
+use Rattle.circuit.specs.declared.Driven.{Driven}
+use Rattle.circuit.specs.declared.Found.{Found}
+use Rattle.circuit.specs.declared.Found.the-variants as Found
+use Rattle.circuit.specs.Meaning.{numbers, listsOf, replyOf, steppedOf, openingOf, StartedAs, haltOf, ranOf, endedOf}
+use Rattle.circuit.specs.Meaning.{drivenOf, foundOf}
+
+-- a function that is undone by another tells its arguments apart
+apart : {A B : Type 0} (f : A → B) (back : B → A) → ((a : A) → back (f a) ≡ a) → (a b : A) → f a ≡ f b → a ≡ b
+apart f back e a b p = sym (e a) ∙ ap back p ∙ e b
+
+abbrev nodeOf : ℕ → Node
+nodeOf n = record { 0 = n }
+
+numbers-back : (l : List Node) → map nodeOf (numbers l) ≡ l
+numbers-back [] = refl
+numbers-back (x ∷ l) = ap (λ m. x ∷ m) (numbers-back l)
+
+pub state-same : (s t : State) → listsOf s ≡ listsOf t → s ≡ t
+state-same s t e =
+    let o = apart numbers (map nodeOf) numbers-back (s .occupant) (t .occupant) (ap (λ x. x .occupant) e) in
+    (λ i. record { status = e i .status; second = e i .second; value = e i .value; registers = e i .registers; occupant = o i })
+
+answer-back : Reply → Answer
+answer-back taken = Answer.Taken
+answer-back (answered v) = Answer.Answered v
+answer-back (refused k p) = Answer.Refused k (nodeOf p)
+
+pub answer-same : (a b : Answer) → replyOf a ≡ replyOf b → a ≡ b
+answer-same = apart replyOf answer-back undone
+  where
+    undone : (a : Answer) → answer-back (replyOf a) ≡ a
+    undone Answer.Taken = unfold answer-back in refl
+    undone (Answer.Answered v) = unfold answer-back in refl
+    undone (Answer.Refused k p) = unfold answer-back in refl
+
+pub stepped-same : (r s : Stepped) → steppedOf r ≡ steppedOf s → r ≡ s
+stepped-same r s e =
+    let a = answer-same (r .answer) (s .answer) (ap (λ x. x .answer) e) in
+    let t = state-same (r .state) (s .state) (ap (λ x. x .state) e) in
+    (λ i. record { answer = a i; state = t i })
+
+opening-back : Circuit.Started → Opening
+opening-back (started s) = Opening.Opened
+opening-back (turned k p) = Opening.Refused k (nodeOf p)
+
+pub started-same : (r s : Started) (x : Circuit.Started) → StartedAs r x → StartedAs s x → r ≡ s
+started-same r s x p q =
+    let o = sym (undone (r .opening) (listsOf (r .state))) ∙ ap opening-back (p .answer ∙ sym (q .answer))
+    ∙ undone (s .opening) (listsOf (s .state)) in
+    let t = state-same (r .state) (s .state) (p .state ∙ sym (q .state)) in
+    (λ i. record { opening = o i; state = t i })
+  where
+    undone : (a : Opening) (l : State512) → opening-back (openingOf a l) ≡ a
+    undone Opening.Opened l = unfold opening-back in refl
+    undone (Opening.Refused k p) l = unfold opening-back in refl
+
+halt-back : Runs.Halt → Halt
+halt-back whole = Halt.Whole
+halt-back (stopped k p) = Halt.Refused k (nodeOf p)
+
+pub ran-same : (r s : Ran) → ranOf r ≡ ranOf s → r ≡ s
+ran-same r s e =
+    let h = apart haltOf halt-back undone (r .halt) (s .halt) (ap (λ x. x .halt) e) in
+    let t = state-same (r .state) (s .state) (ap (λ x. x .state) e) in
+    (λ i. record { taken = e i .taken; halt = h i; state = t i })
+  where
+    undone : (a : Halt) → halt-back (haltOf a) ≡ a
+    undone Halt.Whole = unfold halt-back in refl
+    undone (Halt.Refused k p) = unfold halt-back in refl
+
+ended-back : Runs.Ended → Ended
+ended-back (gave v) = Ended.Answered v
+ended-back atRest = Ended.AtRest
+ended-back spent = Ended.Spent
+ended-back (barred k p) = Ended.Refused k (nodeOf p)
+
+pub driven-same : (r s : Driven) → drivenOf r ≡ drivenOf s → r ≡ s
+driven-same r s e =
+    let h = apart endedOf ended-back undone (r .ended) (s .ended) (ap (λ x. x .ended) e) in
+    let t = state-same (r .state) (s .state) (ap (λ x. x .state) e) in
+    (λ i. record { taken = e i .taken; ended = h i; state = t i })
+  where
+    undone : (a : Ended) → ended-back (endedOf a) ≡ a
+    undone (Ended.Answered v) = unfold ended-back in refl
+    undone Ended.AtRest = unfold ended-back in refl
+    undone Ended.Spent = unfold ended-back in refl
+    undone (Ended.Refused k p) = unfold ended-back in refl
+
+found-back : Runs.Found → Found
+found-back (names n) = Found.Possible (nodeOf n)
+found-back nothing = Found.Nothing
+found-back (unasked k p) = Found.Refused k (nodeOf p)
+
+pub found-same : (a b : Found) → foundOf a ≡ foundOf b → a ≡ b
+found-same = apart foundOf found-back undone
+  where
+    undone : (a : Found) → found-back (foundOf a) ≡ a
+    undone (Found.Possible n) = unfold found-back in refl
+    undone Found.Nothing = unfold found-back in refl
+    undone (Found.Refused k p) = unfold found-back in refl

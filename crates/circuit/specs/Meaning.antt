@@ -1,0 +1,85 @@
+-- what the circuit's types mean: document 01's number and values for each case, and the state as lists
+use Prim.Native.Nat.{ℕ}
+use mathlib.Core.Path.{_≡_}
+use mathlib.Core.List.{List, map}
+use Rattle.table.specs.declared.Node.{Node}
+use Rattle.circuit.specs.State.{State512}
+use Rattle.circuit.specs.Step.{Reply, taken, answered, refused, Stepped}
+use Rattle.circuit.specs.Circuit.{Started, started, turned, stateOf}
+use Rattle.circuit.specs.Runs.{Halt, whole, stopped, Ran, Ended, gave, atRest, spent, barred, Driven, Found, names, nothing}
+use Rattle.circuit.specs.Runs.{unasked}
+use Rattle.circuit.specs.declared.State.{State}
+use Rattle.circuit.specs.declared.Answer.{Answer}
+use Rattle.circuit.specs.declared.Answer.the-variants as Answer
+use Rattle.circuit.specs.declared.Stepped.{Stepped as SteppedCode}
+use Rattle.circuit.specs.declared.Opening.{Opening}
+use Rattle.circuit.specs.declared.Opening.the-variants as Opening
+use Rattle.circuit.specs.declared.Started.{Started as StartedCode}
+use Rattle.circuit.specs.declared.Halt.{Halt as HaltCode}
+use Rattle.circuit.specs.declared.Halt.the-variants as HaltCode
+use Rattle.circuit.specs.declared.Ran.{Ran as RanCode}
+use Rattle.circuit.specs.declared.Ended.{Ended as EndedCode}
+use Rattle.circuit.specs.declared.Ended.the-variants as EndedCode
+use Rattle.circuit.specs.declared.Driven.{Driven as DrivenCode}
+use Rattle.circuit.specs.declared.Found.{Found as FoundCode}
+use Rattle.circuit.specs.declared.Found.the-variants as FoundCode
+
+-- node numbers
+abbrev pub numbers : List Node → List ℕ
+numbers l = map (λ n. n .0) l
+
+-- the state as lists of numbers
+abbrev pub listsOf : State → State512
+listsOf s = record {
+  status = s .status;
+  second = s .second;
+  value = s .value;
+  registers = s .registers;
+  occupant = numbers (s .occupant);
+}
+
+-- "taken, answered with main's value, refused with number and place"
+abbrev pub replyOf : Answer → Reply
+replyOf Answer.Taken = taken
+replyOf (Answer.Answered v) = answered v
+replyOf (Answer.Refused k p) = refused k (p .0)
+
+abbrev pub steppedOf : SteppedCode → Stepped
+steppedOf r = record { answer = replyOf (r .answer); state = listsOf (r .state) }
+
+-- a start's state beside its answer
+abbrev pub openingOf : Opening → State512 → Started
+openingOf Opening.Opened s = started s
+openingOf (Opening.Refused k p) s = turned k (p .0)
+
+abbrev pub startedOf : StartedCode → Started
+startedOf r = openingOf (r .opening) (listsOf (r .state))
+
+-- what a start returns: its answer, and the state that goes with it, refused or not
+pub record StartedAs (r : StartedCode) (x : Started) : Type 0 where
+  pub answer : startedOf r ≡ x
+  pub state : listsOf (r .state) ≡ stateOf x
+
+-- "the steps taken and that refusal, if any"
+abbrev pub haltOf : HaltCode → Halt
+haltOf HaltCode.Whole = whole
+haltOf (HaltCode.Refused k p) = stopped k (p .0)
+
+abbrev pub ranOf : RanCode → Ran
+ranOf r = record { taken = r .taken; halt = haltOf (r .halt); state = listsOf (r .state) }
+
+-- "answered .., at rest .., or spent"
+abbrev pub endedOf : EndedCode → Ended
+endedOf (EndedCode.Answered v) = gave v
+endedOf EndedCode.AtRest = atRest
+endedOf EndedCode.Spent = spent
+endedOf (EndedCode.Refused k p) = barred k (p .0)
+
+abbrev pub drivenOf : DrivenCode → Driven
+drivenOf r = record { taken = r .taken; ended = endedOf (r .ended); state = listsOf (r .state) }
+
+-- "a possible step, any one, or none"
+abbrev pub foundOf : FoundCode → Found
+foundOf (FoundCode.Possible n) = names (n .0)
+foundOf FoundCode.Nothing = nothing
+foundOf (FoundCode.Refused k p) = unasked k (p .0)

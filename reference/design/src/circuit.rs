@@ -1,0 +1,306 @@
+//! The circuit: its state, its steps, the query and the two runs.
+
+use crate::list::{check_tags, is_tagged};
+use crate::table::{compute, Function, Node, Refusal};
+use crate::table::{MOST_FUNCTIONS, MOST_NODES, MOST_PARAMETERS};
+use crate::tree::{Kind, Tree};
+
+pub const IDLE: u8 = 0;
+pub const OPEN: u8 = 1;
+pub const BUSY: u8 = 2;
+pub const DONE: u8 = 3;
+
+#[derive(Clone, Copy, PartialEq, Eq, Debug, Default)]
+pub struct NodeState {
+    pub status: u8,
+    pub second: bool,
+    pub value: u32,
+}
+
+#[derive(Clone, Copy, PartialEq, Eq, Debug, Default)]
+pub struct FunctionState {
+    pub registers: [u32; MOST_PARAMETERS as usize],
+    pub occupant: Node,
+}
+
+/// Entries past F and N are there too; steps keep them.
+#[derive(Clone, PartialEq, Eq, Debug)]
+pub struct State {
+    pub nodes: [NodeState; MOST_NODES as usize],
+    pub functions: [FunctionState; MOST_FUNCTIONS as usize],
+}
+
+impl State {
+    /// All zero.
+    pub fn zero() -> State {
+        State {
+            nodes: [NodeState::default(); MOST_NODES as usize],
+            functions: [FunctionState::default(); MOST_FUNCTIONS as usize],
+        }
+    }
+
+    pub fn node(&self, node: Node) -> &NodeState {
+        &self.nodes[usize::from(node.0) - 1]
+    }
+
+    pub fn node_mut(&mut self, node: Node) -> &mut NodeState {
+        &mut self.nodes[usize::from(node.0) - 1]
+    }
+
+    pub fn function(&self, function: Function) -> &FunctionState {
+        &self.functions[usize::from(function.0) - 1]
+    }
+
+    pub fn function_mut(&mut self, function: Function) -> &mut FunctionState {
+        &mut self.functions[usize::from(function.0) - 1]
+    }
+
+    fn done(&self, node: Node) -> bool {
+        self.node(node).status == DONE
+    }
+
+    fn all_done(&self, nodes: &[Node]) -> bool {
+        nodes.iter().all(|node| self.done(*node))
+    }
+
+    fn values(&self, nodes: &[Node]) -> Vec<u32> {
+        nodes.iter().map(|node| self.node(*node).value).collect()
+    }
+}
+
+#[derive(Clone, Copy, PartialEq, Eq, Debug)]
+pub enum Answer {
+    Taken,
+    Answered(u32),
+    Refused(Refusal),
+}
+
+/// How a run on a budget ended.
+#[derive(Clone, Copy, PartialEq, Eq, Debug)]
+pub enum Ending {
+    Answered(u32),
+    AtRest,
+    Spent,
+}
+
+/// Puts the state at its start, or leaves it as it is and tells why.
+pub fn start(bytes: &[u8], tags: &[u8], arguments: &[u32], state: &mut State) -> Result<(), Refusal> {
+    let tree = Tree::read(bytes)?;
+    check_tags(&tree, tags)?;
+    if arguments.len() != tree.parameters(tree.main()) {
+        return Err(Refusal { number: 11, place: 0 });
+    }
+    *state = State::zero();
+    state.function_mut(tree.main()).registers[..arguments.len()].copy_from_slice(arguments);
+    state.node_mut(tree.root(tree.main())).status = OPEN;
+    Ok(())
+}
+
+/// Asks for a step at a node, given by any number.
+pub fn step(bytes: &[u8], tags: &[u8], state: &mut State, node: u16) -> Answer {
+    let tree = match Tree::read(bytes) {
+        Ok(tree) => tree,
+        Err(refusal) => return Answer::Refused(refusal),
+    };
+    if let Err(refusal) = check_tags(&tree, tags) {
+        return Answer::Refused(refusal);
+    }
+    step_with(&tree, tags, state, node)
+}
+
+/// The step of a table and tags that are known to be in order.
+pub fn step_with(tree: &Tree, tags: &[u8], state: &mut State, node: u16) -> Answer {
+    if node < 1 || usize::from(node) > tree.node_count() {
+        return Answer::Refused(Refusal { number: 12, place: 0 });
+    }
+    if let Err(refusal) = check_state(tree, state) {
+        return Answer::Refused(refusal);
+    }
+    let refused = |number| Answer::Refused(Refusal { number, place: node });
+    let main_root = tree.root(tree.main());
+    if state.done(main_root) {
+        return refused(20);
+    }
+    match decide(tree, tags, state, Node(node)) {
+        Err(number) => refused(number),
+        Ok(change) => {
+            apply(tree, state, Node(node), change);
+            match state.done(main_root) {
+                true => Answer::Answered(state.node(main_root).value),
+                false => Answer::Taken,
+            }
+        }
+    }
+}
+
+/// Refusal 24; it looks at nothing past F and N.
+pub fn check_state(tree: &Tree, state: &State) -> Result<(), Refusal> {
+    let bad_status = |node: Node| state.node(node).status > DONE;
+    let bad_occupant = |function: Function| usize::from(state.function(function).occupant.0) > tree.node_count();
+    if tree.nodes().any(bad_status) || tree.functions().any(bad_occupant) {
+        return Err(Refusal { number: 24, place: 0 });
+    }
+    Ok(())
+}
+
+/// What a step at a node would change.
+enum Change {
+    Done(u32),
+    Busy { opens: Vec<Node> },
+    SecondPhase { opens: Node },
+    Enter(Function),
+    Leave(Function, u32),
+    Again(Function),
+}
+
+/// The change a step would bring, or 21, 22 or 23.
+fn decide(tree: &Tree, tags: &[u8], state: &State, node: Node) -> Result<Change, u16> {
+    let children = tree.children(node);
+    match (state.node(node).status, tree.kind(node)) {
+        (OPEN, Kind::Constant(value)) => Ok(Change::Done(value)),
+        (OPEN, Kind::Parameter(index)) => Ok(Change::Done(state.function(tree.owner(node)).registers[index])),
+        (OPEN, Kind::Bound(definiens)) => Ok(Change::Done(state.node(definiens).value)),
+        (OPEN, Kind::Primitive(_) | Kind::Call(_)) => Ok(Change::Busy { opens: children.to_vec() }),
+        (OPEN, Kind::If) => Ok(Change::Busy { opens: vec![children[0]] }),
+        (OPEN, Kind::Let) => Ok(Change::Busy { opens: tree.definientia(node).to_vec() }),
+        (BUSY, Kind::Primitive(operation)) if state.all_done(children) => {
+            Ok(Change::Done(compute(operation, &state.values(children))))
+        }
+        (BUSY, Kind::If) => {
+            let branch = if state.node(children[0]).value != 0 { children[1] } else { children[2] };
+            two_phases(state, node, &children[..1], branch)
+        }
+        (BUSY, Kind::Let) => two_phases(state, node, tree.definientia(node), tree.body(node)),
+        (BUSY, Kind::Call(callee)) => decide_call(tree, tags, state, node, callee),
+        _ => Err(21),
+    }
+}
+
+/// A busy if or let: after the first children the last part, and then its value.
+fn two_phases(state: &State, node: Node, first: &[Node], last: Node) -> Result<Change, u16> {
+    match state.node(node).second {
+        false if state.all_done(first) => Ok(Change::SecondPhase { opens: last }),
+        true if state.done(last) => Ok(Change::Done(state.node(last).value)),
+        _ => Err(21),
+    }
+}
+
+fn decide_call(tree: &Tree, tags: &[u8], state: &State, node: Node, callee: Function) -> Result<Change, u16> {
+    let arguments_done = state.all_done(tree.children(node));
+    if callee == tree.owner(node) {
+        // Neither the flag nor the occupant matters to a self call.
+        return if arguments_done { Ok(Change::Again(callee)) } else { Err(21) };
+    }
+    if state.node(node).second {
+        let root = tree.root(callee);
+        return if state.done(root) { Ok(Change::Leave(callee, state.node(root).value)) } else { Err(21) };
+    }
+    if !arguments_done {
+        return Err(21);
+    }
+    match (state.function(callee).occupant, is_tagged(tags, node)) {
+        (Node(0), _) => Ok(Change::Enter(callee)),
+        (_, true) => Err(22),
+        (_, false) => Err(23),
+    }
+}
+
+fn apply(tree: &Tree, state: &mut State, node: Node, change: Change) {
+    match change {
+        Change::Done(value) => finish(state, node, value),
+        Change::Busy { opens } => {
+            state.node_mut(node).status = BUSY;
+            for child in opens {
+                state.node_mut(child).status = OPEN;
+            }
+        }
+        Change::SecondPhase { opens } => {
+            state.node_mut(node).second = true;
+            state.node_mut(opens).status = OPEN;
+        }
+        Change::Enter(callee) => {
+            reset(tree, state, node, callee);
+            state.function_mut(callee).occupant = node;
+            state.node_mut(node).second = true;
+        }
+        Change::Leave(callee, value) => {
+            finish(state, node, value);
+            state.function_mut(callee).occupant = Node(0);
+        }
+        Change::Again(function) => reset(tree, state, node, function),
+    }
+}
+
+fn finish(state: &mut State, node: Node, value: u32) {
+    *state.node_mut(node) = NodeState { status: DONE, second: false, value };
+}
+
+/// Makes a function's body ready for the arguments of this call and opens its root.
+fn reset(tree: &Tree, state: &mut State, call: Node, function: Function) {
+    // Read before the reset, which takes the arguments of a self call with it.
+    let arguments = state.values(tree.children(call));
+    for node in tree.nodes_of(function) {
+        *state.node_mut(*node) = NodeState::default();
+    }
+    let registers = &mut state.function_mut(function).registers;
+    *registers = Default::default();
+    registers[..arguments.len()].copy_from_slice(&arguments);
+    state.node_mut(tree.root(function)).status = OPEN;
+}
+
+/// What query and runs check before anything else.
+fn checked(bytes: &[u8], tags: &[u8], state: &State) -> Result<Tree, Refusal> {
+    let tree = Tree::read(bytes)?;
+    check_tags(&tree, tags)?;
+    check_state(&tree, state)?;
+    Ok(tree)
+}
+
+/// The lowest node at which a step is possible, none once main has answered.
+fn possible(tree: &Tree, tags: &[u8], state: &State) -> Option<Node> {
+    if state.done(tree.root(tree.main())) {
+        return None;
+    }
+    tree.nodes().find(|node| decide(tree, tags, state, *node).is_ok())
+}
+
+/// Names a possible step, or none exactly if there is none.
+pub fn query(bytes: &[u8], tags: &[u8], state: &State) -> Result<Option<Node>, Refusal> {
+    let tree = checked(bytes, tags, state)?;
+    Ok(possible(&tree, tags, state))
+}
+
+/// Asks for the listed steps up to the first refusal; tells the steps taken and that refusal.
+pub fn run_list(bytes: &[u8], tags: &[u8], state: &mut State, nodes: &[u16]) -> (usize, Option<Refusal>) {
+    let tree = match checked(bytes, tags, state) {
+        Ok(tree) => tree,
+        Err(refusal) => return (0, Some(refusal)),
+    };
+    for (taken, node) in nodes.iter().enumerate() {
+        if let Answer::Refused(refusal) = step_with(&tree, tags, state, *node) {
+            return (taken, Some(refusal));
+        }
+    }
+    (nodes.len(), None)
+}
+
+/// Takes possible steps up to the budget; tells how many, and why it ended.
+pub fn run_budget(bytes: &[u8], tags: &[u8], state: &mut State, budget: u32) -> Result<(u32, Ending), Refusal> {
+    let tree = checked(bytes, tags, state)?;
+    let main_root = tree.root(tree.main());
+    let mut taken = 0;
+    loop {
+        if state.done(main_root) {
+            return Ok((taken, Ending::Answered(state.node(main_root).value)));
+        }
+        let Some(node) = possible(&tree, tags, state) else {
+            return Ok((taken, Ending::AtRest));
+        };
+        if taken == budget {
+            return Ok((taken, Ending::Spent));
+        }
+        let answer = step_with(&tree, tags, state, node.0);
+        debug_assert!(!matches!(answer, Answer::Refused(_)));
+        taken += 1;
+    }
+}

@@ -1,0 +1,19 @@
+//! The reference for design tables: each rule set by set, made to be read and not to be fast.
+
+pub mod asm;
+pub mod check;
+pub mod circuit;
+pub mod damage;
+pub mod draft;
+pub mod lexer;
+pub mod list;
+mod maker;
+pub mod random;
+pub mod reading;
+pub mod states;
+pub mod table;
+pub mod tree;
+
+pub use check::check;
+pub use table::{Function, Node, Refusal, Table};
+pub use tree::{Kind, Tree};

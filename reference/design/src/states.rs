@@ -1,0 +1,95 @@
+//! Random tag lists, arguments and states, among them states that no start leads to.
+
+use crate::circuit::{NodeState, State};
+use crate::list::{arbiter_list, tag_bytes, Calls};
+use crate::random::Random;
+use crate::table::{Function, Node};
+use crate::tree::Tree;
+
+/// Arguments for main.
+pub fn arguments(random: &mut Random, tree: &Tree) -> Vec<u32> {
+    (0..tree.parameters(tree.main())).map(|_| random.word()).collect()
+}
+
+/// A tag list that is in order: the arbiter list, none, every call, or any calls.
+pub fn tags(random: &mut Random, tree: &Tree) -> Vec<u8> {
+    let calls: Calls = tree.nodes().filter(|node| tree.other_callee(*node).is_some()).collect();
+    let marked = match random.below(4) {
+        0 => arbiter_list(tree),
+        1 => Calls::new(),
+        2 => calls,
+        _ => calls.into_iter().filter(|_| random.once_in(2)).collect(),
+    };
+    tag_bytes(tree, &marked)
+}
+
+/// A tag list with a fault: another length, a bit past N, or a bit at some node; by chance it may be in order.
+pub fn damaged_tags(random: &mut Random, tree: &Tree) -> Vec<u8> {
+    let mut bytes = tags(random, tree);
+    match random.below(5) {
+        0 => bytes.push(0),
+        1 => {
+            bytes.pop();
+        }
+        2 => {
+            let last = bytes.len() - 1;
+            bytes[last] |= 0x80;
+        }
+        _ => {
+            let at = random.below(bytes.len());
+            bytes[at] |= 1 << random.below(8);
+        }
+    }
+    bytes
+}
+
+/// Any state that 24 lets pass; entries past F and N hold anything.
+pub fn any_state(random: &mut Random, tree: &Tree) -> State {
+    let mut state = State::zero();
+    let node_count = tree.node_count();
+    // Done nodes and busy calls are frequent: else hardly a call comes to enter or to wait.
+    let done_share = random.within(1, 9);
+    let free_share = random.within(0, 3);
+    for (index, node) in state.nodes.iter_mut().enumerate() {
+        let status = match random.below(done_share + 3) {
+            chosen @ 0..=2 => chosen as u8,
+            _ => 3,
+        };
+        let value = random.below(3) as u32;
+        *node = NodeState { status, second: random.once_in(2), value };
+        if index >= node_count {
+            node.status = random.number() as u8;
+        }
+    }
+    for node in tree.nodes() {
+        if tree.other_callee(node).is_some() && random.once_in(2) {
+            state.node_mut(node).status = 2;
+        }
+    }
+    let main_root = tree.root(tree.main());
+    if state.node(main_root).status == 3 && !random.once_in(8) {
+        state.node_mut(main_root).status = random.within(1, 2) as u8;
+    }
+    for (index, function) in state.functions.iter_mut().enumerate() {
+        function.registers = std::array::from_fn(|_| random.word());
+        function.occupant = match random.below(4) {
+            chosen if chosen <= free_share => Node(0),
+            _ => Node(random.within(1, node_count) as u16),
+        };
+        if index >= tree.function_count() {
+            function.occupant = Node(random.number() as u16);
+        }
+    }
+    state
+}
+
+/// Makes a state that 24 turns back.
+pub fn damage_state(random: &mut Random, tree: &Tree, state: &mut State) {
+    if random.once_in(2) {
+        let node = Node(random.within(1, tree.node_count()) as u16);
+        state.node_mut(node).status = random.within(4, 255) as u8;
+    } else {
+        let function = Function(random.within(1, tree.function_count()) as u16);
+        state.function_mut(function).occupant = Node(random.within(tree.node_count() + 1, 65535) as u16);
+    }
+}

@@ -1,0 +1,181 @@
+//! The byte layout of a design table. Every reader answers for any bytes: what lies outside reads as 0.
+
+/// A node number, 1 to N in an accepted table; 0 stands for none.
+#[derive(Clone, Copy, PartialEq, Eq, PartialOrd, Ord, Hash, Debug, Default)]
+pub struct Node(pub u16);
+
+/// A function number, 1 to F in an accepted table; main is F.
+#[derive(Clone, Copy, PartialEq, Eq, PartialOrd, Ord, Hash, Debug)]
+pub struct Function(pub u16);
+
+/// Why something was turned back, and where; place 0 names no node.
+#[derive(Clone, Copy, PartialEq, Eq, PartialOrd, Ord, Hash, Debug)]
+pub struct Refusal {
+    pub number: u16,
+    pub place: u16,
+}
+
+impl Refusal {
+    /// Both halves in one number, as the other implementations return it.
+    pub fn code(self) -> u32 {
+        u32::from(self.number) * 65536 + u32::from(self.place)
+    }
+}
+
+pub const MOST_FUNCTIONS: u16 = 32;
+pub const MOST_NODES: u16 = 512;
+pub const MOST_PARAMETERS: u8 = 8;
+
+pub const CONSTANT: u8 = 1;
+pub const PARAMETER: u8 = 2;
+pub const PRIMITIVE: u8 = 3;
+pub const CALL: u8 = 4;
+pub const IF: u8 = 5;
+pub const LET: u8 = 6;
+pub const BOUND: u8 = 7;
+
+/// The operations of a primitive by number: name, fewest and most children.
+pub const OPERATIONS: [(&str, usize, usize); 11] = [
+    ("add", 2, 2),
+    ("sub", 2, 2),
+    ("and", 2, 2),
+    ("or", 2, 2),
+    ("xor", 2, 2),
+    ("double", 1, 1),
+    ("halve", 1, 1),
+    ("lowbit", 1, 1),
+    ("equal", 2, 2),
+    ("less", 2, 2),
+    ("beside", 1, 8),
+];
+
+/// What a primitive makes of its children's values.
+pub fn compute(operation: u8, values: &[u32]) -> u32 {
+    let value = |i: usize| values.get(i).copied().unwrap_or(0);
+    match operation {
+        0 => value(0).wrapping_add(value(1)),
+        1 => value(0).wrapping_sub(value(1)),
+        2 => value(0) & value(1),
+        3 => value(0) | value(1),
+        4 => value(0) ^ value(1),
+        5 => value(0).wrapping_mul(2),
+        6 => value(0) / 2,
+        7 => value(0) & 1,
+        8 => u32::from(value(0) == value(1)),
+        9 => u32::from(value(0) < value(1)),
+        _ => values.last().copied().unwrap_or(0),
+    }
+}
+
+/// A table as its bytes stand, checked or not.
+#[derive(Clone, Copy)]
+pub struct Table<'a> {
+    pub bytes: &'a [u8],
+}
+
+impl<'a> Table<'a> {
+    pub fn new(bytes: &'a [u8]) -> Self {
+        Table { bytes }
+    }
+
+    fn number(&self, at: usize, bytes: usize) -> u32 {
+        let byte = |i: usize| u32::from(self.bytes.get(at + i).copied().unwrap_or(0));
+        (0..bytes).map(|i| byte(i) << (8 * i)).sum()
+    }
+
+    /// F as the table states it.
+    pub fn function_count(&self) -> u16 {
+        self.number(0, 2) as u16
+    }
+
+    /// N as the table states it.
+    pub fn node_count(&self) -> u16 {
+        self.number(2, 2) as u16
+    }
+
+    /// The length that F and N call for.
+    pub fn wanted_length(&self) -> usize {
+        4 + 4 * usize::from(self.function_count()) + 10 * usize::from(self.node_count())
+    }
+
+    pub fn functions(&self) -> impl Iterator<Item = Function> {
+        (1..=self.function_count()).map(Function)
+    }
+
+    pub fn nodes(&self) -> impl Iterator<Item = Node> {
+        (1..=self.node_count()).map(Node)
+    }
+
+    pub fn has_node(&self, number: u16) -> bool {
+        (1..=self.node_count()).contains(&number)
+    }
+
+    fn function_field(&self, function: Function, offset: usize, bytes: usize) -> u32 {
+        if function.0 < 1 || function.0 > self.function_count() {
+            return 0;
+        }
+        self.number(4 + 4 * (usize::from(function.0) - 1) + offset, bytes)
+    }
+
+    fn node_field(&self, node: Node, offset: usize, bytes: usize) -> u32 {
+        if !self.has_node(node.0) {
+            return 0;
+        }
+        let records = 4 + 4 * usize::from(self.function_count());
+        self.number(records + 10 * (usize::from(node.0) - 1) + offset, bytes)
+    }
+
+    pub fn parameter_count(&self, function: Function) -> u8 {
+        self.function_field(function, 0, 1) as u8
+    }
+
+    pub fn second_byte(&self, function: Function) -> u8 {
+        self.function_field(function, 1, 1) as u8
+    }
+
+    pub fn root(&self, function: Function) -> Node {
+        Node(self.function_field(function, 2, 2) as u16)
+    }
+
+    pub fn kind(&self, node: Node) -> u8 {
+        self.node_field(node, 0, 1) as u8
+    }
+
+    pub fn extra(&self, node: Node) -> u8 {
+        self.node_field(node, 1, 1) as u8
+    }
+
+    pub fn word(&self, node: Node) -> u32 {
+        self.node_field(node, 2, 4)
+    }
+
+    pub fn first(&self, node: Node) -> Node {
+        Node(self.node_field(node, 6, 2) as u16)
+    }
+
+    pub fn next(&self, node: Node) -> Node {
+        Node(self.node_field(node, 8, 2) as u16)
+    }
+
+    /// The children in order. A link that doesn't lead upwards ends the chain, so it ends for any bytes.
+    pub fn children(&self, node: Node) -> Vec<Node> {
+        let mut found = Vec::new();
+        let (mut last, mut child) = (node, self.first(node));
+        while child > last && self.has_node(child.0) {
+            found.push(child);
+            (last, child) = (child, self.next(child));
+        }
+        found
+    }
+
+    /// The node and all below it.
+    pub fn at_or_below(&self, node: Node) -> Vec<Node> {
+        let mut found = vec![node];
+        let mut looked_at = 0;
+        while looked_at < found.len() {
+            found.extend(self.children(found[looked_at]));
+            looked_at += 1;
+        }
+        found
+    }
+}

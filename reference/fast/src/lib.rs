@@ -1,0 +1,77 @@
+//! The plain fast baseline: the same answers as the reference, in arrays of fixed size and without allocation.
+
+mod check;
+mod list;
+mod net;
+mod run;
+
+pub use check::check;
+pub use list::{check_tags, list};
+pub use run::{run, run_watched, start, Ending, State};
+
+/// Number and place of a refusal in one number; 0 stands for no refusal.
+pub(crate) const fn refusal(number: u32, place: u32) -> u32 {
+    number << 16 | place
+}
+
+pub(crate) const MOST_NODES: usize = 512;
+pub(crate) const MOST_FUNCTIONS: usize = 32;
+
+pub(crate) const CONSTANT: u8 = 1;
+pub(crate) const PARAMETER: u8 = 2;
+pub(crate) const PRIMITIVE: u8 = 3;
+pub(crate) const CALL: u8 = 4;
+pub(crate) const IF: u8 = 5;
+pub(crate) const LET: u8 = 6;
+pub(crate) const BOUND: u8 = 7;
+
+/// The two parts of a table whose length fits its F and N.
+#[derive(Clone, Copy)]
+pub(crate) struct Parts<'a> {
+    pub heads: &'a [u8],
+    pub records: &'a [u8],
+}
+
+impl<'a> Parts<'a> {
+    pub fn of(table: &'a [u8]) -> Parts<'a> {
+        let (heads, records) = table[4..].split_at(4 * half(table, 0));
+        Parts { heads, records }
+    }
+
+    pub fn functions(&self) -> usize {
+        self.heads.len() / 4
+    }
+
+    pub fn nodes(&self) -> usize {
+        self.records.len() / 10
+    }
+
+    pub fn parameters(&self, function: usize) -> usize {
+        self.heads[4 * (function - 1)].into()
+    }
+
+    pub fn root(&self, function: usize) -> usize {
+        half(self.heads, 4 * (function - 1) + 2)
+    }
+
+    pub fn record(&self, node: usize) -> &'a [u8; 10] {
+        let at = 10 * (node - 1);
+        self.records[at..at + 10].try_into().expect("ten bytes")
+    }
+}
+
+pub(crate) fn half(bytes: &[u8], at: usize) -> usize {
+    u16::from_le_bytes([bytes[at], bytes[at + 1]]).into()
+}
+
+pub(crate) fn word(record: &[u8; 10]) -> u32 {
+    u32::from_le_bytes([record[2], record[3], record[4], record[5]])
+}
+
+pub(crate) fn first(record: &[u8; 10]) -> usize {
+    half(record, 6)
+}
+
+pub(crate) fn next(record: &[u8; 10]) -> usize {
+    half(record, 8)
+}

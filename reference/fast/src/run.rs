@@ -1,0 +1,379 @@
+//! The run on a budget. A step costs what its node needs: nodes that it may have made ready wait on a stack.
+
+use crate::net::Net;
+use crate::{check, check_tags, refusal, Parts};
+use crate::{BOUND, CALL, CONSTANT, IF, LET, MOST_FUNCTIONS, MOST_NODES, PARAMETER, PRIMITIVE};
+
+const OPEN: u8 = 1;
+const BUSY: u8 = 2;
+const DONE: u8 = 3;
+
+/// The state, node n and function f at n - 1 and f - 1.
+#[derive(Clone, PartialEq, Eq, Debug)]
+pub struct State {
+    pub status: [u8; MOST_NODES],
+    pub second: [bool; MOST_NODES],
+    pub value: [u32; MOST_NODES],
+    pub registers: [[u32; 8]; MOST_FUNCTIONS],
+    pub occupant: [u16; MOST_FUNCTIONS],
+}
+
+impl State {
+    pub fn zero() -> State {
+        State {
+            status: [0; MOST_NODES],
+            second: [false; MOST_NODES],
+            value: [0; MOST_NODES],
+            registers: [[0; 8]; MOST_FUNCTIONS],
+            occupant: [0; MOST_FUNCTIONS],
+        }
+    }
+
+    fn done(&self, node: usize) -> bool {
+        self.status[node - 1] == DONE
+    }
+}
+
+#[derive(Clone, Copy, PartialEq, Eq, Debug)]
+pub enum Ending {
+    Answered(u32),
+    AtRest,
+    Spent,
+}
+
+/// Puts the state at its start; returns 0, or a refusal and then keeps the state.
+pub fn start(table: &[u8], tags: &[u8], arguments: &[u32], state: &mut State) -> u32 {
+    let refused = check_both(table, tags);
+    if refused != 0 {
+        return refused;
+    }
+    let parts = Parts::of(table);
+    let main = parts.functions();
+    if arguments.len() != parts.parameters(main) {
+        return refusal(11, 0);
+    }
+    *state = State::zero();
+    state.registers[main - 1][..arguments.len()].copy_from_slice(arguments);
+    state.status[parts.root(main) - 1] = OPEN;
+    0
+}
+
+fn check_both(table: &[u8], tags: &[u8]) -> u32 {
+    match check(table) {
+        0 => check_tags(table, tags),
+        refused => refused,
+    }
+}
+
+/// Takes possible steps up to the budget; tells how many and why it ended, or a refusal.
+pub fn run(table: &[u8], tags: &[u8], state: &mut State, budget: u32) -> Result<(u32, Ending), u32> {
+    run_watched(table, tags, state, budget, |_| {})
+}
+
+/// The same, telling each step's node.
+pub fn run_watched(
+    table: &[u8],
+    tags: &[u8],
+    state: &mut State,
+    budget: u32,
+    mut watch: impl FnMut(u16),
+) -> Result<(u32, Ending), u32> {
+    let refused = check_both(table, tags);
+    if refused != 0 {
+        return Err(refused);
+    }
+    let net = Net::of(table);
+    let bad_status = state.status[..net.nodes].iter().any(|status| *status > DONE);
+    if bad_status || state.occupant[..net.functions].iter().any(|node| usize::from(*node) > net.nodes) {
+        return Err(refusal(24, 0));
+    }
+    let mut runner =
+        Runner { net: &net, state, ready: Stack::empty(), inside: Waiting::none(), blocked: Waiting::none() };
+    for node in (1..=net.nodes).rev() {
+        if [OPEN, BUSY].contains(&runner.state.status[node - 1]) {
+            runner.ready.push(node);
+        }
+    }
+    let mut taken = 0;
+    loop {
+        if runner.state.done(net.main_root()) {
+            return Ok((taken, Ending::Answered(runner.state.value[net.main_root() - 1])));
+        }
+        let (node, change) = loop {
+            let Some(node) = runner.ready.pop() else {
+                return Ok((taken, Ending::AtRest));
+            };
+            if let Some(change) = runner.decide(node) {
+                break (node, change);
+            }
+        };
+        if taken == budget {
+            return Ok((taken, Ending::Spent));
+        }
+        runner.apply(node, change);
+        watch(node as u16);
+        taken += 1;
+    }
+}
+
+enum Change {
+    Done(u32),
+    Busy,
+    SecondPhase(usize),
+    Enter,
+    Leave(u32),
+    Again,
+}
+
+/// Nodes to look at next, each at most once.
+struct Stack {
+    nodes: [u16; MOST_NODES],
+    count: usize,
+    has: [bool; MOST_NODES + 1],
+}
+
+impl Stack {
+    fn empty() -> Stack {
+        Stack { nodes: [0; MOST_NODES], count: 0, has: [false; MOST_NODES + 1] }
+    }
+
+    fn push(&mut self, node: usize) {
+        if !self.has[node] {
+            self.has[node] = true;
+            self.nodes[self.count] = node as u16;
+            self.count += 1;
+        }
+    }
+
+    fn pop(&mut self) -> Option<usize> {
+        self.count = self.count.checked_sub(1)?;
+        let node = usize::from(self.nodes[self.count]);
+        self.has[node] = false;
+        Some(node)
+    }
+}
+
+/// Calls that wait for a function, as one chain each. One that no longer waits may stay until the next waking.
+struct Waiting {
+    head: [u16; MOST_FUNCTIONS + 1],
+    next: [u16; MOST_NODES + 1],
+    has: [bool; MOST_NODES + 1],
+}
+
+impl Waiting {
+    fn none() -> Waiting {
+        Waiting { head: [0; MOST_FUNCTIONS + 1], next: [0; MOST_NODES + 1], has: [false; MOST_NODES + 1] }
+    }
+
+    fn add(&mut self, function: usize, node: usize) {
+        if !self.has[node] {
+            self.has[node] = true;
+            self.next[node] = self.head[function];
+            self.head[function] = node as u16;
+        }
+    }
+
+    fn wake(&mut self, function: usize, ready: &mut Stack) {
+        let mut node = usize::from(std::mem::take(&mut self.head[function]));
+        while node != 0 {
+            self.has[node] = false;
+            ready.push(node);
+            node = self.next[node].into();
+        }
+    }
+}
+
+struct Runner<'a> {
+    net: &'a Net,
+    state: &'a mut State,
+    /// Every node with a step is in here; others may be too.
+    ready: Stack,
+    /// Calls in second phase, waiting for their callee's root.
+    inside: Waiting,
+    /// Calls with their arguments done, waiting for their callee to be free.
+    blocked: Waiting,
+}
+
+impl Runner<'_> {
+    fn children_done(&self, node: usize) -> bool {
+        let mut child = usize::from(self.net.cells[node].first);
+        while child != 0 {
+            if !self.state.done(child) {
+                return false;
+            }
+            child = self.net.cells[child].next.into();
+        }
+        true
+    }
+
+    /// What a step would do here, if there is one; a call that has to wait is put where it will be woken.
+    fn decide(&mut self, node: usize) -> Option<Change> {
+        let cell = self.net.cells[node];
+        let status = self.state.status[node - 1];
+        if status == OPEN {
+            return Some(match cell.kind {
+                CONSTANT => Change::Done(cell.word),
+                PARAMETER => Change::Done(self.state.registers[usize::from(cell.owner) - 1][usize::from(cell.extra)]),
+                BOUND => Change::Done(self.state.value[cell.word as usize - 1]),
+                _ => Change::Busy,
+            });
+        }
+        if status != BUSY {
+            return None;
+        }
+        let second = self.state.second[node - 1];
+        match cell.kind {
+            PRIMITIVE if self.children_done(node) => Some(Change::Done(self.compute(node))),
+            IF => {
+                let condition = usize::from(cell.first);
+                if !second && !self.state.done(condition) {
+                    return None;
+                }
+                let mut branch = self.net.cells[condition].next;
+                if self.state.value[condition - 1] == 0 {
+                    branch = self.net.cells[usize::from(branch)].next;
+                }
+                self.last_part(second, branch.into())
+            }
+            LET => {
+                let mut child = usize::from(cell.first);
+                while self.net.cells[child].next != 0 {
+                    if !second && !self.state.done(child) {
+                        return None;
+                    }
+                    child = self.net.cells[child].next.into();
+                }
+                self.last_part(second, child)
+            }
+            CALL => self.decide_call(node, second),
+            _ => None,
+        }
+    }
+
+    fn last_part(&self, second: bool, last: usize) -> Option<Change> {
+        match second {
+            false => Some(Change::SecondPhase(last)),
+            true => self.state.done(last).then(|| Change::Done(self.state.value[last - 1])),
+        }
+    }
+
+    fn decide_call(&mut self, node: usize, second: bool) -> Option<Change> {
+        let callee = self.net.cells[node].word as usize;
+        if callee == usize::from(self.net.cells[node].owner) {
+            return self.children_done(node).then_some(Change::Again);
+        }
+        if second {
+            let root = usize::from(self.net.roots[callee]);
+            if self.state.done(root) {
+                return Some(Change::Leave(self.state.value[root - 1]));
+            }
+            self.inside.add(callee, node);
+            return None;
+        }
+        if !self.children_done(node) {
+            return None;
+        }
+        if self.state.occupant[callee - 1] != 0 {
+            self.blocked.add(callee, node);
+            return None;
+        }
+        Some(Change::Enter)
+    }
+
+    fn compute(&self, node: usize) -> u32 {
+        let cell = self.net.cells[node];
+        let one = usize::from(cell.first);
+        let mut last = one;
+        while self.net.cells[last].next != 0 {
+            last = self.net.cells[last].next.into();
+        }
+        let (a, b) = (self.state.value[one - 1], self.state.value[last - 1]);
+        match cell.extra {
+            0 => a.wrapping_add(b),
+            1 => a.wrapping_sub(b),
+            2 => a & b,
+            3 => a | b,
+            4 => a ^ b,
+            5 => a << 1,
+            6 => a >> 1,
+            7 => a & 1,
+            8 => u32::from(a == b),
+            9 => u32::from(a < b),
+            _ => b,
+        }
+    }
+
+    fn apply(&mut self, node: usize, change: Change) {
+        let cell = self.net.cells[node];
+        let callee = cell.word as usize;
+        match change {
+            Change::Done(value) => self.finish(node, value),
+            Change::Busy => {
+                self.state.status[node - 1] = BUSY;
+                // Below its children on the stack, so that it is looked at after them.
+                self.ready.push(node);
+                let mut child = usize::from(cell.first);
+                while child != 0 {
+                    let after = usize::from(self.net.cells[child].next);
+                    if cell.kind != LET || after != 0 {
+                        self.open(child);
+                    }
+                    child = if cell.kind == IF { 0 } else { after };
+                }
+            }
+            Change::SecondPhase(last) => {
+                self.state.second[node - 1] = true;
+                self.ready.push(node);
+                self.open(last);
+            }
+            Change::Enter => {
+                self.ready.push(node);
+                self.reset(node, callee);
+                self.state.second[node - 1] = true;
+                self.state.occupant[callee - 1] = node as u16;
+            }
+            Change::Leave(value) => {
+                self.finish(node, value);
+                self.state.occupant[callee - 1] = 0;
+                self.blocked.wake(callee, &mut self.ready);
+            }
+            Change::Again => self.reset(node, callee),
+        }
+    }
+
+    fn open(&mut self, node: usize) {
+        self.state.status[node - 1] = OPEN;
+        self.ready.push(node);
+    }
+
+    fn finish(&mut self, node: usize, value: u32) {
+        self.state.status[node - 1] = DONE;
+        self.state.second[node - 1] = false;
+        self.state.value[node - 1] = value;
+        let cell = self.net.cells[node];
+        if cell.root_of != 0 {
+            self.inside.wake(cell.root_of.into(), &mut self.ready);
+        } else {
+            self.ready.push(cell.holder.into());
+        }
+    }
+
+    fn reset(&mut self, call: usize, function: usize) {
+        let mut arguments = [0; 8];
+        let mut child = usize::from(self.net.cells[call].first);
+        for argument in &mut arguments {
+            if child != 0 {
+                *argument = self.state.value[child - 1];
+                child = self.net.cells[child].next.into();
+            }
+        }
+        self.state.registers[function - 1] = arguments;
+        for node in self.net.members(function) {
+            let at = usize::from(*node) - 1;
+            self.state.status[at] = 0;
+            self.state.second[at] = false;
+            self.state.value[at] = 0;
+        }
+        self.open(self.net.roots[function].into());
+    }
+}

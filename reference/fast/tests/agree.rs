@@ -1,0 +1,166 @@
+//! The fast baseline gives the same answers as the reference.
+
+use design::circuit::{self, Answer, NodeState};
+use design::damage::damaged;
+use design::list::tags_of;
+use design::random::{accepted, accepted_of, Random};
+use design::reading::read;
+use design::states::{any_state, arguments, damage_state, damaged_tags, tags};
+use design::{check, Node, Tree};
+use fast::{run_watched, Ending, State};
+
+fn code(answer: Result<(), design::Refusal>) -> u32 {
+    answer.map_or_else(|refusal| refusal.code(), |()| 0)
+}
+
+/// A table as one line of hex digits.
+fn shown(bytes: &[u8]) -> String {
+    bytes.iter().map(|byte| format!("{byte:02x}")).collect()
+}
+
+#[test]
+fn the_checks_agree() {
+    let mut random = Random::new(11);
+    for _ in 0..20000 {
+        let bytes = damaged(&mut random);
+        assert_eq!(fast::check(&bytes), code(check(&bytes)), "{}", shown(&bytes));
+    }
+    for _ in 0..4000 {
+        let bytes = accepted(&mut random);
+        assert_eq!(fast::check(&bytes), 0, "{}", shown(&bytes));
+    }
+}
+
+#[test]
+fn the_lists_agree() {
+    let mut random = Random::new(12);
+    let mut listed = 0;
+    for _ in 0..3000 {
+        let bytes = accepted(&mut random);
+        let wanted = tags_of(&bytes).expect("an accepted table");
+        let mut found = [0xff; 64];
+        assert_eq!(fast::list(&bytes, &mut found), 0);
+        assert_eq!(found[..wanted.len()], wanted);
+        assert!(found[wanted.len()..].iter().all(|byte| *byte == 0));
+        listed += usize::from(wanted.iter().any(|byte| *byte != 0));
+        let tree = Tree::read(&bytes).expect("an accepted table");
+        let tags = damaged_tags(&mut random, &tree);
+        assert_eq!(fast::check_tags(&bytes, &tags), code(design::list::check_tags(&tree, &tags)));
+    }
+    assert!(listed > 1000, "{listed}");
+    let mut kept = [7; 64];
+    assert_eq!(fast::list(&[1, 0, 1], &mut kept), 1 << 16);
+    assert_eq!(kept, [7; 64]);
+}
+
+fn to_fast(state: &circuit::State) -> State {
+    State {
+        status: std::array::from_fn(|i| state.nodes[i].status),
+        second: std::array::from_fn(|i| state.nodes[i].second),
+        value: std::array::from_fn(|i| state.nodes[i].value),
+        registers: std::array::from_fn(|i| state.functions[i].registers),
+        occupant: std::array::from_fn(|i| state.functions[i].occupant.0),
+    }
+}
+
+fn from_fast(state: &State) -> circuit::State {
+    let mut found = circuit::State::zero();
+    for (i, node) in found.nodes.iter_mut().enumerate() {
+        *node = NodeState { status: state.status[i], second: state.second[i], value: state.value[i] };
+    }
+    for (i, function) in found.functions.iter_mut().enumerate() {
+        *function = circuit::FunctionState { registers: state.registers[i], occupant: Node(state.occupant[i]) };
+    }
+    found
+}
+
+/// Runs from this state and has the reference take the same steps one by one.
+fn replay(bytes: &[u8], tags: &[u8], begun: &circuit::State, budget: u32) -> (u32, Ending) {
+    let tree = Tree::read(bytes).expect("an accepted table");
+    let mut state = to_fast(begun);
+    let mut steps = Vec::new();
+    let (taken, ending) =
+        run_watched(bytes, tags, &mut state, budget, |node| steps.push(node)).expect("a state in order");
+    assert_eq!(taken as usize, steps.len());
+    let mut own = begun.clone();
+    let mut answer = Answer::Taken;
+    for node in steps {
+        assert_eq!(answer, Answer::Taken);
+        answer = circuit::step_with(&tree, tags, &mut own, node);
+        assert!(!matches!(answer, Answer::Refused(_)), "{node}: {answer:?}");
+    }
+    assert!(from_fast(&state) == own);
+    let at_end = circuit::run_budget(bytes, tags, &mut own, 0).expect("a state in order").1;
+    let expected = match ending {
+        Ending::Answered(value) => circuit::Ending::Answered(value),
+        Ending::AtRest => circuit::Ending::AtRest,
+        Ending::Spent => circuit::Ending::Spent,
+    };
+    assert_eq!(at_end, expected);
+    assert!(ending != Ending::Spent || taken == budget);
+    (taken, ending)
+}
+
+#[test]
+fn runs_from_a_start_agree() {
+    let mut random = Random::new(13);
+    for round in 0..1500 {
+        let bytes = accepted(&mut random);
+        let tree = Tree::read(&bytes).expect("an accepted table");
+        let (tags, arguments) = (tags(&mut random, &tree), arguments(&mut random, &tree));
+        let mut begun = circuit::State::zero();
+        circuit::start(&bytes, &tags, &arguments, &mut begun).expect("a start");
+        let mut own = State::zero();
+        assert_eq!(fast::start(&bytes, &tags, &arguments, &mut own), 0);
+        assert!(own == to_fast(&begun));
+        let budget = if round % 4 == 0 { random.below(200) as u32 } else { 800 };
+        let found = replay(&bytes, &tags, &begun, budget);
+        match read(&tree, &arguments, budget.into()) {
+            Some(reading) => assert_eq!(found, (reading.count as u32, Ending::Answered(reading.value))),
+            None => assert_eq!(found, (budget, Ending::Spent)),
+        }
+    }
+}
+
+#[test]
+fn runs_from_any_state_agree() {
+    let mut random = Random::new(14);
+    let mut endings = [0; 3];
+    for _ in 0..3000 {
+        let nodes = random.within(1, 60);
+        let bytes = accepted_of(&mut random, nodes);
+        let tree = Tree::read(&bytes).expect("an accepted table");
+        let tags = tags(&mut random, &tree);
+        let mut begun = any_state(&mut random, &tree);
+        let (_, ending) = replay(&bytes, &tags, &begun, 300);
+        endings[match ending {
+            Ending::Answered(_) => 0,
+            Ending::AtRest => 1,
+            Ending::Spent => 2,
+        }] += 1;
+        damage_state(&mut random, &tree, &mut begun);
+        let mut state = to_fast(&begun);
+        assert_eq!(fast::run(&bytes, &tags, &mut state, 300), Err(24 << 16));
+        assert!(state == to_fast(&begun));
+    }
+    assert!(endings.iter().all(|count| *count > 100), "{endings:?}");
+}
+
+#[test]
+fn starts_are_refused_alike() {
+    let mut random = Random::new(15);
+    for _ in 0..2000 {
+        let bytes = if random.once_in(2) { damaged(&mut random) } else { accepted(&mut random) };
+        let tags = match Tree::read(&bytes) {
+            Ok(tree) if random.once_in(2) => damaged_tags(&mut random, &tree),
+            Ok(tree) => tags(&mut random, &tree),
+            Err(_) => vec![0],
+        };
+        let count = random.below(4);
+        let mut wanted = circuit::State::zero();
+        let answer = circuit::start(&bytes, &tags, &vec![1; count], &mut wanted);
+        let mut found = State::zero();
+        assert_eq!(fast::start(&bytes, &tags, &vec![1; count], &mut found), code(answer));
+        assert!(found == to_fast(&wanted));
+    }
+}
