@@ -160,6 +160,7 @@ pub record Sided (t : List ℕ) (f n : ℕ) (defs : Bool) (r : Siblings) (set se
 -- the records of an accepted table, or none, beside what the lent list of len records is told
 pub record Finds (t : List ℕ) (len : ℕ) (r : Found) : Type 0 where
   pub told : verdictOf (r .checked) ≡ recordsVerdict t len
+  pub size : length (r .items) ≡ 512
   pub fits : r .count ≤ len
   pub few : r .count ≤ 512
   pub records : take (r .count) (r .items) ≡ ifAccepted (recordsVerdict t len) (recordsOf t) []
@@ -167,5 +168,6 @@ pub record Finds (t : List ℕ) (len : ℕ) (r : Found) : Type 0 where
 -- the whole list, whatever is lent
 pub record Lists (t : List ℕ) (r : Found) : Type 0 where
   pub told : verdictOf (r .checked) ≡ accepted (functions t) (nodes t)
+  pub size : length (r .items) ≡ 512
   pub few : r .count ≤ 512
   pub records : take (r .count) (r .items) ≡ recordsOf t
