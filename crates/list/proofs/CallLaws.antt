@@ -22,9 +22,9 @@ use Rattle.list.specs.Arbiters.{Test, nothing, joined, anyUpTo, callsIn,
 use Rattle.list.specs.CallSets.{callee, callee-at, sets}
 use Rattle.list.specs.Tags.{calleeOf, listed}
 use Rattle.list.specs.Working.{Callee, Taken, callsBy, callsAt, callsAt*, conflictsAt, conflictsAt*}
-use Rattle.list.proofs.ListedCalls.{Calling, C-all, sets-all}
+use Rattle.list.proofs.ListedCalls.{Calling, C-all, sets-all, listed-all}
 use Rattle.list.proofs.ArbiterFacts.{C-decides, sets-decides, any-in}
-use Rattle.list.proofs.Callees.{callee-word}
+use Rattle.list.proofs.Callees.{callee-word, listed-exactly}
 
 pub or-left : (a b : Bool) → a ≡ true → a || b ≡ true
 or-left true b e = refl
@@ -203,3 +203,17 @@ module _ (t : List ℕ) (ok : Taken t) where
       (owner t n) (o .0) (o .1)
       (part (nodes t) (calleeOf t) (callsOf (nodes t) (calleeOf t) (bodyOf t) (functions t)) m (exprAt t n) e (bodyOf t (owner t n))
       (l .placed n (i .0) (i .1)))
+
+  -- what is listed is a call of a function of the table
+  pub listed-called : (n : ℕ) → listed t n ≡ true → (1 ≤ calleeOf t n) × (calleeOf t n ≤ functions t)
+  listed-called n e =
+      listed-all (λ c. (1 ≤ calleeOf t c) × (calleeOf t c ≤ functions t)) (functions t) (bodyOf t) (exprAt t)
+      (λ f a b c g i. here f a b c g i) n (listed-exactly t (functions t) (nodes t) ok n .0 e)
+    where
+      here : (f : ℕ) → 1 ≤ f → f ≤ functions t → (c g : ℕ) → CallIn c g (bodyOf t f) → (1 ≤ calleeOf t c) × (calleeOf t c ≤ functions t)
+      here f a b c g i =
+          let l = laid t (functions t) (nodes t) ok in
+          let q = call-here l f c g (a, b) i in
+          let w = l .well .below f c g a b i in
+          let z : calleeOf t c ≡ g = callee-word t c ∙ ap callee (q .1) in
+          (omega (arith, z, w .0), omega (arith, z, w .1, b))

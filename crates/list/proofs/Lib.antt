@@ -17,6 +17,9 @@ pub mod SiteLaws
 pub mod NodeWalks
 pub mod WalkMeasure
 pub mod TagFacts
+pub mod Totals
+pub mod RecordLoops
+pub mod RecordVerdicts
 pub mod Owners
 pub mod TagLoops
 pub mod TagVerdicts

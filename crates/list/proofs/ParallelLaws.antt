@@ -42,7 +42,7 @@ any-or (suc k) p q = ap (λ a. (p (suc k) || q (suc k)) || a) (any-or k p q) ∙
     swap false false c d = refl
 
 -- a node that has a callee is a call of it
-call-there : (t : List ℕ) (m : ℕ) → 1 ≤ calleeOf t m → (eqb (kind t m) 4 ≡ true) × (calleeOf t m ≡ word t m)
+pub call-there : (t : List ℕ) (m : ℕ) → 1 ≤ calleeOf t m → (eqb (kind t m) 4 ≡ true) × (calleeOf t m ≡ word t m)
 unfolding calleeOf isCall
 call-there t m h = go (eqb (kind t m) 4) (eqb (word t m) (owner t m)) h
   where

@@ -1,10 +1,10 @@
 -- what the parts of the walk ask of each other: packed sets, the sites of each function, and what the walk keeps
-use Prim.Native.Nat.{ℕ, _+_, _*_, _/_, _%_, _^_, _≤_, _<_}
+use Prim.Native.Nat.{ℕ, _+_, _-_, _*_, _/_, _%_, _^_, _≤_, _<_}
 use mathlib.Core.Bool.{Bool, true, false, _&&_, _||_}
 use mathlib.Core.Path.{_≡_}
-use mathlib.Core.List.{List}
+use mathlib.Core.List.{List, []}
 use lib.Dec.{eqb, leb}
-use lib.ListN.{length, getD}
+use lib.ListN.{length, getD, take, drop, replicate}
 use Rattle.table.specs.Pick.{pick, Range}
 use Rattle.table.specs.Syntax.{Expr, Exprs, none, some}
 use Rattle.table.specs.Bytes.{functions, nodes, kind, word, first}
@@ -12,9 +12,12 @@ use Rattle.table.specs.Naming.{owner}
 use Rattle.table.specs.Check.{accepted, checkOf}
 use Rattle.table.specs.Expressions.{exprsAt, exprAt, bodyOf, defsAt, finalAt}
 use Rattle.table.specs.Working.{IsNode, IsFunction}
+use Rattle.table.specs.Survey.{verdictOf, ifAccepted}
+use Rattle.list.specs.declared.Listing.{Listing}
 use Rattle.list.specs.declared.walk.Siblings.{Siblings}
 use Rattle.list.specs.Arbiters.{Test, nothing, joined, anyUpTo, callsIn, callsIn*, parallel, conflicts, conflicts*, callsOf}
 use Rattle.list.specs.Tags.{tagged, calleeOf, listed}
+use Rattle.list.specs.Records.{noRecord, recordsOf, recordsVerdict}
 
 -- bit k of a number
 abbrev pub bitAt : ℕ → ℕ → Bool
@@ -153,3 +156,19 @@ pub record Sided (t : List ℕ) (f n : ℕ) (defs : Bool) (r : Siblings) (set se
       set′ bodies′ called called′ found found′
   pub last : defs ≡ true → IsNode t (r .last .0) × (owner t (r .last .0) ≡ f) × (first t n ≤ r .last .0)
       × (finalAt t (first t n) ≡ exprAt t (r .last .0))
+
+-- the records of an accepted table, or none, beside what the lent list of len records is told
+pub record Finds (t : List ℕ) (len : ℕ) (r : Listing) : Type 0 where
+  pub told : verdictOf (r .checked) ≡ recordsVerdict t len
+  pub size : length (r .items) ≡ 512
+  pub fits : r .count ≤ len
+  pub few : r .count ≤ 512
+  pub records : take (r .count) (r .items) ≡ ifAccepted (recordsVerdict t len) (recordsOf t) []
+
+-- the whole list, whatever is lent
+pub record Lists (t : List ℕ) (r : Listing) : Type 0 where
+  pub told : verdictOf (r .checked) ≡ accepted (functions t) (nodes t)
+  pub size : length (r .items) ≡ 512
+  pub few : r .count ≤ 512
+  pub records : take (r .count) (r .items) ≡ recordsOf t
+  pub past : drop (r .count) (r .items) ≡ replicate (512 - r .count) noRecord

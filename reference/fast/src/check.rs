@@ -1,10 +1,18 @@
-//! The table check in time linear in the table.
+//! The table check in time linear in the table. What a node has to be is looked up and not branched on:
+//! the kinds of neighbouring nodes are hard to foresee.
+
+use std::hint::select_unpredictable as select;
 
 use crate::{first, half, next, refusal, word, Parts};
-use crate::{BOUND, CALL, CONSTANT, IF, LET, MOST_FUNCTIONS, MOST_NODES, PARAMETER, PRIMITIVE};
+use crate::{BOUND, CALL, IF, LET, MOST_FUNCTIONS, MOST_NODES, PARAMETER, PRIMITIVE};
 
 /// 0 for an accepted table, else the refusal's number times 65536 plus its place.
 pub fn check(table: &[u8]) -> u32 {
+    survey(table, &mut Survey::EMPTY)
+}
+
+/// The same, and what was learnt of an accepted table on the way.
+pub(crate) fn survey(table: &[u8], survey: &mut Survey) -> u32 {
     if table.len() < 4 {
         return refusal(1, 0);
     }
@@ -16,13 +24,16 @@ pub fn check(table: &[u8]) -> u32 {
         return refusal(3, 0);
     }
     let parts = Parts::of(table);
-    match links(&parts) {
-        0 => sense(&parts),
-        refused => refused,
+    if !survey.look_below(&parts) {
+        return links(&parts);
     }
+    if !survey.look_above(&parts) {
+        return refusal(5, 0);
+    }
+    survey.sense(&parts)
 }
 
-/// Refusal 4.
+/// Refusal 4 where it applies.
 fn links(parts: &Parts) -> u32 {
     let nodes = parts.nodes();
     let mut named = [0u8; MOST_NODES + 1];
@@ -51,156 +62,193 @@ fn links(parts: &Parts) -> u32 {
         }
     }
     let miscounted = named[1..lowest].iter().position(|count| *count != 1);
-    match miscounted {
-        Some(before) => refusal(4, before as u32 + 1),
-        None if lowest <= nodes => refusal(4, lowest as u32),
-        None => 0,
-    }
+    refusal(4, miscounted.map_or(lowest, |before| before + 1) as u32)
 }
 
-/// What is below each node. Children come after their holder, so it is filled from the last node down.
-struct Below {
+/// What is below a node. Children come after their holder, so it is filled from the last node down.
+#[derive(Clone, Copy)]
+pub(crate) struct Below {
     /// Nodes at and below it, alone and with the siblings after it.
-    size: [u16; MOST_NODES + 1],
-    span: [u16; MOST_NODES + 1],
+    size: u16,
+    span: u16,
     /// How many siblings there are from it on, and the last of them.
-    row: [u16; MOST_NODES + 1],
-    last: [u16; MOST_NODES + 1],
-}
-
-impl Below {
-    fn of(parts: &Parts) -> Below {
-        // Entry 0 stays zero and stands for an empty chain.
-        let none = [0; MOST_NODES + 1];
-        let mut below = Below { size: none, span: none, row: none, last: none };
-        for node in (1..=parts.nodes()).rev() {
-            let record = parts.record(node);
-            let next = next(record);
-            below.size[node] = 1 + below.span[first(record)];
-            below.span[node] = below.size[node] + below.span[next];
-            below.row[node] = 1 + below.row[next];
-            below.last[node] = if next == 0 { node as u16 } else { below.last[next] };
-        }
-        below
-    }
-}
-
-/// Which of a chain of siblings are in tail position.
-#[derive(Clone, Copy, PartialEq)]
-enum Tail {
-    No,
-    Yes,
-    /// The last one: the body of a let.
-    Last,
-    /// Those after this one: the branches of an if, seen from its condition.
-    After,
+    row: u16,
+    last: u16,
 }
 
 /// What a node has from its holder: it goes from a node to its first child, and from a child to the next.
 #[derive(Clone, Copy)]
-struct Above {
-    holder: u16,
+#[repr(align(8))]
+pub(crate) struct Above {
+    pub holder: u16,
     /// Place in preorder within the function: what is below a node is a range.
     place: u16,
-    owner: u8,
-    tail: Tail,
+    pub owner: u8,
+    tail: u8,
+    /// The holder's kind, 0 for a root.
+    pub under: u8,
 }
 
-/// Refusals 5 to 9 of a table whose links are in order: child and next come after their holder.
-fn sense(parts: &Parts) -> u32 {
-    let below = Below::of(parts);
-    let mut above = [Above { holder: 0, place: 0, owner: 0, tail: Tail::No }; MOST_NODES + 1];
-    for (index, head) in parts.heads.chunks_exact(4).enumerate() {
-        if head[0] > 8 || head[1] != 0 {
-            return refusal(5, 0);
+/// What the check learns of an accepted table.
+pub(crate) struct Survey {
+    below: [Below; MOST_NODES + 1],
+    pub above: [Above; MOST_NODES + 1],
+}
+
+impl Survey {
+    pub const EMPTY: Survey = Survey {
+        below: [Below { size: 0, span: 0, row: 0, last: 0 }; MOST_NODES + 1],
+        above: [Above { holder: 0, place: 0, owner: 0, tail: NOT, under: 0 }; MOST_NODES + 1],
+    };
+
+    /// False if refusal 4 applies: unless there are as many names as nodes, and each node is named.
+    #[inline(never)]
+    fn look_below(&mut self, parts: &Parts) -> bool {
+        let nodes = parts.nodes();
+        let mut named = [false; MOST_NODES + 1];
+        let mut fit = true;
+        let mut names = parts.functions();
+        for head in parts.heads.chunks_exact(4) {
+            let root = half(head, 2);
+            if root == 0 || root > nodes {
+                return false;
+            }
+            named[root] = true;
+            fit &= next(parts.record(root)) == 0;
         }
-        above[half(head, 2)] = Above { holder: 0, place: 0, owner: index as u8 + 1, tail: Tail::Yes };
+        for (before, record) in parts.records.chunks_exact(10).enumerate().rev() {
+            let node = before + 1;
+            let record = record.try_into().expect("ten bytes");
+            let [first, next] = [first(record), next(record)].map(|link| {
+                let above = link.wrapping_sub(node + 1) < nodes - node;
+                fit &= above | (link == 0);
+                names += usize::from(link != 0);
+                select(above, link, 0)
+            });
+            named[first] = true;
+            named[next] = true;
+            // Entry 0 stays zero and stands for an empty chain.
+            let after = self.below[next];
+            let size = 1 + self.below[first].span;
+            let last = select(next == 0, node as u16, after.last);
+            self.below[node] = Below { size, span: size + after.span, row: 1 + after.row, last };
+        }
+        fit & (names == nodes) & named[1..=nodes].iter().fold(true, |all, named| all & named)
     }
-    let mut found = u32::MAX;
-    for node in 1..=parts.nodes() {
-        let record = parts.record(node);
-        let (kind, extra, word, first, next) = (record[0], record[1], word(record), first(record), next(record));
-        let own = above[node];
-        let in_tail = own.tail == Tail::Yes || own.tail == Tail::Last && next == 0;
-        // Written for an absent link too: nobody reads entry 0.
-        above[next] = Above {
-            place: own.place + below.size[node],
-            tail: if own.tail == Tail::After { Tail::Yes } else { own.tail },
-            ..own
-        };
-        above[first] = Above {
-            holder: node as u16,
-            place: own.place + 1,
-            owner: own.owner,
-            tail: match kind {
-                IF if in_tail => Tail::After,
-                LET if in_tail => Tail::Last,
-                _ => Tail::No,
-            },
-        };
-        let children = usize::from(below.row[first]);
-        let function = usize::from(own.owner);
-        // The lowest number comes first, and within it the lowest node.
-        let mut refuse = |number: u32| found = found.min(refusal(number, node as u32));
-        let (fields_fit, count_fits) = match kind {
-            CONSTANT => (extra == 0 && first == 0, true),
-            PARAMETER => {
-                if usize::from(extra) >= parts.parameters(function) {
-                    refuse(8);
-                }
-                (word == 0 && first == 0, true)
+
+    /// False if refusal 5 applies to a function record.
+    #[inline(never)]
+    fn look_above(&mut self, parts: &Parts) -> bool {
+        for (index, head) in parts.heads.chunks_exact(4).enumerate() {
+            if head[0] > 8 || head[1] != 0 {
+                return false;
             }
-            PRIMITIVE => {
-                let fits = match extra {
-                    5..=7 => children == 1,
-                    10 => (1..=8).contains(&children),
-                    _ => children == 2,
-                };
-                (extra <= 10 && word == 0, fits)
-            }
-            CALL if word < 1 || word as usize > function => {
-                refuse(6);
-                (extra == 0, true)
-            }
-            CALL => {
-                if word as usize == function && !in_tail {
-                    refuse(9);
-                }
-                (extra == 0, children == parts.parameters(word as usize))
-            }
-            IF => (extra == 0 && word == 0, children == 3),
-            LET => (extra == 0 && word == 0, (2..=9).contains(&children)),
-            BOUND => {
-                if word as usize >= node || !sees(parts, &below, &above, node, word as usize) {
-                    refuse(8);
-                }
-                (extra == 0 && first == 0, true)
-            }
-            _ => (false, true),
-        };
-        if !fields_fit {
-            refuse(5);
+            self.above[half(head, 2)] = Above { holder: 0, place: 0, owner: index as u8 + 1, tail: ALL, under: 0 };
         }
-        if !count_fits {
-            refuse(7);
+        for (node, record) in (1..=parts.nodes()).zip(parts.records.chunks_exact(10)) {
+            let record: &[u8; 10] = record.try_into().expect("ten bytes");
+            let (kind, first, next) = (record[0], first(record), next(record));
+            let own = self.above[node];
+            let tail = select(own.tail == AFTER, ALL, own.tail);
+            // Written for an absent link too: nobody reads entry 0.
+            self.above[next] = Above { place: own.place + self.below[node].size, tail, ..own };
+            let tail = select(own.in_tail(next), TAILS[usize::from(kind & 7)], NOT);
+            let (holder, place) = (node as u16, own.place + 1);
+            self.above[first] = Above { holder, place, owner: own.owner, tail, under: kind };
         }
+        true
     }
-    if found == u32::MAX {
-        0
-    } else {
-        found
+
+    /// Refusals 5 to 9 at nodes.
+    #[inline(never)]
+    fn sense(&self, parts: &Parts) -> u32 {
+        let mut parameters = [0; 256];
+        for (index, head) in parts.heads.chunks_exact(4).enumerate() {
+            parameters[index + 1] = head[0];
+        }
+        let mut found = u32::MAX;
+        for (node, record) in (1..=parts.nodes()).zip(parts.records.chunks_exact(10)) {
+            let record: &[u8; 10] = record.try_into().expect("ten bytes");
+            let (kind, extra, word) = (record[0], record[1], word(record));
+            let own = self.above[node];
+            let (is_call, is_primitive) = (kind == CALL, kind == PRIMITIVE);
+            let unknown = kind.wrapping_sub(1) > 6;
+            let must_be_zero = whole(record) & ZEROS[usize::from(kind & 7)];
+            let owner = u32::from(own.owner);
+            let children = self.below[first(record)].row;
+            let own_count = parameters[word as usize & 255];
+            let (fewest, most) = COUNTS[usize::from(select(is_primitive, 8 + (extra & 15), kind & 7))];
+            let (fewest, most) = (select(is_call, own_count, fewest), select(is_call, own_count, most));
+            let mut unseen = (kind == PARAMETER) & (extra >= parameters[usize::from(own.owner)]);
+            if kind == BOUND {
+                unseen = word as usize >= node || !self.sees(node, word as usize);
+            }
+            let faults = u32::from(unknown | (must_be_zero != 0) | is_primitive & (extra > 10))
+                | u32::from(is_call & (word.wrapping_sub(1) >= owner)) << 1
+                | u32::from((children < fewest.into()) | (children > most.into())) << 2
+                | u32::from(unseen) << 3
+                | u32::from(is_call & (word == owner) & !own.in_tail(next(record))) << 4;
+            if faults != 0 {
+                // The lowest number comes first, and within it the lowest node.
+                found = found.min(refusal(5 + faults.trailing_zeros(), node as u32));
+            }
+        }
+        select(found == u32::MAX, 0, found)
+    }
+
+    /// Whether a node is in the body of a let that has this definiens, which comes before the node.
+    fn sees(&self, node: usize, definiens: usize) -> bool {
+        let (below, above) = (&self.below[definiens], &self.above[definiens]);
+        if definiens == 0 || above.under != LET {
+            return false;
+        }
+        let body = usize::from(below.last);
+        // The body's place is counted from its definiens.
+        let begin = above.place + below.span - self.below[body].size;
+        let range = begin..begin + self.below[body].size;
+        definiens != body && above.owner == self.above[node].owner && range.contains(&self.above[node].place)
     }
 }
 
-/// Whether a node is in the body of a let that has this definiens, which comes before the node.
-fn sees(parts: &Parts, below: &Below, above: &[Above; MOST_NODES + 1], node: usize, definiens: usize) -> bool {
-    let holder = usize::from(above[definiens].holder);
-    if definiens == 0 || holder == 0 || parts.record(holder)[0] != LET {
-        return false;
+impl Above {
+    fn in_tail(self, next: usize) -> bool {
+        (self.tail == ALL) | (self.tail == LAST) & (next == 0)
     }
-    let body = usize::from(below.last[definiens]);
-    // The body's place is counted from its definiens: it may not have been reached yet.
-    let begin = above[definiens].place + below.span[definiens] - below.size[body];
-    let range = begin..begin + below.size[body];
-    definiens != body && above[definiens].owner == above[node].owner && range.contains(&above[node].place)
 }
+
+fn whole(record: &[u8; 10]) -> u64 {
+    u64::from_le_bytes(record[..8].try_into().expect("eight bytes"))
+}
+
+/// Which of a chain of siblings are in tail position: none, all, the last one as the body of a let,
+/// or those after this one as the branches of an if, seen from its condition.
+const NOT: u8 = 0;
+const ALL: u8 = 1;
+const LAST: u8 = 2;
+const AFTER: u8 = 3;
+
+/// What a node in tail position makes of its children, by kind.
+const TAILS: [u8; 8] = [NOT, NOT, NOT, NOT, NOT, AFTER, LAST, NOT];
+
+/// Which of the bytes of kind, extra, word and first have to be zero, by kind.
+const ZEROS: [u64; 8] = {
+    const EXTRA: u64 = 0xff << 8;
+    const WORD: u64 = 0xffff_ffff << 16;
+    const FIRST: u64 = 0xffff << 48;
+    [0, EXTRA | FIRST, WORD | FIRST, WORD, EXTRA, EXTRA | WORD, EXTRA | WORD, EXTRA | FIRST]
+};
+
+/// Fewest and most children by kind, and from 8 on by operation; a call has its own count.
+const COUNTS: [(u8, u8); 24] = {
+    let mut counts = [(0, u8::MAX); 24];
+    counts[IF as usize] = (3, 3);
+    counts[LET as usize] = (2, 9);
+    let mut operation = 0;
+    while operation < 10 {
+        let count = if operation >= 5 && operation <= 7 { 1 } else { 2 };
+        counts[8 + operation] = (count, count);
+        operation += 1;
+    }
+    counts[18] = (1, 8);
+    counts
+};
