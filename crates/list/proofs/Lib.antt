@@ -23,3 +23,5 @@ pub mod RecordVerdicts
 pub mod Owners
 pub mod TagLoops
 pub mod TagVerdicts
+pub mod PaperList
+pub mod SmallDesigns
