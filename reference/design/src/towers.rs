@@ -20,29 +20,35 @@ fn add_below(draft: &mut Draft, holder: usize, kind: u8, extra: u8, word: u32) -
 /// 32 functions of 512 nodes, each calling the one below it eight times beside each other.
 pub fn tower_beside() -> Vec<u8> {
     // With this many arguments the calls fill the table to its last node.
-    full_tower(|function| usize::from(function > 2), |draft, callee, arguments| {
-        let root = draft.add(PRIMITIVE, BESIDE, 0);
-        for _ in 0..CALLS {
-            let call = add_below(draft, root, CALL, 0, callee as u32);
-            fill(draft, call, arguments);
-        }
-        root
-    })
+    full_tower(
+        |function| usize::from(function > 2),
+        |draft, callee, arguments| {
+            let root = draft.add(PRIMITIVE, BESIDE, 0);
+            for _ in 0..CALLS {
+                let call = add_below(draft, root, CALL, 0, callee as u32);
+                fill(draft, call, arguments);
+            }
+            root
+        },
+    )
 }
 
 /// 32 functions of 512 nodes, each calling the one below it eight times, the calls being arguments of each other.
 pub fn tower_of_arguments() -> Vec<u8> {
-    full_tower(|function| 1 + usize::from(function > 2), |draft, callee, arguments| {
-        let calls: Vec<usize> = (0..CALLS).map(|_| draft.add(CALL, 0, callee as u32)).collect();
-        for (i, call) in calls.iter().enumerate().skip(1) {
-            let holder = calls[(i - 1) / arguments];
-            draft.items[holder].children.push(*call);
-        }
-        for call in &calls {
-            fill(draft, *call, arguments);
-        }
-        calls[0]
-    })
+    full_tower(
+        |function| 1 + usize::from(function > 2),
+        |draft, callee, arguments| {
+            let calls: Vec<usize> = (0..CALLS).map(|_| draft.add(CALL, 0, callee as u32)).collect();
+            for (i, call) in calls.iter().enumerate().skip(1) {
+                let holder = calls[(i - 1) / arguments];
+                draft.items[holder].children.push(*call);
+            }
+            for call in &calls {
+                fill(draft, *call, arguments);
+            }
+            calls[0]
+        },
+    )
 }
 
 /// Gives a call constants for the arguments it doesn't have yet.
@@ -209,11 +215,8 @@ fn under_a_comb() -> Draft {
     let one = draft.add(CONSTANT, 0, 1);
     let two = draft.add(CALL, 0, 1);
     let three = draft.add(CALL, 0, 2);
-    draft.functions = vec![
-        Head { parameters: 0, root: one },
-        Head { parameters: 0, root: two },
-        Head { parameters: 2, root: three },
-    ];
+    draft.functions =
+        vec![Head { parameters: 0, root: one }, Head { parameters: 0, root: two }, Head { parameters: 2, root: three }];
     draft
 }
 
