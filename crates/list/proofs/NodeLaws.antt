@@ -35,7 +35,7 @@ use Rattle.list.specs.Working.{
   calledIn,
   twiceIn,
 }
-use Rattle.list.specs.Working.{siblings, kidsAt, Within, Beside}
+use Rattle.list.specs.Working.{siblings, kidsAt, Within, Beside, Reach}
 use Rattle.list.proofs.BitLaws.{or-bit, and-bit, zero-bit}
 use Rattle.list.proofs.Meets.{or-no}
 use Rattle.list.proofs.CallLaws.{or-left, or-right, calls-called, node-listed}
@@ -388,3 +388,15 @@ few t ok = let p = passed t (functions t) (nodes t) ok .0 in (p .F-high, p .N-hi
 pub owner-few : (t : List ℕ) (f n : ℕ) → Within t f n → (1 ≤ f) × (f ≤ functions t)
 owner-few t f n at =
     subst (IsFunction t) (at .own) (owner-in t (passed t (functions t) (nodes t) (at .taken) .0 .linking) n (at .node))
+
+-- the record of a node is in the table
+pub reach-in : (t : List ℕ) → Taken t → (n : ℕ) → IsNode t n → Reach t n
+reach-in t ok n i =
+    let p = passed t (functions t) (nodes t) ok .0 in
+    record {
+      framed = record { F-low = p .F-low; F-high = p .F-high; N-low = p .N-low; N-high = p .N-high; size = p .size };
+      node = i;
+    }
+
+pub reach : (t : List ℕ) (f n : ℕ) → Within t f n → Reach t n
+reach t f n at = reach-in t (at .taken) n (at .node)

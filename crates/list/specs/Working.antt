@@ -11,7 +11,7 @@ use Rattle.table.specs.Bytes.{functions, nodes, kind, word, first}
 use Rattle.table.specs.Naming.{owner}
 use Rattle.table.specs.Check.{accepted, checkOf}
 use Rattle.table.specs.Expressions.{exprsAt, exprAt, bodyOf, defsAt, finalAt}
-use Rattle.table.specs.Working.{IsNode, IsFunction}
+use Rattle.table.specs.Working.{IsNode, IsFunction, Framed}
 use Rattle.table.specs.Survey.{verdictOf, ifAccepted}
 use Rattle.list.specs.declared.Listing.{Listing}
 use Rattle.list.specs.declared.walk.Siblings.{Siblings}
@@ -32,6 +32,11 @@ Callee h = Range 31 h
 
 abbrev pub Taken : List ℕ → Type 0
 Taken t = checkOf t ≡ accepted (functions t) (nodes t)
+
+-- a node whose record is in the table
+pub record Reach (t : List ℕ) (n : ℕ) : Type 0 where
+  pub framed : Framed t
+  pub node : IsNode t n
 
 -- C of a body, C and A of an expression and of a chain, in a table
 unfoldable pub callsBy : List ℕ → ℕ → Test

@@ -4,16 +4,16 @@ use native.Mathlib.Omega.{arith}
 use borrow.Author.Needs.{needs}
 use Rattle.table.specs.Bytes.{nodes}
 use Rattle.list.specs.Working.{SitedTo}
-use Rattle.list.proofs.NodeLaws.{few}
+use Rattle.list.proofs.NodeLaws.{few, reach-in}
 use Rattle.list.proofs.SiteLaws.{word-few, sites-none, sites-call, sites-other}
 use Rattle.list.proofs.arbiters.sites.Statement.{statement}
 use Rattle.list.proofs.arbiters.sites.Tie as tie
 use Rattle.list.proofs.arbiters.sites.Reads as reads
 use Rattle.list.proofs.arbiters.sites.Lts as lts
 use Rattle.list.proofs.bits.put_at.Reads as put-at-reads
-use Rattle.table.proofs.read.kind.Reads as kind-reads
+use Rattle.list.proofs.fields.kind.Reads as kind-reads
 use Rattle.table.proofs.read.nodes.Reads as nodes-reads
-use Rattle.table.proofs.read.word.Reads as word-reads
+use Rattle.list.proofs.fields.word.Reads as word-reads
 
 abbrev Inv-loop : tie.InvT-loop
 Inv-loop table row₀ last n₀ row n = (n ≤ nodes table) × SitedTo table n row
@@ -41,11 +41,11 @@ add-n c = omega (
 
 -- src/arbiters.rt:24:12
 kind-requires : tie.Need-kind-requires Inv-loop μ-loop
-kind-requires c κs = tt
+kind-requires c κs = reach-in _ (c .before .before .before .before .before .pre) (c .before .before .loop .n + 1) (omega arith, omega (arith, c .before .before .before .nodes .ensures))
 
 -- src/arbiters.rt:25:17
 word-requires : tie.Need-word-requires Inv-loop μ-loop
-word-requires c κs = tt
+word-requires c κs = reach-in _ (c .before .before .before .before .before .before .before .pre) (c .before .before .before .before .loop .n + 1) (omega arith, omega (arith, c .before .before .before .before .before .nodes .ensures))
 
 -- src/arbiters.rt:26:45
 cast-t11 : tie.Need-cast-t11 Inv-loop μ-loop

@@ -3,10 +3,10 @@ use Prim.Native.Nat.{ℕ}
 use mathlib.Core.Path.{_≡_, refl, sym, subst, _∙_}
 use native.Mathlib.Omega.{arith}
 use Rattle.list.specs.Working.{Within}
-use Rattle.list.proofs.NodeLaws.{next-there}
+use Rattle.list.proofs.NodeLaws.{reach, next-there}
 use Rattle.list.proofs.ChainLaws.{chain-end, chain-one, chain-more}
 use Rattle.list.proofs.walk.chain_walk.Reads as chain-walk
-use Rattle.table.proofs.read.next.Reads as next-reads
+use Rattle.list.proofs.fields.next.Reads as next-reads
 use Rattle.list.proofs.walk.node_walk.Reads as node-walk
 use Rattle.list.proofs.walk.+body_walk+chain_walk+node_walk+side_walk.Lts-chain_walk as lts
 use Rattle.list.proofs.walk.+body_walk+chain_walk+node_walk+side_walk.Proof.Measures.{
@@ -20,7 +20,7 @@ module _ (t : ℕ) where
   given = (next-reads.Asked, next-reads.Learnt, node-walk-below t, node-walk.Post, chain-walk-below t, chain-walk.Post)
 
   pub next-requires : lts.Need-next-requires given (chain-walk-at t) chain-walk.Post
-  next-requires c κs = tt
+  next-requires c κs = reach _ _ _ (c .before .pre .1 .1 .0)
 
   pub returns : lts.Need-returns given (chain-walk-at t) chain-walk.Post
   returns c =

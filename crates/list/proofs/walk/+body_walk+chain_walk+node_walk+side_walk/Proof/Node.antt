@@ -5,14 +5,14 @@ use native.Mathlib.Omega.{arith}
 use borrow.Author.Needs.{needs}
 use Rattle.list.specs.Working.{Within}
 use Rattle.list.proofs.BitLaws.{bit-is}
-use Rattle.list.proofs.NodeLaws.{choosing, binding, beside-operation, beside-binding, beside-call, first-there, few}
+use Rattle.list.proofs.NodeLaws.{reach, choosing, binding, beside-operation, beside-binding, beside-call, first-there, few}
 use Rattle.list.proofs.NodeWalks.{at-leaf, at-operation, at-again, at-choice, at-let, callee-there, at-call}
 use Rattle.list.proofs.walk.node_walk.Reads as node-walk
-use Rattle.table.proofs.read.kind.Reads as kind-reads
-use Rattle.table.proofs.read.first.Reads as first-reads
+use Rattle.list.proofs.fields.kind.Reads as kind-reads
+use Rattle.list.proofs.fields.first.Reads as first-reads
 use Rattle.list.proofs.walk.chain_walk.Reads as chain-walk
 use Rattle.list.proofs.walk.side_walk.Reads as side-walk
-use Rattle.table.proofs.read.word.Reads as word-reads
+use Rattle.list.proofs.fields.word.Reads as word-reads
 use Rattle.list.proofs.walk.body_walk.Reads as body-walk
 use Rattle.list.proofs.bits.put.Reads as put-reads
 use Rattle.list.proofs.bits.join_at.Reads as join-at-reads
@@ -49,10 +49,10 @@ module _ (t : ℕ) where
   )
 
   pub kind-requires : lts.Need-kind-requires given (node-walk-at t) node-walk.Post
-  kind-requires c κs = tt
+  kind-requires c κs = reach _ _ _ (c .before .pre .1 .1 .0)
 
   pub first-requires : lts.Need-first-requires given (node-walk-at t) node-walk.Post
-  first-requires c κs = tt
+  first-requires c κs = reach _ _ _ (c .before .before .before .pre .1 .1 .0)
 
   pub chain-walk-requires : lts.Need-chain-walk-requires given (node-walk-at t) node-walk.Post
   chain-walk-requires c κs =
@@ -159,7 +159,7 @@ module _ (t : ℕ) where
       )
 
   pub word-requires : lts.Need-word-requires given (node-walk-at t) node-walk.Post
-  word-requires c κs = tt
+  word-requires c κs = reach _ _ _ (c .before .before .before .before .before .before .before .before .before .before .before .pre .1 .1 .0)
 
   pub cast-if5 : lts.Need-cast-if5 given (node-walk-at t) node-walk.Post
   cast-if5 c = search needs

@@ -3,10 +3,10 @@ use Prim.Native.Nat.{ℕ}
 use mathlib.Core.Path.{_≡_, refl, sym, subst, _∙_}
 use native.Mathlib.Omega.{arith}
 use Rattle.list.specs.Working.{Within}
-use Rattle.list.proofs.NodeLaws.{first-there}
+use Rattle.list.proofs.NodeLaws.{reach, first-there}
 use Rattle.list.proofs.ChainLaws.{side-none, side-all}
 use Rattle.list.proofs.walk.side_walk.Reads as side-walk
-use Rattle.table.proofs.read.first.Reads as first-reads
+use Rattle.list.proofs.fields.first.Reads as first-reads
 use Rattle.list.proofs.walk.chain_walk.Reads as chain-walk
 use Rattle.list.proofs.bits.meet.Reads as meet-reads
 use Rattle.list.proofs.bits.join.Reads as join-reads
@@ -27,7 +27,7 @@ module _ (t : ℕ) where
   )
 
   pub first-requires : lts.Need-first-requires given (side-walk-at t) side-walk.Post
-  first-requires c κs = tt
+  first-requires c κs = reach _ _ _ (c .before .pre .1 .1 .0)
 
   pub returns : lts.Need-returns given (side-walk-at t) side-walk.Post
   returns c =
