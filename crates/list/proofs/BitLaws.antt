@@ -129,7 +129,8 @@ pub adds-by : (f : ℕ → ℕ) (s : Test) (x₀ x : List ℕ) → length x ≡ 
     → ((m : ℕ) → Bit m → bitAt (f ((m - 1) / 8)) ((m - 1) % 8) ≡ s m) → Adds s x₀ x
 adds-by f s x₀ x l h e = record {
   size = l;
-  bits = λ m b. by-bytes x (λ j. bitOr (getD x₀ j 0) (f j)) 64 h m (byte-of m b) ∙ or-bit (getD x₀ ((m - 1) / 8) 0) (f ((m - 1) / 8)) ((m - 1) % 8)
+  bits = λ m b. by-bytes x (λ j. bitOr (getD x₀ j 0) (f j)) 64 h m (byte-of m b)
+      ∙ or-bit (getD x₀ ((m - 1) / 8) 0) (f ((m - 1) / 8)) ((m - 1) % 8)
       ∙ ap₂ (λ p q. p || q) (sym (tagged-bit x₀ m)) (e m b);
 }
 
@@ -191,7 +192,8 @@ put-row x g n l k b = record { size = length-set x (64 * g + (n - 1) / 8) _ ∙ 
     apart g n h m b c = go (ℕ-discrete g h) (ℕ-discrete n m)
       where
         go : Dec (g ≡ h) → Dec (n ≡ m) → eqb (512 * g + n) (512 * h + m) ≡ eqb g h && eqb n m
-        go (yes d) (yes e) = eqb-yes (512 * g + n) (512 * h + m) (omega (arith, d, e)) ∙ sym (ap₂ (λ p q. p && q) (eqb-yes g h d) (eqb-yes n m e))
+        go (yes d) (yes e) = eqb-yes (512 * g + n) (512 * h + m) (omega (arith, d, e))
+            ∙ sym (ap₂ (λ p q. p && q) (eqb-yes g h d) (eqb-yes n m e))
         go (yes d) (no e) =
             eqb-no (512 * g + n) (512 * h + m) (λ z. e (omega (arith, d, z))) ∙ sym (ap₂ (λ p q. p && q) (eqb-yes g h d) (eqb-no n m e))
         go (no d) e = eqb-no (512 * g + n) (512 * h + m) (λ z. d (omega (arith, z, b .0, b .1, c .0, c .1)))
@@ -209,7 +211,8 @@ pub kept-by : (g : ℕ) (y x₀ x : List ℕ) → length x ≡ 2112 → Part (64
 kept-by g y x₀ x l p = record {
   size = l;
   same = λ m b. tagged-row x g m (b .0) ∙ ap (λ z. bitAt z ((m - 1) % 8)) (p .done ((m - 1) / 8) (byte-of m b)) ∙ sym (tagged-bit y m);
-  other = λ h m e b. tagged-row x h m (b .0) ∙ ap (λ z. bitAt z ((m - 1) % 8)) (outside h m e b (decLt h g)) ∙ sym (tagged-row x₀ h m (b .0));
+  other = λ h m e b. tagged-row x h m (b .0) ∙ ap (λ z. bitAt z ((m - 1) % 8)) (outside h m e b (decLt h g))
+      ∙ sym (tagged-row x₀ h m (b .0));
 }
   where
     outside : (h m : ℕ) → (h ≡ g → ⊥) → Bit m → Dec (h < g) → getD x (64 * h + (m - 1) / 8) 0 ≡ getD x₀ (64 * h + (m - 1) / 8) 0

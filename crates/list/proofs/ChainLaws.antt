@@ -16,12 +16,43 @@ use Rattle.table.specs.Working.{IsNode}
 use Rattle.list.specs.declared.walk.Siblings.{Siblings}
 use Rattle.list.specs.Arbiters.{Test, joined}
 use Rattle.list.specs.Tags.{tagged}
-use Rattle.list.specs.Working.{bitAt, Callee, callsAt, callsAt*, conflictsAt, conflictsAt*, parallelAt, twiceIn, siblings, kidsAt, meetOf}
+use Rattle.list.specs.Working.{
+  bitAt,
+  Callee,
+  callsAt,
+  callsAt*,
+  conflictsAt,
+  conflictsAt*,
+  parallelAt,
+  twiceIn,
+  siblings,
+  kidsAt,
+  meetOf,
+}
 use Rattle.list.specs.Working.{Sited, Adds, Memo, Walk, Within, Chained, Beside, Sided}
 use Rattle.list.proofs.BitLaws.{zero-bit}
 use Rattle.list.proofs.WalkLaws.{walk-none, walk-same, walk-two, walk-side}
-use Rattle.list.proofs.NodeLaws.{none-calls, none-conflicts, none-twice, none-parallel, some-calls, some-conflicts, lone-calls, lone-conflicts}
-use Rattle.list.proofs.NodeLaws.{lone-twice, twice-more, ends-defs, ends-plain, goes-on, final-here, final-next, next-there, no-child}
+use Rattle.list.proofs.NodeLaws.{
+  none-calls,
+  none-conflicts,
+  none-twice,
+  none-parallel,
+  some-calls,
+  some-conflicts,
+  lone-calls,
+  lone-conflicts,
+}
+use Rattle.list.proofs.NodeLaws.{
+  lone-twice,
+  twice-more,
+  ends-defs,
+  ends-plain,
+  goes-on,
+  final-here,
+  final-next,
+  next-there,
+  no-child,
+}
 
 abbrev found : (once twice : ℕ) → Node → Siblings
 found o w x = record { once = o; twice = w; last = x }
@@ -47,7 +78,8 @@ module _ (t : List ℕ) (f c : ℕ) (at : Within t f c) where
   chain-one false x mask set set′ b′ q q′ r r′ d z w = record {
     walk = subst (λ es. Walk t (callsAt* t es) (conflictsAt* t es) mask set set′ b′ q q′ r r′) (sym (ends-plain t f c at z))
         (walk-same t (callsAt t (exprAt t c)) (callsAt* t (some (exprAt t c) none)) (conflictsAt t (exprAt t c))
-        (conflictsAt* t (some (exprAt t c) none)) mask set set′ b′ q q′ r r′ (lone-calls t (exprAt t c)) (lone-conflicts t (exprAt t c)) w);
+        (conflictsAt* t (some (exprAt t c) none)) mask set set′ b′ q q′ r r′ (lone-calls t (exprAt t c)) (lone-conflicts t
+        (exprAt t c)) w);
     twice = λ h k. zero-bit h ∙ sym (ap (λ es. twiceIn t es h) (ends-plain t f c at z) ∙ lone-twice t (exprAt t c) h);
     last = λ p. absurd (true≢false (sym p));
   }
@@ -61,11 +93,14 @@ module _ (t : List ℕ) (f c : ℕ) (at : Within t f c) where
   chain-more defs x mask d rest set set′ set″ b′ b″ q q′ q″ r r′ r″ z y e w v = record {
     walk = subst (λ es. Walk t (callsAt* t es) (conflictsAt* t es) (bitOr mask (rest .once)) set set″ b″ q q″ r r″) (sym here)
         (walk-same t (joined (callsAt t (exprAt t c)) (callsAt* t es)) (callsAt* t (some (exprAt t c) es))
-        (joined (conflictsAt t (exprAt t c)) (conflictsAt* t es)) (conflictsAt* t (some (exprAt t c) es)) (bitOr mask (rest .once)) set set″ b″ q
+        (joined (conflictsAt t (exprAt t c)) (conflictsAt* t es)) (conflictsAt* t (some (exprAt t c) es)) (bitOr mask
+        (rest .once)) set set″ b″ q
         q″ r r″ (some-calls t (exprAt t c) es) (some-conflicts t (exprAt t c) es)
-        (walk-two t (callsAt t (exprAt t c)) (callsAt* t es) (conflictsAt t (exprAt t c)) (conflictsAt* t es) mask (rest .once) set set′ set″
+        (walk-two t (callsAt t (exprAt t c)) (callsAt* t es) (conflictsAt t (exprAt t c)) (conflictsAt* t es) mask
+        (rest .once) set set′ set″
         b′ b″ q q′ q″ r r′ r″ w (v .walk)));
-    twice = λ h k. twice-more t (exprAt t c) es mask (rest .once) (rest .twice) h (w .functions h k) (v .walk .functions h k) (v .twice h k)
+    twice = λ h k. twice-more t (exprAt t c) es mask (rest .once) (rest .twice) h (w .functions h k) (v .walk .functions h k)
+        (v .twice h k)
         ∙ ap (λ es. twiceIn t es h) (sym here);
     last = λ p.
         let s = v .last p in
@@ -87,7 +122,8 @@ module _ (t : List ℕ) (f c : ℕ) (at : Within t f c) where
   side-none false x set bodies called cs b z l k = record {
     walk = subst (λ es. Walk t (callsAt* t es) (joined (parallelAt t es) (conflictsAt* t es)) 0 set set bodies called called cs cs)
         (sym (no-child t f c at z))
-        (walk-none t (callsAt* t none) (joined (parallelAt t none) (conflictsAt* t none)) set bodies called cs (none-calls t) none-both l k);
+        (walk-none t (callsAt* t none) (joined (parallelAt t none) (conflictsAt* t none)) set bodies called cs
+        (none-calls t) none-both l k);
     last = λ p. absurd (true≢false (sym p));
   }
     where

@@ -20,6 +20,7 @@ pub mod TagFacts
 pub mod Totals
 pub mod RecordLoops
 pub mod RecordVerdicts
+pub mod RecordSlice
 pub mod Owners
 pub mod TagLoops
 pub mod TagVerdicts

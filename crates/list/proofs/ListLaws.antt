@@ -43,7 +43,8 @@ module _ (t : List ℕ) where
   }
 
   -- after the last
-  pub found-list : (bodies called found : List ℕ) → Memo t bodies called found → ((g : ℕ) → IsFunction t g → Seen called g) → (m : ℕ) → Bit m
+  pub found-list : (bodies called found : List ℕ) → Memo t bodies called found → ((g : ℕ) → IsFunction t g → Seen called g) → (m : ℕ)
+      → Bit m
       → tagged found m ≡ listed t m
   unfolding listed listedIn conflictsAt callsBy
   found-list bodies called found k all m b = by-true (tagged found m) (listed t m) (k .sound m b)

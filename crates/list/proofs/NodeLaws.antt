@@ -22,8 +22,20 @@ use Rattle.table.proofs.LaidOut.{laid}
 use Rattle.list.specs.Arbiters.{Test, nothing, joined, callsIn, parallel, conflicts}
 use Rattle.list.specs.Tags.{calleeOf, isCall, listed}
 use Rattle.list.specs.CallSets.{callee}
-use Rattle.list.specs.Working.{bitAt, Callee, Taken, callsBy, callsAt, callsAt*, conflictsAt, conflictsAt*, parallelAt, calledIn, twiceIn}
-use Rattle.list.specs.Working.{siblings, kidsAt, Within, Beside}
+use Rattle.list.specs.Working.{
+  bitAt,
+  Callee,
+  Taken,
+  callsBy,
+  callsAt,
+  callsAt*,
+  conflictsAt,
+  conflictsAt*,
+  parallelAt,
+  calledIn,
+  twiceIn,
+}
+use Rattle.list.specs.Working.{siblings, kidsAt, Within, Beside, Reach}
 use Rattle.list.proofs.BitLaws.{or-bit, and-bit, zero-bit}
 use Rattle.list.proofs.Meets.{or-no}
 use Rattle.list.proofs.CallLaws.{or-left, or-right, calls-called, node-listed}
@@ -67,7 +79,8 @@ module _ (t : List ℕ) where
   unfolding callsAt callsAt* callsIn conflictsAt conflictsAt* conflicts joined nothing
   is-choice e n a b c p = record {
     calls = λ m. ap (λ u. callsAt t u m) p ∙ ap (λ z. callsAt t a m || (callsAt t b m || z)) (sym (or-no (callsAt t c m)));
-    conflicts = λ m. ap (λ u. conflictsAt t u m) p ∙ ap (λ z. conflictsAt t a m || (conflictsAt t b m || z)) (sym (or-no (conflictsAt t c m)));
+    conflicts = λ m. ap (λ u. conflictsAt t u m) p
+        ∙ ap (λ z. conflictsAt t a m || (conflictsAt t b m || z)) (sym (or-no (conflictsAt t c m)));
   }
 
   is-let : (e : Expr) (n : ℕ) (ds : Exprs) (b : Expr) → e ≡ bind n ds b
@@ -119,7 +132,8 @@ module _ (t : List ℕ) where
 
   pub lone-twice : (e : Expr) (h : ℕ) → twiceIn t (some e none) h ≡ false
   lone-twice e h =
-      some-twice e none h ∙ ap₂ (λ p q. p || (calledIn t (callsAt t e) h && q)) (none-twice h) (called-none t (callsAt* t none) h none-calls)
+      some-twice e none h ∙ ap₂ (λ p q. p || (calledIn t (callsAt t e) h && q)) (none-twice h) (called-none t
+      (callsAt* t none) h none-calls)
       ∙ and-no (calledIn t (callsAt t e) h)
     where
       and-no : (p : Bool) → p && false ≡ false
@@ -169,7 +183,8 @@ module _ (t : List ℕ) (f n : ℕ) (at : Within t f n) where
   operation p = go v
     where
       go : View t n
-          → Is t (exprAt t n) (callsAt* t (kidsAt t false n)) (joined (parallelAt t (kidsAt t false n)) (conflictsAt* t (kidsAt t false n)))
+          → Is t (exprAt t n) (callsAt* t (kidsAt t false n)) (joined (parallelAt t (kidsAt t false n)) (conflictsAt* t
+          (kidsAt t false n)))
       go (is-const k z e) = absurd (omega (arith, k, p))
       go (is-param k z l e) = absurd (omega (arith, k, p))
       go (is-prim k q e) = is-operation t (exprAt t n) n (extra t n) (exprsAt t (first t n)) e
@@ -184,7 +199,8 @@ module _ (t : List ℕ) (f n : ℕ) (at : Within t f n) where
   again p r = go v
     where
       go : View t n
-          → Is t (exprAt t n) (callsAt* t (kidsAt t false n)) (joined (parallelAt t (kidsAt t false n)) (conflictsAt* t (kidsAt t false n)))
+          → Is t (exprAt t n) (callsAt* t (kidsAt t false n)) (joined (parallelAt t (kidsAt t false n)) (conflictsAt* t
+          (kidsAt t false n)))
       go (is-const k z e) = absurd (omega (arith, k, p))
       go (is-param k z l e) = absurd (omega (arith, k, p))
       go (is-prim k q e) = absurd (omega (arith, k, p))
@@ -372,3 +388,15 @@ few t ok = let p = passed t (functions t) (nodes t) ok .0 in (p .F-high, p .N-hi
 pub owner-few : (t : List ℕ) (f n : ℕ) → Within t f n → (1 ≤ f) × (f ≤ functions t)
 owner-few t f n at =
     subst (IsFunction t) (at .own) (owner-in t (passed t (functions t) (nodes t) (at .taken) .0 .linking) n (at .node))
+
+-- the record of a node is in the table
+pub reach-in : (t : List ℕ) → Taken t → (n : ℕ) → IsNode t n → Reach t n
+reach-in t ok n i =
+    let p = passed t (functions t) (nodes t) ok .0 in
+    record {
+      framed = record { F-low = p .F-low; F-high = p .F-high; N-low = p .N-low; N-high = p .N-high; size = p .size };
+      node = i;
+    }
+
+pub reach : (t : List ℕ) (f n : ℕ) → Within t f n → Reach t n
+reach t f n at = reach-in t (at .taken) n (at .node)

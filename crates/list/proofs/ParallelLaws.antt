@@ -66,7 +66,8 @@ module _ (t : List ℕ) where
   pub called-two : (s s′ : Test) (h : ℕ) → calledIn t (joined s s′) h ≡ calledIn t s h || calledIn t s′ h
   unfolding calledIn joined
   called-two s s′ h =
-      any-same (nodes t) (λ β. (s β || s′ β) && eqb h (calleeOf t β)) (λ β. (s β && eqb h (calleeOf t β)) || (s′ β && eqb h (calleeOf t β)))
+      any-same (nodes t) (λ β. (s β || s′ β) && eqb h (calleeOf t β)) (λ β. (s β && eqb h (calleeOf t β)) || (s′ β && eqb h
+      (calleeOf t β)))
       (λ i a b. split (s i) (s′ i) (eqb h (calleeOf t i)))
       ∙ any-or (nodes t) (λ β. s β && eqb h (calleeOf t β)) (λ β. s′ β && eqb h (calleeOf t β))
     where
@@ -157,7 +158,8 @@ module _ (t : List ℕ) where
         ap₂ (λ p q. (callsAt t e m && p) || q) (called-two s (callsAt* t es) h)
         (after-set (joined s (callsAt t e)) es (λ q. r (or-right (callsAt t e m) (callsAt* t es m) q))
         ∙ ap (λ p. callsAt* t es m && (twiceIn t es h || p)) (called-two s (callsAt t e) h))
-        ∙ one-more (callsAt t e m) (callsAt* t es m) (calledIn t (callsAt t e) h) (calledIn t (callsAt* t es) h) (twiceIn t es h) (calledIn t s h)
+        ∙ one-more (callsAt t e m) (callsAt* t es m) (calledIn t (callsAt t e) h) (calledIn t (callsAt* t es) h) (twiceIn t es h)
+        (calledIn t s h)
         (λ q. member (callsAt t e) m (r (or-left (callsAt t e m) (callsAt* t es m) q)) q)
         (λ q. member (callsAt* t es) m (r (or-right (callsAt t e m) (callsAt* t es m) q)) q) (twice-called es h)
 

@@ -61,7 +61,8 @@ module _ (t : List ℕ) where
   split false b c = refl
 
   -- a call is added, another node is not
-  pub sites-call : (n w : ℕ) (x y : List ℕ) → SitedTo t n x → kind t (n + 1) ≡ 4 → w ≡ word t (n + 1) → PutAt w (n + 1) x y → SitedTo t (n + 1) y
+  pub sites-call : (n w : ℕ) (x y : List ℕ) → SitedTo t n x → kind t (n + 1) ≡ 4 → w ≡ word t (n + 1) → PutAt w (n + 1) x y
+      → SitedTo t (n + 1) y
   sites-call n w x y s k e p = record {
     size = p .size;
     bits = λ h m i b. p .bits h m i b ∙ ap (λ q. q || (eqb w h && eqb (n + 1) m)) (s .bits h m i b)
@@ -93,7 +94,8 @@ module _ (t : List ℕ) where
   pub sites-other : (n : ℕ) (x : List ℕ) → SitedTo t n x → (kind t (n + 1) ≡ 4 → ⊥) → SitedTo t (n + 1) x
   sites-other n x s k = record {
     size = s .size;
-    bits = λ h m i b. s .bits h m i b ∙ sym (or-no (leb m n && site t h m)) ∙ ap (λ q. (leb m n && site t h m) || q) (here h m (ℕ-discrete (n + 1) m))
+    bits = λ h m i b. s .bits h m i b ∙ sym (or-no (leb m n && site t h m))
+        ∙ ap (λ q. (leb m n && site t h m) || q) (here h m (ℕ-discrete (n + 1) m))
         ∙ sym (ap (λ q. q && site t h m) (next-leb m n) ∙ split (leb m n) (eqb (n + 1) m) (site t h m));
   }
     where

@@ -76,7 +76,8 @@ lowest-found p N k e h l = ap (lowest p) (sum N k l) ∙ stays (N - (k + 1))
     stays (suc d) = ap (lowest p) (suc-plus d (k + 1)) ∙ keep (d + (k + 1)) (k + 1) (stays d) (λ z. omega (arith, z))
 
 -- a loop that writes the list l over d from the front
-copied-suc : (i : ℕ) (l d : List ℕ) → i < length l → i < length d → set (take i l ++ drop i d) i (getD l i 0) ≡ take (suc i) l ++ drop (suc i) d
+copied-suc : (i : ℕ) (l d : List ℕ) → i < length l → i < length d
+    → set (take i l ++ drop i d) i (getD l i 0) ≡ take (suc i) l ++ drop (suc i) d
 copied-suc i [] d p q = absurd (not-suc-le-zero p)
 copied-suc i (x ∷ l) [] p q = absurd (not-suc-le-zero q)
 copied-suc zero (x ∷ l) (y ∷ d) p q = refl

@@ -14,7 +14,19 @@ use Rattle.table.specs.Check.{Verdict, accepted, refused, stage, checkOf}
 use Rattle.table.specs.Survey.{verdictOf, ifAccepted}
 use Rattle.table.proofs.Tests.{eqb-yes, eqb-no}
 use Rattle.table.proofs.Passed.{passed}
-use Rattle.list.specs.Tags.{tagged, listed, tagLength, nonePast, tagFits, tagsRefusal, tagsOf, after, checkWith, fillVerdict, filledTags}
+use Rattle.list.specs.Tags.{
+  tagged,
+  listed,
+  tagLength,
+  nonePast,
+  tagFits,
+  tagsRefusal,
+  tagsOf,
+  after,
+  checkWith,
+  fillVerdict,
+  filledTags,
+}
 use Rattle.list.specs.Working.{Bit, Taken}
 use Rattle.list.proofs.ListLaws.{tags-are}
 
@@ -96,7 +108,8 @@ pub fill-refused : (t old : List ℕ) (number place : ℕ) → refused number pl
 unfolding fillVerdict filledTags after
 fill-refused t old number place e = record {
   verdict = ap (λ v. after v (λ _. stage 10 (eqb (length old) (tagLength t)) 0 (λ _. accepted (functions t) (nodes t)))) e;
-  tags = ap (λ v. ifAccepted (after v (λ _. stage 10 (eqb (length old) (tagLength t)) 0 (λ _. accepted (functions t) (nodes t)))) (tagsOf t) old) e;
+  tags = ap (λ v. ifAccepted (after v (λ _. stage 10 (eqb (length old) (tagLength t)) 0 (λ _. accepted (functions t) (nodes t))))
+      (tagsOf t) old) e;
 }
 
 module _ (t : List ℕ) (ok : Taken t) where

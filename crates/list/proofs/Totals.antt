@@ -29,7 +29,8 @@ sumFrom g (suc k) n = g n + sumFrom g k (suc n)
 sum-same : (g h : ℕ → ℕ) (k n : ℕ) → ((i : ℕ) → n ≤ i → i < n + k → g i ≡ h i) → sumFrom g k n ≡ sumFrom h k n
 unfolding sumFrom
 sum-same g h zero n f = refl
-sum-same g h (suc k) n f = ap₂ (λ a b. a + b) (f n (omega arith) (omega arith)) (sum-same g h k (suc n) (λ i a b. f i (omega arith) (omega arith)))
+sum-same g h (suc k) n f = ap₂ (λ a b. a + b) (f n (omega arith) (omega arith)) (sum-same g h k (suc n) (λ i a b. f i (omega arith)
+    (omega arith)))
 
 sum-zero : (k n : ℕ) → sumFrom (λ i. 0) k n ≡ 0
 unfolding sumFrom
@@ -54,7 +55,8 @@ sum-split g zero b n = ap₂ (λ k m. sumFrom g k m) (zero-plus b) (plus-zero n)
     plus-zero : (n : ℕ) → n ≡ n + 0
     plus-zero n = omega arith
 sum-split g (suc a) b n =
-    ap (λ k. sumFrom g k n) (suc-plus a b) ∙ ap (λ x. g n + x) (sum-split g a b (suc n)) ∙ group (g n) (sumFrom g a (suc n)) (sumFrom g b (suc n + a))
+    ap (λ k. sumFrom g k n) (suc-plus a b) ∙ ap (λ x. g n + x) (sum-split g a b (suc n))
+    ∙ group (g n) (sumFrom g a (suc n)) (sumFrom g b (suc n + a))
     ∙ ap (λ m. g n + sumFrom g a (suc n) + sumFrom g b m) (moved n a)
   where
     suc-plus : (a b : ℕ) → suc a + b ≡ suc (a + b)
@@ -126,7 +128,8 @@ module _ (t : List ℕ) where
   calls-length f (suc k) n = go (listed t n && eqb (calleeOf t n) f) (calls-length f k (suc n))
     where
       go : (b : Bool) → length (callsFrom t f k (suc n)) ≡ count (λ i. listed t i && eqb (calleeOf t i) f) k (suc n)
-          → length (pick b (recordAt t n ∷ callsFrom t f k (suc n)) (callsFrom t f k (suc n))) ≡ one b + count (λ i. listed t i && eqb (calleeOf t i) f) k (suc n)
+          → length (pick b (recordAt t n ∷ callsFrom t f k (suc n)) (callsFrom t f k (suc n))) ≡ one b + count (λ i. listed t i && eqb
+          (calleeOf t i) f) k (suc n)
       go true e = ap suc e ∙ suc-is (count (λ i. listed t i && eqb (calleeOf t i) f) k (suc n))
         where
           suc-is : (a : ℕ) → suc a ≡ 1 + a
@@ -140,7 +143,8 @@ module _ (t : List ℕ) where
   unfolding recordsFrom sumFrom
   records-length zero f = refl
   records-length (suc k) f =
-      length-append (callsFrom t f (nodes t) 1) (recordsFrom t k (suc f)) ∙ ap₂ (λ a b. a + b) (calls-length f (nodes t) 1) (records-length k (suc f))
+      length-append (callsFrom t f (nodes t) 1) (recordsFrom t k (suc f))
+      ∙ ap₂ (λ a b. a + b) (calls-length f (nodes t) 1) (records-length k (suc f))
 
   module _ (ok : Taken t) where
     abbrev L : Test
@@ -175,7 +179,8 @@ module _ (t : List ℕ) where
         bits-of s (tagLength t) 1 ∙ ap (λ k. sumFrom (λ i. one (s i)) k 1) (sum (8 * tagLength t) (nodes t) enough)
         ∙ sum-split (λ i. one (s i)) (nodes t) (8 * tagLength t - nodes t) 1
         ∙ ap₂ (λ a b. a + b)
-        (sum-same (λ i. one (s i)) (λ i. one (L i)) (nodes t) 1 (λ i a b. ap (λ p. one (p && L i)) (le-leb i (nodes t) (omega (arith, b)))))
+        (sum-same (λ i. one (s i)) (λ i. one (L i)) (nodes t) 1 (λ i a b. ap (λ p. one (p && L i)) (le-leb i (nodes t) (omega
+        (arith, b)))))
         (sum-same (λ i. one (s i)) (λ i. 0) (8 * tagLength t - nodes t) (1 + nodes t)
         (λ i a b. ap (λ p. one (p && L i)) (lt-leb i (nodes t) (omega (arith, a)))) ∙ sum-zero (8 * tagLength t - nodes t) (1 + nodes t))
         ∙ plus-zero (sumFrom (λ i. one (L i)) (nodes t) 1) ∙ sym length-listed

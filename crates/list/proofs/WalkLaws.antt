@@ -18,7 +18,19 @@ use Rattle.table.specs.Working.{IsNode, IsFunction}
 use Rattle.table.proofs.Tests.{eqb-yes, eqb-no}
 use Rattle.list.specs.Arbiters.{Test, nothing, joined}
 use Rattle.list.specs.Tags.{tagged, calleeOf, listed}
-use Rattle.list.specs.Working.{bitAt, Bit, Callee, Taken, callsBy, callsAt, callsAt*, conflictsAt, conflictsAt*, parallelAt, calledIn}
+use Rattle.list.specs.Working.{
+  bitAt,
+  Bit,
+  Callee,
+  Taken,
+  callsBy,
+  callsAt,
+  callsAt*,
+  conflictsAt,
+  conflictsAt*,
+  parallelAt,
+  calledIn,
+}
 use Rattle.list.specs.Working.{twiceIn, meetOf, Sited, Seen, Adds, Kept, Memo, Grown, Walk}
 use Rattle.list.proofs.BitLaws.{or-bit, zero-bit, pow-bit, none-tagged}
 use Rattle.list.proofs.Meets.{or-no, adds-none, adds-two, adds-same}
@@ -70,7 +82,8 @@ module _ (t : List ℕ) where
     grown = grown-two c c′ c″ f f′ f″ (v .grown) (w .grown);
     added = adds-two s s′ (joined s s′) set set′ set″ (v .added) (w .added) (λ m b. joined-is s s′ m);
     functions = λ h k. or-bit a b h ∙ ap₂ (λ p q. p || q) (v .functions h k) (w .functions h k) ∙ sym (called-two t s s′ h);
-    finds = λ m i e. ⊎-elim (λ p. w .grown .stays m i (v .finds m i p)) (λ p. w .finds m i p) (or-out (x m) (x′ m) (sym (joined-is x x′ m) ∙ e));
+    finds = λ m i e. ⊎-elim (λ p. w .grown .stays m i (v .finds m i p)) (λ p. w .finds m i p) (or-out (x m) (x′ m) (sym
+        (joined-is x x′ m) ∙ e));
   }
 
   -- expressions side by side, walked into a set of their own: their conflicts are found, and the set is joined

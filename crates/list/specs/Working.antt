@@ -11,7 +11,7 @@ use Rattle.table.specs.Bytes.{functions, nodes, kind, word, first}
 use Rattle.table.specs.Naming.{owner}
 use Rattle.table.specs.Check.{accepted, checkOf}
 use Rattle.table.specs.Expressions.{exprsAt, exprAt, bodyOf, defsAt, finalAt}
-use Rattle.table.specs.Working.{IsNode, IsFunction}
+use Rattle.table.specs.Working.{IsNode, IsFunction, Framed}
 use Rattle.table.specs.Survey.{verdictOf, ifAccepted}
 use Rattle.list.specs.declared.Listing.{Listing}
 use Rattle.list.specs.declared.walk.Siblings.{Siblings}
@@ -32,6 +32,11 @@ Callee h = Range 31 h
 
 abbrev pub Taken : List ℕ → Type 0
 Taken t = checkOf t ≡ accepted (functions t) (nodes t)
+
+-- a node whose record is in the table
+pub record Reach (t : List ℕ) (n : ℕ) : Type 0 where
+  pub framed : Framed t
+  pub node : IsNode t n
 
 -- C of a body, C and A of an expression and of a chain, in a table
 unfoldable pub callsBy : List ℕ → ℕ → Test
@@ -139,7 +144,8 @@ pub record Within (t : List ℕ) (f n : ℕ) : Type 0 where
 -- a walk along siblings; of a let it names the body
 pub record Chained (t : List ℕ) (f c : ℕ) (defs : Bool) (r : Siblings) (set set′ bodies′ called called′ found found′ : List ℕ)
     : Type 0 where
-  pub walk : Walk t (callsAt* t (siblings t defs c)) (conflictsAt* t (siblings t defs c)) (r .once) set set′ bodies′ called called′ found found′
+  pub walk : Walk t (callsAt* t (siblings t defs c)) (conflictsAt* t (siblings t defs c))
+      (r .once) set set′ bodies′ called called′ found found′
   pub twice : (h : ℕ) → Callee h → bitAt (r .twice) h ≡ twiceIn t (siblings t defs c) h
   pub last : defs ≡ true → IsNode t (r .last .0) × (owner t (r .last .0) ≡ f) × (c ≤ r .last .0) × (finalAt t c ≡ exprAt t (r .last .0))
 
@@ -152,7 +158,8 @@ pub record Beside (t : List ℕ) (n : ℕ) (defs : Bool) : Type 0 where
 -- a walk over node n's children, with their conflicts
 pub record Sided (t : List ℕ) (f n : ℕ) (defs : Bool) (r : Siblings) (set set′ bodies′ called called′ found found′ : List ℕ)
     : Type 0 where
-  pub walk : Walk t (callsAt* t (kidsAt t defs n)) (joined (parallelAt t (kidsAt t defs n)) (conflictsAt* t (kidsAt t defs n))) (r .once) set
+  pub walk : Walk t (callsAt* t (kidsAt t defs n)) (joined (parallelAt t (kidsAt t defs n)) (conflictsAt* t (kidsAt t defs n)))
+      (r .once) set
       set′ bodies′ called called′ found found′
   pub last : defs ≡ true → IsNode t (r .last .0) × (owner t (r .last .0) ≡ f) × (first t n ≤ r .last .0)
       × (finalAt t (first t n) ≡ exprAt t (r .last .0))

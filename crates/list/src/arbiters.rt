@@ -1,5 +1,6 @@
 // The arbiter list of an accepted table as a packed set: every body is walked, main's first, and each once.
 use crate::bits;
+use crate::fields;
 use crate::walk;
 use table::Function;
 use table::Node;
@@ -20,8 +21,8 @@ fn sites(table: &[u8]) -> [u8; 2112]
     while n < last.0 {
         n += 1;
         let node = Node(n);
-        if read::kind(table, node) == 4 {
-            let word = read::word(table, node);
+        if fields::kind(table, node) == 4 {
+            let word = fields::word(table, node);
             bits::put_at(&mut row, Function(word as u16), node);
         }
     }

@@ -1,6 +1,7 @@
 // The walk over expressions: C of section 4.2 as packed sets, and PC wherever expressions are evaluated side by side.
 // Node walk and chain walk call each other, into the bodies of callees too; each body is walked once, and what it came to is kept.
 use crate::bits;
+use crate::fields;
 use table::Function;
 use table::Node;
 use table::read;
@@ -40,9 +41,9 @@ fn node_walk(
         (conflictsAt (now (table .entry)) (exprAt (now (table .entry)) (n .0))) r (now (set .entry)) (now (set .exit))
         (now (bodies .exit)) (now (called .entry)) (now (called .exit)) (now (found .entry)) (now (found .exit)) ⌝ }
 {
-    let kind = read::kind(table, n);
+    let kind = fields::kind(table, n);
     if kind == 5 {
-        let first = read::first(table, n);
+        let first = fields::first(table, n);
         let r = chain_walk(table, sites, f, first, false, bodies, called, found, set);
         return r.once;
     }
@@ -58,7 +59,7 @@ fn node_walk(
     }
     if kind == 4 {
         let r = side_walk(table, sites, f, n, false, bodies, called, found, set);
-        let word = read::word(table, n);
+        let word = fields::word(table, n);
         if word == (f.0 as u32) {
             return r.once;
         }
@@ -93,7 +94,7 @@ fn side_walk(
     ensures { λ r. ⌜ Sided (now (table .entry)) (f .0) (n .0) defs r (now (set .entry)) (now (set .exit))
         (now (bodies .exit)) (now (called .entry)) (now (called .exit)) (now (found .entry)) (now (found .exit)) ⌝ }
 {
-    let first = read::first(table, n);
+    let first = fields::first(table, n);
     if first.0 == 0 {
         return Siblings {
             once: 0,
@@ -137,7 +138,7 @@ fn chain_walk(
     ensures { λ r. ⌜ Chained (now (table .entry)) (f .0) (c .0) defs r (now (set .entry)) (now (set .exit))
         (now (bodies .exit)) (now (called .entry)) (now (called .exit)) (now (found .entry)) (now (found .exit)) ⌝ }
 {
-    let next = read::next(table, c);
+    let next = fields::next(table, c);
     if next.0 == 0 {
         if defs {
             return Siblings {

@@ -30,12 +30,14 @@ held-requires c κs =
 
 -- src/lib.rt:45:1
 returns : tie.Need-returns
-returns c = at-check _ _ _ _ (sym (ap verdictOf (c .before .checked .given .1)) ∙ c .before .before .before .before .survey .ensures .checked)
+returns c = at-check _ _ _ _ (sym (ap verdictOf (c .before .checked .given .1))
+    ∙ c .before .before .before .before .survey .ensures .checked)
 
 -- src/lib.rt:45:1
 returns-2 : tie.Need-returns-2
 returns-2 c =
-    let k = taken-by _ _ _ (sym (ap verdictOf (c .before .before .checked2 .given .1)) ∙ c .before .before .before .before .before .survey .ensures .checked) in
+    let k = taken-by _ _ _ (sym (ap verdictOf (c .before .before .checked2 .given .1))
+    ∙ c .before .before .before .before .before .survey .ensures .checked) in
     after-check _ _ _ (k .0) (c .held .ensures)
 
 pub check-tags-spec : {M : Type 1} → statement M

@@ -37,24 +37,28 @@ add-if1 c = search needs
 -- src/lib.rt:35:17
 returns : tie.Need-returns
 returns c =
-    let k = taken-by _ _ _ (sym (ap verdictOf (c .before .before .before .checked2 .given .1)) ∙ c .before .before .before .before .before .check .ensures) in
+    let k = taken-by _ _ _ (sym (ap verdictOf (c .before .before .before .checked2 .given .1))
+    ∙ c .before .before .before .before .before .check .ensures) in
     let r = fill-wrong _ (k .0) _ _ (k .2) (c .if1 .taken) in
     (r .verdict, r .tags)
 
 -- src/lib.rt:37:17
 arbiters-requires : tie.Need-arbiters-requires
-arbiters-requires c κs = taken-by _ _ _ (sym (ap verdictOf (c .before .before .before .checked2 .given .1)) ∙ c .before .before .before .before .before .check .ensures) .0
+arbiters-requires c κs = taken-by _ _ _ (sym (ap verdictOf (c .before .before .before .checked2 .given .1))
+    ∙ c .before .before .before .before .before .check .ensures) .0
 
 -- src/lib.rt:38:13
 copy-requires : tie.Need-copy-requires
 copy-requires c κs =
-    let k = taken-by _ _ _ (sym (ap verdictOf (c .before .before .before .before .before .checked2 .given .1)) ∙ c .before .before .before .before .before .before .before .check .ensures) in
+    let k = taken-by _ _ _ (sym (ap verdictOf (c .before .before .before .before .before .checked2 .given .1))
+    ∙ c .before .before .before .before .before .before .before .check .ensures) in
     omega (arith, c .before .before .if1 .left, k .2, few _ (k .0) .1)
 
 -- src/lib.rt:25:1
 returns-2 : tie.Need-returns-2
 returns-2 c =
-    let r = fill-refused _ (c .before .before .before .before .before .before .args .tags .now) _ _ (sym (ap verdictOf (c .before .checked .given .1)) ∙ c .before .before .before .check .ensures) in
+    let r = fill-refused _ (c .before .before .before .before .before .before .args .tags .now) _ _ (sym (ap verdictOf
+    (c .before .checked .given .1)) ∙ c .before .before .before .check .ensures) in
     (r .verdict, r .tags)
 
 -- src/lib.rt:25:1
@@ -64,10 +68,14 @@ same-length c = search needs
 -- src/lib.rt:25:1
 returns-3 : tie.Need-returns-3
 returns-3 c =
-    let k = taken-by _ _ _ (sym (ap verdictOf (c .before .before .before .before .before .before .before .before .checked2 .given .1)) ∙ c .before .before .before .before .before .before .before .before .before .before .check .ensures) in
+    let k = taken-by _ _ _ (sym (ap verdictOf (c .before .before .before .before .before .before .before .before .checked2 .given .1))
+    ∙ c .before .before .before .before .before .before .before .before .before .before .check .ensures) in
     let set = c .before .before .before .before .arbiters .result in
     let size : length set ≡ 64 = search needs in
-    let r = fill-right _ (k .0) (c .before .before .before .before .before .before .before .before .before .before .before .before .before .args .tags .now) _ set _ _ _ (k .2) (k .1) (k .2) (c .before .before .before .before .before .if1 .left) size (λ i. c .slice-known2 .given i .fits) (c .before .before .before .before .arbiters .ensures) (c .before .before .copy .ensures) in
+    let r = fill-right _ (k .0)
+    (c .before .before .before .before .before .before .before .before .before .before .before .before
+    .before .args .tags .now) _ set _ _ _ (k .2) (k .1) (k .2) (c .before .before .before .before .before .if1 .left) size
+    (λ i. c .slice-known2 .given i .fits) (c .before .before .before .before .arbiters .ensures) (c .before .before .copy .ensures) in
     (r .verdict, r .tags)
 
 pub fill-tags-spec : {M : Type 1} → statement M

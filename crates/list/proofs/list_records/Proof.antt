@@ -30,7 +30,8 @@ enum-known-checked-2 c = search needs
 
 -- src/lib.rt:42:17
 arbiters-requires : tie.Need-arbiters-requires
-arbiters-requires c κs = taken-by _ _ _ (sym (ap verdictOf (c .before .checked2 .given .1)) ∙ c .before .before .before .before .survey .ensures .checked) .0
+arbiters-requires c κs = taken-by _ _ _ (sym (ap verdictOf (c .before .checked2 .given .1))
+    ∙ c .before .before .before .before .survey .ensures .checked) .0
 
 -- src/lib.rt:43:13
 collect-requires : tie.Need-collect-requires
@@ -43,12 +44,14 @@ collect-requires c κs =
 returns : tie.Need-returns
 returns c =
     let r = c .blank .ensures in
-    arrange-none _ _ _ _ (r .0) (r .1) (ap verdictOf (r .2)) (sym (ap verdictOf (c .before .before .checked .given .1)) ∙ c .before .before .before .before .before .survey .ensures .checked)
+    arrange-none _ _ _ _ (r .0) (r .1) (ap verdictOf (r .2)) (sym (ap verdictOf (c .before .before .checked .given .1))
+    ∙ c .before .before .before .before .before .survey .ensures .checked)
 
 -- src/lib.rt:33:1
 returns-2 : tie.Need-returns-2
 returns-2 c =
-    let k = taken-by _ _ _ (sym (ap verdictOf (c .before .before .before .checked2 .given .1)) ∙ c .before .before .before .before .before .before .survey .ensures .checked) in
+    let k = taken-by _ _ _ (sym (ap verdictOf (c .before .before .before .checked2 .given .1))
+    ∙ c .before .before .before .before .before .before .survey .ensures .checked) in
     arrange-all _ (k .0) _ (c .collect .ensures)
 
 pub list-records-spec : {M : Type 1} → statement M

@@ -37,8 +37,10 @@ loop-holds c =
 -- src/arbiters.rt:44:9
 body-walk-requires : tie.Need-body-walk-requires Inv-loop μ-loop
 body-walk-requires c κs =
-    let inv = c .before .before .before .before .before .loop .inv in
-    ((c .before .before .before .before .before .before .before .before .before .pre, (omega arith, inv .0)), (c .before .before .before .before .before .before .before .sites .ensures, inv .1))
+    let inv = c .before .before .before .before .before .loop .inv in (
+      (c .before .before .before .before .before .before .before .before .before .pre, (omega arith, inv .0)),
+      (c .before .before .before .before .before .before .before .sites .ensures, inv .1),
+    )
 
 -- src/arbiters.rt:45:9
 sub-f : tie.Need-sub-f Inv-loop μ-loop
@@ -53,8 +55,12 @@ loop-again : tie.Need-loop-again Inv-loop μ-loop
 loop-again c =
     let inv = c .before .before .before .before .before .before .loop .inv in
     let r = c .body-walk .ensures in
-    let F = functions (c .before .before .before .before .before .before .before .before .before .before .args .table .now) in
-    (omega arith, r .0, all-seen F (c .before .before .before .before .before .before .loop .called) (c .body-walk .last .1 .1 .1 .1 .0) (c .before .before .before .before .before .before .loop .f) (inv .2) (r .1 .seen) (r .2))
+    let F = functions (c .before .before .before .before .before .before .before .before .before .before .args .table .now) in (
+      omega arith,
+      r .0,
+      all-seen F (c .before .before .before .before .before .before .loop .called) (c .body-walk .last .1 .1 .1 .1 .0)
+          (c .before .before .before .before .before .before .loop .f) (inv .2) (r .1 .seen) (r .2),
+    )
 
 -- src/arbiters.rt:33:1
 returns : tie.Need-returns Inv-loop μ-loop

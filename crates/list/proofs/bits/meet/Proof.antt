@@ -67,7 +67,8 @@ loop-again-2 c =
     let a = c .before .before .before .before .before .args in
     let l = c .before .before .before .loop in (
       omega arith,
-      meet-skip (a .set .now) (a .row .now) (a .mask) (l .h) (a .found .now) (l .found) (l .inv .1) (sym (c .before .has .ensures) ∙ c .if2 .left),
+      meet-skip (a .set .now) (a .row .now) (a .mask) (l .h) (a .found .now) (l .found) (l .inv .1) (sym (c .before .has .ensures)
+          ∙ c .if2 .left),
     )
 
 -- src/bits.rt:101:1

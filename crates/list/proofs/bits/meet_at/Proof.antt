@@ -72,7 +72,8 @@ returns : tie.Need-returns Inv-loop μ-loop
 returns c =
     let a = c .before .before .args in
     let inv = c .before .loop .inv in
-    adds-by (λ j. bitAnd (getD (a .set .now) j 0) (getD (a .row .now) (64 * a .h + j) 0)) _ _ _ (inv .1) (λ j h. inv .2 .done j (omega arith))
+    adds-by (λ j. bitAnd (getD (a .set .now) j 0) (getD (a .row .now) (64 * a .h + j) 0)) _ _ _ (inv .1) (λ j h. inv .2 .done j
+    (omega arith))
     (λ m b. and-bit (getD (a .set .now) ((m - 1) / 8) 0) (getD (a .row .now) (64 * a .h + (m - 1) / 8) 0) ((m - 1) % 8)
     ∙ ap₂ (λ p q. p && q) (sym (tagged-bit (a .set .now) m)) (sym (tagged-row (a .row .now) (a .h) m (b .0))))
 

@@ -44,7 +44,8 @@ loop-again c =
     let n : length (a .t2) ≡ 64 = search needs in (
       simp length-set (omega arith),
       simp length-set (inv .1),
-      copied-more (c .before .loop .i) (a .t2) (a .tags .now) _ (omega (arith, n, inv .1, c .before .before .pre)) (omega (arith, inv .1)) (inv .2),
+      copied-more (c .before .loop .i) (a .t2) (a .tags .now) _ (omega (arith, n, inv .1, c .before .before .pre)) (omega
+          (arith, inv .1)) (inv .2),
     )
 
 -- src/tags.rt:91:1
@@ -55,7 +56,8 @@ same-length c = c .before .loop .inv .1
 returns : tie.Need-returns Inv-loop μ-loop
 returns c =
     let inv = c .before .loop .inv in
-    copied-all (c .before .before .args .t2) (c .before .before .args .tags .now) _ (c .before .loop .i) (omega (arith, inv .0, inv .1)) (inv .2)
+    copied-all (c .before .before .args .t2) (c .before .before .args .tags .now) _ (c .before .loop .i) (omega (arith, inv .0, inv .1))
+    (inv .2)
 
 pub copy-spec : {M : Type 1} → statement M
 copy-spec =

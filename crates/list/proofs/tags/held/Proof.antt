@@ -34,7 +34,8 @@ none-past-requires c κs =
 returns-2 : tie.Need-returns-2
 returns-2 c =
     let e = c .before .before .before .before .before .before .pre .3 in
-    past-last _ _ _ e (c .before .before .if1 .left) (sym (past-is _ _ _ e) ∙ sym (c .before .none-past .ensures) ∙ not-yes _ (c .if2 .taken))
+    past-last _ _ _ e (c .before .before .if1 .left) (sym (past-is _ _ _ e) ∙ sym (c .before .none-past .ensures)
+    ∙ not-yes _ (c .if2 .taken))
 
 -- src/tags.rt:83:9
 lowest-unfit-requires : tie.Need-lowest-unfit-requires
@@ -44,7 +45,9 @@ lowest-unfit-requires c κs = let p = c .before .before .before .before .before 
 returns-3 : tie.Need-returns-3
 returns-3 c =
     let e = c .before .before .before .before .before .before .before .before .pre .3 in
-    unfit _ _ _ _ e (c .before .before .before .before .if1 .left) (sym (past-is _ _ _ e) ∙ sym (c .before .before .before .none-past .ensures) ∙ not-no _ (c .before .before .if2 .left)) (c .before .lowest-unfit .ensures)
+    unfit _ _ _ _ e (c .before .before .before .before .if1 .left) (sym (past-is _ _ _ e)
+    ∙ sym (c .before .before .before .none-past .ensures)
+    ∙ not-no _ (c .before .before .if2 .left)) (c .before .lowest-unfit .ensures)
     (c .if3 .taken)
 
 -- src/tags.rt:72:1
@@ -52,7 +55,8 @@ returns-4 : tie.Need-returns-4
 returns-4 c =
     let p = c .before .before .before .before .before .before .before .before .pre in
     ap₂ accepted (p .2) (p .3) ∙ held-fit _ _ _ (p .3) (c .before .before .before .before .if1 .left)
-    (sym (past-is _ _ _ (p .3)) ∙ sym (c .before .before .before .none-past .ensures) ∙ not-no _ (c .before .before .if2 .left)) (sym (c .before .lowest-unfit .ensures) ∙ c .if3 .left)
+    (sym (past-is _ _ _ (p .3)) ∙ sym (c .before .before .before .none-past .ensures)
+    ∙ not-no _ (c .before .before .if2 .left)) (sym (c .before .lowest-unfit .ensures) ∙ c .if3 .left)
 
 pub held-spec : {M : Type 1} → statement M
 held-spec =

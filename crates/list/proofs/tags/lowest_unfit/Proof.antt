@@ -28,7 +28,13 @@ loop-holds c = (omega arith, lowest-none _)
 
 -- src/tags.rt:55:9
 add-n : tie.Need-add-n Inv-loop μ-loop
-add-n c = omega (arith, c .before .before .loop .inv .0, c .before .before .before .before .before .pre .2, few _ (c .before .before .before .before .before .pre .0) .1)
+add-n c = omega (
+  arith,
+  c .before .before .loop .inv .0,
+  c .before .before .before .before .before .pre .2,
+  few _
+      (c .before .before .before .before .before .pre .0) .1,
+)
 
 -- src/tags.rt:56:24
 cast-marks : tie.Need-cast-marks Inv-loop μ-loop
@@ -48,7 +54,8 @@ returns c =
     let a = c .before .before .before .before .before .before .before .before .before .args in
     let p = c .before .before .before .before .before .before .before .before .before .pre in
     let n = c .before .before .before .before .before .before .loop .n in
-    sym (lowest-found (tagFits (a .table .now) (a .tags .now)) (nodes (a .table .now)) n (c .before .before .before .before .before .before .loop .inv .1)
+    sym (lowest-found (tagFits (a .table .now) (a .tags .now)) (nodes (a .table .now)) n
+    (c .before .before .before .before .before .before .loop .inv .1)
     (tag-other (a .table .now) (a .tags .now) (n + 1) (sym (c .before .before .before .marks .ensures) ∙ c .before .before .if2 .taken)
     (λ q. c .if3 .taken (c .before .kind .ensures ∙ q))) (omega (arith, p .2)))
 
@@ -62,11 +69,27 @@ cast-own c = search needs
 
 -- src/tags.rt:62:23
 mul-own : tie.Need-mul-own Inv-loop μ-loop
-mul-own c = record { fits = omega (arith, c .before .before .before .before .before .before .before .loop .inv .0, c .before .before .before .before .before .before .before .before .before .before .pre .2, few _ (c .before .before .before .before .before .before .before .before .before .before .pre .0) .1) }
+mul-own c = record {
+  fits = omega (
+    arith,
+    c .before .before .before .before .before .before .before .loop .inv .0,
+    c .before .before .before .before .before
+        .before .before .before .before .before .pre .2,
+    few _
+        (c .before .before .before .before .before .before .before .before .before .before .pre .0) .1,
+  );
+}
 
 -- src/tags.rt:62:23
 array-copy-out-own : tie.Need-array-copy-out-own Inv-loop μ-loop
-array-copy-out-own c = omega (arith, c .before .before .before .before .before .before .before .loop .inv .0, c .before .before .before .before .before .before .before .before .before .before .pre .2, few _ (c .before .before .before .before .before .before .before .before .before .before .pre .0) .1)
+array-copy-out-own c = omega (
+  arith,
+  c .before .before .before .before .before .before .before .loop .inv .0,
+  c .before .before .before .before .before
+      .before .before .before .before .before .pre .2,
+  few _
+      (c .before .before .before .before .before .before .before .before .before .before .pre .0) .1,
+)
 
 -- src/tags.rt:63:25
 cast-if4 : tie.Need-cast-if4 Inv-loop μ-loop
@@ -79,13 +102,17 @@ returns-2 c =
     let t = a .table .now in
     let p = c .before .before .before .before .before .before .before .before .before .before .before .before .before .pre in
     let n = c .before .before .before .before .before .before .before .before .before .before .loop .n in
-    sym (lowest-found (tagFits t (a .tags .now)) (nodes t) n (c .before .before .before .before .before .before .before .before .before .before .loop .inv .1)
-    (tag-again t (a .tags .now) (n + 1) (sym (c .before .before .before .before .before .before .before .marks .ensures) ∙ c .before .before .before .before .before .before .if2 .taken)
-    (sym (c .before .before .before .word .ensures) ∙ c .if4 .taken ∙ owner-of t (p .0) _ (p .1) (n + 1) _ (omega (arith, p .2)) (omega (arith, p .2, few t (p .0) .1)))) (omega (arith, p .2)))
+    sym (lowest-found (tagFits t (a .tags .now)) (nodes t) n
+    (c .before .before .before .before .before .before .before .before .before .before .loop .inv .1)
+    (tag-again t (a .tags .now) (n + 1) (sym (c .before .before .before .before .before .before .before .marks .ensures)
+    ∙ c .before .before .before .before .before .before .if2 .taken)
+    (sym (c .before .before .before .word .ensures) ∙ c .if4 .taken
+    ∙ owner-of t (p .0) _ (p .1) (n + 1) _ (omega (arith, p .2)) (omega (arith, p .2, few t (p .0) .1)))) (omega (arith, p .2)))
 
 -- src/tags.rt:54:5
 loop-less : tie.Need-loop-less Inv-loop μ-loop
-loop-less c = let p = c .before .before .before .before .before .before .before .before .before .before .before .before .before .pre in omega (arith, p .2)
+loop-less c = let p = c .before .before .before .before .before .before .before .before .before .before .before .before
+    .before .pre in omega (arith, p .2)
 
 -- src/tags.rt:54:5
 loop-again : tie.Need-loop-again Inv-loop μ-loop
@@ -95,9 +122,12 @@ loop-again c =
     let p = c .before .before .before .before .before .before .before .before .before .before .before .before .before .pre in
     let n = c .before .before .before .before .before .before .before .before .before .before .loop .n in (
       omega (arith, p .2),
-      lowest-next (tagFits t (a .tags .now)) n (c .before .before .before .before .before .before .before .before .before .before .loop .inv .1)
-          (tag-call t (a .tags .now) (n + 1) (sym (c .before .before .before .before .before .kind .ensures) ∙ c .before .before .before .before .if3 .left)
-          (λ q. c .if4 .left (c .before .before .before .word .ensures ∙ q ∙ sym (owner-of t (p .0) _ (p .1) (n + 1) _ (omega (arith, p .2)) (omega (arith, p .2, few t (p .0) .1)))))),
+      lowest-next (tagFits t (a .tags .now)) n
+          (c .before .before .before .before .before .before .before .before .before .before .loop .inv .1)
+          (tag-call t (a .tags .now) (n + 1) (sym (c .before .before .before .before .before .kind .ensures)
+          ∙ c .before .before .before .before .if3 .left)
+          (λ q. c .if4 .left (c .before .before .before .word .ensures ∙ q
+          ∙ sym (owner-of t (p .0) _ (p .1) (n + 1) _ (omega (arith, p .2)) (omega (arith, p .2, few t (p .0) .1)))))),
     )
 
 -- src/tags.rt:54:5

@@ -58,7 +58,8 @@ loop-again : tie.Need-loop-again Inv-loop μ-loop
 loop-again c =
     let a = c .before .before .before .before .before .args in (
       omega arith,
-      all-next (λ j. not (tagged (a .tags .now) (a .last + j))) (c .before .before .before .loop .i) (c .before .before .before .loop .inv .1) (ap not (sym (c .before .marks .ensures) ∙ c .if1 .left)),
+      all-next (λ j. not (tagged (a .tags .now) (a .last + j))) (c .before .before .before .loop .i)
+          (c .before .before .before .loop .inv .1) (ap not (sym (c .before .marks .ensures) ∙ c .if1 .left)),
     )
 
 -- src/tags.rt:33:1

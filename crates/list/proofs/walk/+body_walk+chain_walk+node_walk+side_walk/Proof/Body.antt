@@ -43,15 +43,24 @@ module _ (t : ℕ) where
       (omega (arith, p .0, few _ ok .1, w .node .0), (refl, (w, (p .1 .1 .0, p .1 .1 .1))))
 
   pub keep-requires : lts.Need-keep-requires given (body-walk-at t) body-walk.Post
-  keep-requires c κs = (c .before .before .node-walk .ensures .memo .size-bodies, let p = c .before .before .before .before .before .before .before .before .before .before .before .before .pre .1 .0 in omega (arith, p .1 .1, few _ (p .0) .0))
+  keep-requires c κs = (
+    c .before .before .node-walk .ensures .memo .size-bodies,
+    let p = c .before .before .before .before
+        .before .before .before .before .before .before .before .before .pre .1 .0 in omega (arith, p .1 .1, few _ (p .0) .0),
+  )
 
   pub mul-called : lts.Need-mul-called given (body-walk-at t) body-walk.Post
-  mul-called c = record { fits = let p = c .before .before .before .before .before .before .before .before .before .before .before .before .before .pre .1 .0 in omega (arith, p .1 .1, few _ (p .0) .0) }
+  mul-called c = record {
+    fits = let p = c .before .before .before .before .before .before .before .before .before .before .before
+        .before .before .pre .1 .0 in omega (arith, p .1 .1, few _ (p .0) .0);
+  }
 
   pub element-write-called : lts.Need-element-write-called given (body-walk-at t) body-walk.Post
-  element-write-called c = let p = c .before .before .before .before .before .before .before .before .before .before .before .before .before .pre .1 .0 in omega (arith, p .1 .1, few _ (p .0) .0)
+  element-write-called c = let p = c .before .before .before .before .before .before .before .before .before .before .before
+      .before .before .pre .1 .0 in omega (arith, p .1 .1, few _ (p .0) .0)
 
   pub returns-2 : lts.Need-returns-2 given (body-walk-at t) body-walk.Post
   returns-2 c =
       let p = c .before .before .before .before .before .before .before .before .before .before .before .before .before .pre .1 .0 in
-      at-body _ (p .0) _ _ _ _ _ _ _ _ _ _ (p .1) (c .before .before .before .before .before .before .before .before .root .ensures) (c .before .before .before .node-walk .ensures) (c .keep .ensures)
+      at-body _ (p .0) _ _ _ _ _ _ _ _ _ _ (p .1) (c .before .before .before .before .before .before .before .before .root .ensures)
+      (c .before .before .before .node-walk .ensures) (c .keep .ensures)

@@ -3,10 +3,10 @@ use Prim.Native.Nat.{ℕ}
 use mathlib.Core.Path.{_≡_, refl, sym, subst, _∙_}
 use native.Mathlib.Omega.{arith}
 use Rattle.list.specs.Working.{Within}
-use Rattle.list.proofs.NodeLaws.{first-there}
+use Rattle.list.proofs.NodeLaws.{reach, first-there}
 use Rattle.list.proofs.ChainLaws.{side-none, side-all}
 use Rattle.list.proofs.walk.side_walk.Reads as side-walk
-use Rattle.table.proofs.read.first.Reads as first-reads
+use Rattle.list.proofs.fields.first.Reads as first-reads
 use Rattle.list.proofs.walk.chain_walk.Reads as chain-walk
 use Rattle.list.proofs.bits.meet.Reads as meet-reads
 use Rattle.list.proofs.bits.join.Reads as join-reads
@@ -15,10 +15,19 @@ use Rattle.list.proofs.walk.+body_walk+chain_walk+node_walk+side_walk.P
 
 module _ (t : ℕ) where
   abbrev pub given : lts.Claims
-  given = (first-reads.Asked, first-reads.Learnt, chain-walk-below t, chain-walk.Post, meet-reads.Asked, meet-reads.Learnt, join-reads.Asked, join-reads.Learnt)
+  given = (
+    first-reads.Asked,
+    first-reads.Learnt,
+    chain-walk-below t,
+    chain-walk.Post,
+    meet-reads.Asked,
+    meet-reads.Learnt,
+    join-reads.Asked,
+    join-reads.Learnt,
+  )
 
   pub first-requires : lts.Need-first-requires given (side-walk-at t) side-walk.Post
-  first-requires c κs = tt
+  first-requires c κs = reach _ _ _ (c .before .pre .1 .1 .0)
 
   pub returns : lts.Need-returns given (side-walk-at t) side-walk.Post
   returns c =
@@ -37,10 +46,15 @@ module _ (t : ℕ) where
   meet-requires c κs = c .before .before .chain-walk .ensures .walk .memo .size-found
 
   pub join-requires : lts.Need-join-requires given (side-walk-at t) side-walk.Post
-  join-requires c κs = c .before .before .before .before .before .before .before .before .before .before .before .before .before .before .pre .1 .0
+  join-requires c κs = c .before .before .before .before .before .before .before .before .before .before .before .before .before
+      .before .pre .1 .0
 
   pub returns-2 : lts.Need-returns-2 given (side-walk-at t) side-walk.Post
   returns-2 c =
-      let p = c .before .before .before .before .before .before .before .before .before .before .before .before .before .before .before .pre .1 in
-      side-all _ _ _ (p .1 .0) _ _ (c .before .before .before .before .before .before .chain-walk .result) _ _ _ _ _ _ _ _ _ _ (p .1 .1 .0) (p .1 .1 .1 .0) (c .before .before .before .before .before .before .before .before .before .before .before .before .before .first .ensures)
-      (c .before .before .before .before .before .before .chain-walk .ensures) (c .before .before .before .meet .ensures) (c .join .ensures)
+      let p = c .before .before .before .before .before .before .before .before .before .before .before .before .before .before
+      .before .pre .1 in
+      side-all _ _ _ (p .1 .0) _ _ (c .before .before .before .before .before .before .chain-walk .result) _ _ _ _ _ _ _ _ _ _
+      (p .1 .1 .0) (p .1 .1 .1 .0) (c .before .before .before .before .before .before .before .before .before .before .before
+      .before .before .first .ensures)
+      (c .before .before .before .before .before .before .chain-walk .ensures) (c .before .before .before .meet .ensures)
+      (c .join .ensures)
