@@ -24,8 +24,8 @@ use Rattle.circuit.specs.declared.Ended.the-variants as Ended
 use Rattle.circuit.specs.declared.Driven.{Driven}
 use Rattle.circuit.specs.declared.Found.{Found}
 use Rattle.circuit.specs.declared.Found.the-variants as Found
-use Rattle.circuit.specs.Meaning.{numbers, listsOf, replyOf, steppedOf, openingOf, StartedAs, haltOf, ranOf, endedOf}
-use Rattle.circuit.specs.Meaning.{drivenOf, foundOf}
+use Rattle.circuit.specs.Meaning.{numbers, listsOf, replyOf, steppedOf, openingOf, StartedAs, haltOf, ranOf, endedOf, drivenOf}
+use Rattle.circuit.specs.Meaning.{foundOf}
 
 -- a function that is undone by another tells its arguments apart
 apart : {A B : Type 0} (f : A → B) (back : B → A) → ((a : A) → back (f a) ≡ a) → (a b : A) → f a ≡ f b → a ≡ b

@@ -12,9 +12,8 @@ use Rattle.circuit.specs.Step.{Reply, taken, answered, refused, refusal}
 use Rattle.circuit.specs.Play.{asks, noted, played}
 use Rattle.circuit.specs.Circuit.{started, startOf, stepOf, playsOf, playOf, Possible}
 use Rattle.circuit.specs.Reading.{ReadsTo}
-use Rattle.circuit.specs.Runs.{RunPlays, andThen, standing, runFrom, runAfter, runOf, MainDone}
-use Rattle.circuit.specs.Runs.{mainValue, Ended, gave, atRest, barred, Driven, Says, Picks, DrivesAfter, Drives, Found}
-use Rattle.circuit.specs.Runs.{names, nothing, unasked, FindsAfter, Finds}
+use Rattle.circuit.specs.Runs.{RunPlays, andThen, standing, runFrom, runAfter, runOf, MainDone, mainValue, Ended, gave, atRest}
+use Rattle.circuit.specs.Runs.{barred, Driven, Says, Picks, DrivesAfter, Drives, Found, names, nothing, unasked, FindsAfter, Finds}
 use Rattle.circuit.specs.Demand.{Answers}
 use Rattle.circuit.specs.Companions.{UnderAnyTags, DriveDemand}
 use Rattle.circuit.proofs.Logs.{played-state, played-nodes, asks-join}

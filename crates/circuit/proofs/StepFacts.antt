@@ -13,8 +13,7 @@ use Rattle.circuit.proofs.Invariant.{Fn, Sound}
 use Rattle.circuit.proofs.Progress.{Able, progress}
 use Rattle.circuit.proofs.Answers.{step-sound}
 use Rattle.table.proofs.Tests.{eqb-true, eqb-yes}
-use Rattle.circuit.specs.Step.{does, Move, done, act, Reply, taken, answered, refused, refusal, Stepped, over, perform}
-use Rattle.circuit.specs.Step.{circuitStep}
+use Rattle.circuit.specs.Step.{does, Move, done, act, Reply, taken, answered, refused, refusal, Stepped, over, perform, circuitStep}
 use Rattle.circuit.proofs.Performed.{Does, Acted, Fair, FairAct, perform-does, perform-sized}
 use Rattle.circuit.specs.Play.{Accepted}
 use Rattle.table.specs.Well.{Laid}

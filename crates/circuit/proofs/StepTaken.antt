@@ -18,8 +18,8 @@ use Rattle.table.specs.Pick.{pick, Range}
 use Rattle.circuit.proofs.Invariant.{Fn}
 use Rattle.circuit.proofs.Progress.{Able}
 use Rattle.table.proofs.Tests.{eqb-true, eqb-yes, eqb-false, ltb-true, ltb-false}
-use Rattle.circuit.specs.Step.{Act, stuck, blocked, does, Move, turns, finishes, restarts, done, all-done, branch}
-use Rattle.circuit.specs.Step.{by-status, act, refused, Stepped, told, outcome, over, perform, circuitStep}
+use Rattle.circuit.specs.Step.{Act, stuck, blocked, does, Move, turns, finishes, restarts, done, all-done, branch, by-status, act}
+use Rattle.circuit.specs.Step.{refused, Stepped, told, outcome, over, perform, circuitStep}
 use Rattle.circuit.proofs.Performed.{Owns, FairAct}
 use Rattle.table.specs.Well.{Laid}
 use Rattle.circuit.proofs.LaidFacts.{length-values, root-node, all-done-finished, finished-all-done}

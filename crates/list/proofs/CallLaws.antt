@@ -18,7 +18,8 @@ use Rattle.table.specs.Working.{IsNode, IsFunction}
 use Rattle.table.proofs.Tests.{eqb-yes, eqb-no}
 use Rattle.table.proofs.CallPlaces.{call-node}
 use Rattle.table.proofs.LaidOut.{laid, call-here}
-use Rattle.list.specs.Arbiters.{Test, nothing, joined, anyUpTo, callsIn, callsIn*, parallel, conflicts, conflicts*, callsOf, listedIn}
+use Rattle.list.specs.Arbiters.{Test, nothing, joined, anyUpTo, callsIn, callsIn*, parallel, conflicts, conflicts*, callsOf}
+use Rattle.list.specs.Arbiters.{listedIn}
 use Rattle.list.specs.CallSets.{callee, callee-at, sets}
 use Rattle.list.specs.Tags.{calleeOf, listed}
 use Rattle.list.specs.Working.{Callee, Taken, callsBy, callsAt, callsAt*, conflictsAt, conflictsAt*}

@@ -22,20 +22,8 @@ use Rattle.table.proofs.LaidOut.{laid}
 use Rattle.list.specs.Arbiters.{Test, nothing, joined, callsIn, parallel, conflicts}
 use Rattle.list.specs.Tags.{calleeOf, isCall, listed}
 use Rattle.list.specs.CallSets.{callee}
-use Rattle.list.specs.Working.{
-  bitAt,
-  Callee,
-  Taken,
-  callsBy,
-  callsAt,
-  callsAt*,
-  conflictsAt,
-  conflictsAt*,
-  parallelAt,
-  calledIn,
-  twiceIn,
-}
-use Rattle.list.specs.Working.{siblings, kidsAt, Within, Beside, Reach}
+use Rattle.list.specs.Working.{bitAt, Callee, Taken, callsBy, callsAt, callsAt*, conflictsAt, conflictsAt*, parallelAt, calledIn}
+use Rattle.list.specs.Working.{twiceIn, siblings, kidsAt, Within, Beside, Reach}
 use Rattle.list.proofs.BitLaws.{or-bit, and-bit, zero-bit}
 use Rattle.list.proofs.Meets.{or-no}
 use Rattle.list.proofs.CallLaws.{or-left, or-right, calls-called, node-listed}

@@ -14,38 +14,12 @@ use Rattle.table.specs.Working.{IsNode, IsFunction}
 use Rattle.list.specs.declared.walk.Siblings.{Siblings}
 use Rattle.list.specs.Arbiters.{Test, nothing, joined}
 use Rattle.list.specs.Tags.{tagged}
-use Rattle.list.specs.Working.{
-  Taken,
-  callsBy,
-  callsAt,
-  callsAt*,
-  conflictsAt,
-  conflictsAt*,
-  parallelAt,
-  siblings,
-  kidsAt,
-  Seen,
-  Adds,
-  Kept,
-}
-use Rattle.list.specs.Working.{Memo, Grown, Walk, Within, Chained, Sided}
+use Rattle.list.specs.Working.{Taken, callsBy, callsAt, callsAt*, conflictsAt, conflictsAt*, parallelAt, siblings, kidsAt, Seen}
+use Rattle.list.specs.Working.{Adds, Kept, Memo, Grown, Walk, Within, Chained, Sided}
 use Rattle.list.proofs.BitLaws.{bit-is}
 use Rattle.list.proofs.WalkLaws.{walk-none, walk-same, walk-two, walk-call, walk-body}
-use Rattle.list.proofs.NodeLaws.{
-  Is,
-  leaf,
-  operation,
-  again,
-  Entering,
-  entering,
-  Choosing,
-  choosing,
-  Binding,
-  binding,
-  body-root,
-  few,
-  owner-few,
-}
+use Rattle.list.proofs.NodeLaws.{Is, leaf, operation, again, Entering, entering, Choosing, choosing, Binding, binding, body-root}
+use Rattle.list.proofs.NodeLaws.{few, owner-few}
 
 module _ (t : List ℕ) (f n : ℕ) (at : Within t f n) where
   by-is : (s x : Test) (mask : ℕ) (set set′ b′ c c′ r r′ : List ℕ) → Is t (exprAt t n) s x → Walk t s x mask set set′ b′ c c′ r r′

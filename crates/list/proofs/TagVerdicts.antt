@@ -14,19 +14,8 @@ use Rattle.table.specs.Check.{Verdict, accepted, refused, stage, checkOf}
 use Rattle.table.specs.Survey.{verdictOf, ifAccepted}
 use Rattle.table.proofs.Tests.{eqb-yes, eqb-no}
 use Rattle.table.proofs.Passed.{passed}
-use Rattle.list.specs.Tags.{
-  tagged,
-  listed,
-  tagLength,
-  nonePast,
-  tagFits,
-  tagsRefusal,
-  tagsOf,
-  after,
-  checkWith,
-  fillVerdict,
-  filledTags,
-}
+use Rattle.list.specs.Tags.{tagged, listed, tagLength, nonePast, tagFits, tagsRefusal, tagsOf, after, checkWith, fillVerdict}
+use Rattle.list.specs.Tags.{filledTags}
 use Rattle.list.specs.Working.{Bit, Taken}
 use Rattle.list.proofs.ListLaws.{tags-are}
 

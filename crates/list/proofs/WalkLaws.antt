@@ -18,20 +18,8 @@ use Rattle.table.specs.Working.{IsNode, IsFunction}
 use Rattle.table.proofs.Tests.{eqb-yes, eqb-no}
 use Rattle.list.specs.Arbiters.{Test, nothing, joined}
 use Rattle.list.specs.Tags.{tagged, calleeOf, listed}
-use Rattle.list.specs.Working.{
-  bitAt,
-  Bit,
-  Callee,
-  Taken,
-  callsBy,
-  callsAt,
-  callsAt*,
-  conflictsAt,
-  conflictsAt*,
-  parallelAt,
-  calledIn,
-}
-use Rattle.list.specs.Working.{twiceIn, meetOf, Sited, Seen, Adds, Kept, Memo, Grown, Walk}
+use Rattle.list.specs.Working.{bitAt, Bit, Callee, Taken, callsBy, callsAt, callsAt*, conflictsAt, conflictsAt*, parallelAt}
+use Rattle.list.specs.Working.{calledIn, twiceIn, meetOf, Sited, Seen, Adds, Kept, Memo, Grown, Walk}
 use Rattle.list.proofs.BitLaws.{or-bit, zero-bit, pow-bit, none-tagged}
 use Rattle.list.proofs.Meets.{or-no, adds-none, adds-two, adds-same}
 use Rattle.list.proofs.CallLaws.{or-left, or-right, body-set}

@@ -2,13 +2,43 @@
 
 use design::circuit::{self, check_state, possible, step_with, Answer, Ending, State};
 use design::difference::{ensure, shown, Outcome};
-use design::random::Random;
+use design::list::tags_of;
+use design::random::{accepted, accepted_of, accepted_sharing, Random};
+use design::states::tags;
 use design::{Node, Refusal, Tree};
 
 use crate::lent::Lent;
 
 /// Most states kept at once when looking for the steps of a run.
 const MOST_STATES: usize = 300;
+
+/// A table, mostly of a small design: it gets through its steps.
+pub fn some_table(random: &mut Random) -> Vec<u8> {
+    match random.below(40) {
+        0 => accepted(random),
+        1..=4 => accepted_sharing(random),
+        5..=9 => {
+            let nodes = random.within(41, 120);
+            accepted_of(random, nodes)
+        }
+        _ => {
+            let nodes = random.within(1, 40);
+            accepted_of(random, nodes)
+        }
+    }
+}
+
+pub fn tree_of(bytes: &[u8]) -> Result<Tree, String> {
+    Tree::read(bytes).map_err(|refusal| format!("{refusal:?}: {}", shown(bytes)))
+}
+
+/// The arbiter list in half of the cases, else tags that hold it or not.
+pub fn some_tags(random: &mut Random, bytes: &[u8]) -> Result<Vec<u8>, String> {
+    match random.once_in(2) {
+        true => tags_of(bytes).map_err(|refusal| format!("{refusal:?}: {}", shown(bytes))),
+        false => Ok(tags(random, &tree_of(bytes)?)),
+    }
+}
 
 pub struct Round {
     pub bytes: Vec<u8>,
@@ -21,7 +51,7 @@ pub struct Round {
 impl Round {
     /// From a start with these arguments.
     pub fn started(bytes: Vec<u8>, tags: Vec<u8>, arguments: &[u32]) -> Result<Round, String> {
-        let tree = Tree::read(&bytes).map_err(|refusal| format!("{refusal:?}: {}", shown(&bytes)))?;
+        let tree = tree_of(&bytes)?;
         let mut round = Round { bytes, tags, tree, own: State::zero(), lent: Lent::zero() };
         round.own.nodes.fill(circuit::NodeState { status: 9, second: true, value: 7 });
         round.lent = Lent::of(&round.own);
@@ -34,7 +64,7 @@ impl Round {
 
     /// From any state.
     pub fn standing(bytes: Vec<u8>, tags: Vec<u8>, own: State) -> Result<Round, String> {
-        let tree = Tree::read(&bytes).map_err(|refusal| format!("{refusal:?}: {}", shown(&bytes)))?;
+        let tree = tree_of(&bytes)?;
         let lent = Lent::of(&own);
         Ok(Round { bytes, tags, tree, own, lent })
     }
@@ -57,7 +87,8 @@ impl Round {
         self.own.node(self.tree.root(self.tree.main())).status == circuit::DONE
     }
 
-    /// A node to ask at: mostly one with a step, often another, now and then a number that is none.
+    /// A node to ask at: mostly one with a step, often a call that may have to wait or another node,
+    /// now and then a number that is none.
     pub fn some_node(&self, random: &mut Random) -> u16 {
         let fine = check_state(&self.tree, &self.own).is_ok();
         match random.below(20) {
@@ -69,8 +100,16 @@ impl Round {
                     random.pick(&nodes).0
                 }
             }
-            12 => random.pick(&[0, self.tree.node_count() as u16 + 1, 512, 513, u16::MAX]),
-            13 => random.number() as u16,
+            12..=14 => {
+                let waiting = |node: &Node| {
+                    let entry = self.own.node(*node);
+                    self.tree.other_callee(*node).is_some() && entry.status == circuit::BUSY && !entry.second
+                };
+                let nodes: Vec<Node> = self.tree.nodes().filter(waiting).collect();
+                nodes.first().map_or(1, |_| random.pick(&nodes).0)
+            }
+            15 => random.pick(&[0, self.tree.node_count() as u16 + 1, 512, 513, u16::MAX]),
+            16 => random.number() as u16,
             _ => random.within(1, self.tree.node_count()) as u16,
         }
     }

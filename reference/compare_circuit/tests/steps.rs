@@ -2,20 +2,18 @@
 
 use std::collections::BTreeMap;
 
-use compare_circuit::rounds::Round;
+use compare_circuit::rounds::{some_table, some_tags, tree_of, Round};
 use design::asm::assemble;
 use design::circuit::Answer;
 use design::difference::{ensure, Outcome};
-use design::list::tags_of;
-use design::random::{accepted, accepted_of, accepted_sharing, Random};
+use design::random::Random;
 use design::reading::read;
-use design::states::{any_state, arguments, damage_state, tags};
+use design::states::{any_state, arguments, damage_state};
 use design::towers::{any_comb, any_deep, any_tower};
-use design::Tree;
 
 /// Schedules from a start, and rounds from any state.
-const SCHEDULES: usize = 14_000;
-const STANDINGS: usize = 10_000;
+const SCHEDULES: usize = 12_000;
+const STANDINGS: usize = 9_000;
 
 /// Steps up to which a reading is followed.
 const LIMIT: u64 = 400;
@@ -31,31 +29,10 @@ fn note(seen: &mut Seen, answer: Answer) {
     *seen.entry(number).or_insert(0) += 1;
 }
 
-/// Mostly small designs: they get through their steps.
-fn design(random: &mut Random) -> Vec<u8> {
-    match random.below(40) {
-        0 => accepted(random),
-        1..=12 => accepted_sharing(random),
-        _ => {
-            let nodes = random.within(1, 40);
-            accepted_of(random, nodes)
-        }
-    }
-}
-
-/// The arbiter list in half of the cases, else tags that hold it or not.
-fn any_tags(random: &mut Random, bytes: &[u8]) -> Result<Vec<u8>, String> {
-    let tree = Tree::read(bytes).map_err(|refusal| format!("{refusal:?}"))?;
-    match random.once_in(2) {
-        true => tags_of(bytes).map_err(|refusal| format!("{refusal:?}")),
-        false => Ok(tags(random, &tree)),
-    }
-}
-
 /// Asks until main answers and a little on, or until the asks are used up; tells whether main answered.
 fn schedule(random: &mut Random, seen: &mut Seen, bytes: Vec<u8>, mut asks: usize) -> Result<bool, String> {
-    let tags = any_tags(random, &bytes)?;
-    let tree = Tree::read(&bytes).map_err(|refusal| format!("{refusal:?}"))?;
+    let tags = some_tags(random, &bytes)?;
+    let tree = tree_of(&bytes)?;
     let arguments = arguments(random, &tree);
     let reading = read(&tree, &arguments, LIMIT);
     let mut round = Round::started(bytes, tags, &arguments)?;
@@ -98,8 +75,8 @@ fn schedules_from_a_start() -> Outcome {
     let (mut random, mut seen) = (Random::new(401), Seen::new());
     let mut answered = 0;
     for _ in 0..SCHEDULES {
-        let bytes = design(&mut random);
-        let asks = if bytes.len() > 1000 { 60 } else { random.within(20, 600) };
+        let bytes = some_table(&mut random);
+        let asks = if bytes.len() > 1000 { 60 } else { random.within(20, 400) };
         answered += usize::from(schedule(&mut random, &mut seen, bytes, asks)?);
     }
     println!("{answered} of {SCHEDULES} answered");
@@ -123,9 +100,9 @@ fn towers_and_deep_chains() -> Outcome {
 fn steps_from_any_state() -> Outcome {
     let (mut random, mut seen) = (Random::new(403), Seen::new());
     for _ in 0..STANDINGS {
-        let bytes = design(&mut random);
-        let tree = Tree::read(&bytes).map_err(|refusal| format!("{refusal:?}"))?;
-        let tags = any_tags(&mut random, &bytes)?;
+        let bytes = some_table(&mut random);
+        let tree = tree_of(&bytes)?;
+        let tags = some_tags(&mut random, &bytes)?;
         let mut state = any_state(&mut random, &tree);
         if random.once_in(6) {
             damage_state(&mut random, &tree, &mut state);

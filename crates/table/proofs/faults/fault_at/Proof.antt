@@ -5,8 +5,8 @@ use mathlib.Core.Path.{_≡_, refl, sym, ap, _∙_}
 use mathlib.Core.Logic.{inl, inr}
 use Rattle.table.specs.Bytes.{byteAt, twoAt, fourAt, functions, nodes, nodeAt, functionAt, kind, first, next, params, spare, root}
 use Prim.Native.Nat.{_+_, _*_, _-_, _≤_}
-use Rattle.table.proofs.CountLaws.{told-counted, first-inside, scoped-param, scoped-bound, scoped-other, told-formed}
-use Rattle.table.proofs.CountLaws.{told-callee, told-tailed, callee-in}
+use Rattle.table.proofs.CountLaws.{told-counted, first-inside, scoped-param, scoped-bound, scoped-other, told-formed, told-callee}
+use Rattle.table.proofs.CountLaws.{told-tailed, callee-in}
 use Rattle.table.proofs.Family.{owner-in}
 use Rattle.table.specs.Check.{within, counted, scoped}
 use mathlib.Core.Path.{ap₂}

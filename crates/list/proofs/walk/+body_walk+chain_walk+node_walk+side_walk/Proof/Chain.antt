@@ -9,11 +9,8 @@ use Rattle.list.proofs.walk.chain_walk.Reads as chain-walk
 use Rattle.list.proofs.fields.next.Reads as next-reads
 use Rattle.list.proofs.walk.node_walk.Reads as node-walk
 use Rattle.list.proofs.walk.+body_walk+chain_walk+node_walk+side_walk.Lts-chain_walk as lts
-use Rattle.list.proofs.walk.+body_walk+chain_walk+node_walk+side_walk.Proof.Measures.{
-  chain-walk-at,
-  chain-walk-below,
-  node-walk-below,
-}
+use Rattle.list.proofs.walk.+body_walk+chain_walk+node_walk+side_walk.Proof.Measures.{chain-walk-at, chain-walk-below}
+use Rattle.list.proofs.walk.+body_walk+chain_walk+node_walk+side_walk.Proof.Measures.{node-walk-below}
 
 module _ (t : ℕ) where
   abbrev pub given : lts.Claims
