@@ -2,6 +2,7 @@
 pub mod Theorems
 pub mod Cases
 pub mod OddStates
+pub mod OperationCases
 pub mod MeaningFacts
 -- from bytes to the abstract circuit: the demand over tables, the own list, any state, the runs, 32-bit values
 pub mod Demands

@@ -1,12 +1,14 @@
 // The entries as C functions on numbers and byte slices, for tests and benchmarks in Rust.
+use list::Listing;
 use table::Checked;
 ghost use mathlib.Core.Path.{_≡_};
 ghost use Rattle.table.specs.Check.{checkOf};
 ghost use Rattle.table.specs.Survey.{verdictOf};
-ghost use Prim.Native.Nat.{_%_, _^_};
-ghost use lib.ListN.{length};
+ghost use Prim.Native.Nat.{_%_, _^_, _<_};
+ghost use lib.ListN.{length, getD};
 ghost use Rattle.list.specs.Tags.{checkWith, fillVerdict, filledTags, bitsSet};
-ghost use Rattle.exports.specs.Codes.{codeOf};
+ghost use Rattle.exports.specs.Codes.{codeOf, packedOf, packedAt};
+ghost use Rattle.list.specs.Records.{noRecord, arranged};
 
 // 0 for accepted, else the refusal's number * 65536 + its place.
 fn code(c: Checked) -> u32
@@ -49,4 +51,24 @@ pub extern "C" fn list_total(tags: &[u8]) -> u64
     ensures { λ r. ⌜ r ≡ bitsSet (now (tags .entry)) % 2 ^ 64 ⌝ }
 {
     list::total(tags)
+}
+
+// Record i of the arbiter list, from 0, as callee * 2^32 + caller's function * 2^16 + node; 0 past the last, and for a refused table.
+#[no_mangle]
+pub extern "C" fn list_record(bytes: &[u8], index: usize) -> u64
+    ensures { λ r. ⌜ r ≡ packedAt (arranged (now (bytes .entry))) index ⌝ }
+{
+    let l = list::list_records(bytes);
+    if index < l.count { packed(l, index) } else { 0 }
+}
+
+fn packed(l: Listing, index: usize) -> u64
+    requires { ⌜ index < 512 ⌝ }
+    ensures { λ r. ⌜ r ≡ packedOf (getD (l .items) index noRecord) ⌝ }
+{
+    let r = l.items[index];
+    let callee = r.callee;
+    let caller = r.caller;
+    let node = r.node;
+    (callee.0 as u64) * 4294967296 + (caller.0 as u64) * 65536 + (node.0 as u64)
 }

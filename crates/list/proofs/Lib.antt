@@ -24,3 +24,5 @@ pub mod RecordSlice
 pub mod Owners
 pub mod TagLoops
 pub mod TagVerdicts
+pub mod PaperList
+pub mod SmallDesigns

@@ -6,3 +6,4 @@ pub mod Arbiters
 pub mod Tags
 pub mod Records
 pub mod Working
+pub mod SmallDesigns

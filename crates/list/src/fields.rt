@@ -1,6 +1,5 @@
 // The fields of the nodes of an accepted table, read where they stand: no byte is past the end.
 use table::Node;
-
 ghost use mathlib.Core.Path.{_≡_};
 ghost use Prim.Native.Nat.{_+_, _*_, _<_};
 ghost use lib.ListN.{length};

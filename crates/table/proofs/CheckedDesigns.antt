@@ -46,7 +46,7 @@ layered-accepted : checkOf layered ≡ accepted 3 8
 unfolding check-open
 layered-accepted = refl
 
-fir-accepted : checkOf fir ≡ accepted 5 33
+fir-accepted : checkOf fir ≡ accepted 5 37
 unfolding check-open
 fir-accepted = refl
 

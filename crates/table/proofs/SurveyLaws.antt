@@ -12,7 +12,8 @@ use borrow.Author.Tests.{le-leb}
 use Rattle.table.specs.declared.Function.{Function}
 use Rattle.table.specs.declared.Node.{Node}
 use Rattle.table.specs.declared.faults.Fault.{Fault}
-use Rattle.table.specs.declared.Checked.the-variants.{Accepted}
+use Rattle.table.specs.declared.Checked.{Checked}
+use Rattle.table.specs.declared.Checked.the-variants.{Accepted, Refused}
 use Rattle.table.specs.declared.kin.Kin.{Kin}
 use Rattle.table.specs.Pick.{pick}
 use Rattle.table.specs.Bytes.{functions, nodes, root}
@@ -20,7 +21,7 @@ use Rattle.table.specs.Find.{all, lowest}
 use Rattle.table.specs.Naming.{owner, parent}
 use Rattle.table.specs.Check.{among, Verdict, accepted, refused, stage, sizes, whole, rootFits, linked, recordFits, formed, checkOf}
 use Rattle.table.specs.Working.{Framed, Linked, Related, frameNumber, checkNodes, faultVerdict, asFunction, asNode}
-use Rattle.table.specs.Survey.{tabulate, ifAccepted, ofNode, ownersOf, parentsOf, blankOf, Surveyed}
+use Rattle.table.specs.Survey.{tabulate, ifAccepted, ofNode, ownersOf, parentsOf, blankOf, Surveyed, verdictOf}
 use Rattle.table.proofs.Tests.{true-T, eqb-yes, eqb-no}
 use Rattle.table.proofs.FindLaws.{both, all-passes, lowest-passes}
 use Rattle.table.proofs.Passed.{in-range}
@@ -180,3 +181,11 @@ module _ (t : List ℕ) (fr : Framed t) where
     roots = λ g i. in-range 1 (nodes t) (root t g) (all-passes (rootFits t) (functions t) (true-T fits e) g (i .0) (i .1));
     links = λ n i. lowest-passes (linked t) (nodes t) f n (i .0) (i .1);
   }
+
+-- an equation on the verdict fixes the whole answer
+pub verdict-apart : (a b : Checked) → verdictOf a ≡ verdictOf b → a ≡ b
+verdict-apart (Accepted f n) (Accepted g m) e = let p : f .0 ≡ g .0 = cc in let q : n .0 ≡ m .0 = cc in λ i. Accepted (asFunction (p i))
+    (asNode (q i))
+verdict-apart (Accepted f n) (Refused k p) e = absurd (let z : _≡_ {A = ℕ} 0 1 = cc in omega arith)
+verdict-apart (Refused k p) (Accepted f n) e = absurd (let z : _≡_ {A = ℕ} 0 1 = cc in omega arith)
+verdict-apart (Refused k p) (Refused j q) e = let x : k ≡ j = cc in let y : p .0 ≡ q .0 = cc in λ i. Refused (x i) (asNode (y i))

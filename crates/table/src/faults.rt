@@ -13,7 +13,7 @@ ghost use Rattle.table.specs.Naming.{owner, tail as tailOf, underLast, i
 ghost use Rattle.table.specs.Check.{among, within, countsOf, counted, scoped, checkOf};
 ghost use Rattle.table.specs.Working.{Framed, At, Linked, Related, Parents, NodeAt, better, faultAt, checkNodes, faultVerdict};
 
-// The lowest number met so far and the lowest node that meets it; number 10 is none.
+// The lowest number met so far and the lowest node that meets it; 10, past the last number here, stands for none.
 pub struct Fault {
     pub number: u8,
     pub place: u16,

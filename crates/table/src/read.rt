@@ -1,4 +1,4 @@
-// Total readers of a table's fields: past the end every byte reads 0.
+// Total readers of a table's fields: past the end every byte reads 0, and the numbers 0, which are none, read as 1.
 use crate::Function;
 use crate::Node;
 ghost use mathlib.Core.Path.{_≡_};

@@ -2,15 +2,14 @@
 
 use std::hint::black_box;
 
+use bench::measure;
 use design::random::{accepted_of, Random};
-
-use crate::measure;
 
 const SIZES: [usize; 4] = [64, 128, 256, 512];
 const TABLES: usize = 24;
 
 pub fn section() {
-    measure::head("table check, median time per accepted table", "nodes");
+    measure::head("table check, median time per accepted table", "nodes", &["proved ns", "fast ns"]);
     for size in SIZES {
         let mut random = Random::new(size as u64);
         let tables: Vec<Vec<u8>> = (0..TABLES).map(|_| accepted_of(&mut random, size)).collect();
@@ -23,6 +22,6 @@ pub fn section() {
         let fast = |table: &Vec<u8>| {
             black_box(fast::check(black_box(table)));
         };
-        measure::row(size, &measure::compare(&tables, proved, fast));
+        measure::row(&size.to_string(), &measure::medians(&tables, [&proved, &fast]));
     }
 }

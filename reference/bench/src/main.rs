@@ -1,8 +1,10 @@
 //! Times of the proved code beside the fast baseline, both in one run.
 
 mod check;
-mod measure;
+mod list;
 
 fn main() {
     check::section();
+    println!();
+    list::section();
 }

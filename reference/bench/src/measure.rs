@@ -1,39 +1,48 @@
-//! Timing two ways of doing the same, and printing it.
+//! Timing several ways of doing the same, and printing it.
 
 use std::time::Instant;
 
-/// Median times in nanoseconds.
-pub struct Times {
-    pub proved: f64,
-    pub fast: f64,
-}
-
-/// Samples taken of each way on each input.
+/// Samples taken of each way on each input; a slow way has fewer.
 const SAMPLES: usize = 61;
+const FEWEST_SAMPLES: usize = 5;
+
+/// A way has this long for all its samples on an input.
+const INPUT_NANOS: f64 = 5_000_000.0;
 
 /// A sample repeats its work for at least this long, so that reading the clock doesn't count.
 const SAMPLE_NANOS: f64 = 40_000.0;
 
-/// Medians over all inputs. The two ways take turns, so that what else the machine does falls on both.
-pub fn compare<T>(inputs: &[T], proved: impl Fn(&T), fast: impl Fn(&T)) -> Times {
-    let (mut proved_samples, mut fast_samples) = (Vec::new(), Vec::new());
+/// Median nanoseconds of each way over all inputs. They take turns, so that what else the machine does falls on all.
+pub fn medians<T, const WAYS: usize>(inputs: &[T], ways: [&dyn Fn(&T); WAYS]) -> [f64; WAYS] {
+    let mut samples: [Vec<f64>; WAYS] = std::array::from_fn(|_| Vec::new());
     for input in inputs {
-        let proved_repeats = repeats(|| proved(input));
-        let fast_repeats = repeats(|| fast(input));
-        for _ in 0..SAMPLES {
-            proved_samples.push(time(|| proved(input), proved_repeats));
-            fast_samples.push(time(|| fast(input), fast_repeats));
+        let plans = ways.map(|way| plan(|| way(input)));
+        for round in 0..SAMPLES {
+            for ((way, plan), samples) in ways.iter().zip(&plans).zip(&mut samples) {
+                if round < plan.samples {
+                    samples.push(time(|| way(input), plan.repeats));
+                }
+            }
         }
     }
-    Times { proved: median(proved_samples), fast: median(fast_samples) }
+    samples.map(median)
 }
 
-fn repeats(work: impl Fn()) -> usize {
-    let mut count = 1;
-    while time(&work, count) * (count as f64) < SAMPLE_NANOS {
-        count *= 2;
+struct Plan {
+    repeats: usize,
+    samples: usize,
+}
+
+fn plan(work: impl Fn()) -> Plan {
+    let mut repeats = 1;
+    loop {
+        let sample = time(&work, repeats) * repeats as f64;
+        if sample >= SAMPLE_NANOS {
+            let samples = (INPUT_NANOS / sample) as usize;
+            return Plan { repeats, samples: samples.clamp(FEWEST_SAMPLES, SAMPLES) };
+        }
+        repeats *= 2;
     }
-    count
 }
 
 /// Nanoseconds for one piece of work.
@@ -50,12 +59,25 @@ fn median(mut samples: Vec<f64>) -> f64 {
     samples[samples.len() / 2]
 }
 
-/// The head of a section's table.
-pub fn head(title: &str, size: &str) {
+/// The head of a section's table; the last column is the ratio of the two before it.
+pub fn head(title: &str, label: &str, columns: &[&str]) {
     println!("{title}");
-    println!("{size:>8} {:>14} {:>14} {:>8}", "proved ns", "fast ns", "ratio");
+    print!("{label:>16}");
+    for column in columns {
+        print!(" {column:>14}");
+    }
+    println!(" {:>8}", "ratio");
 }
 
-pub fn row(size: usize, times: &Times) {
-    println!("{size:>8} {:>14.0} {:>14.0} {:>8.2}", times.proved, times.fast, times.proved / times.fast);
+/// One row: the proved code and the fast baseline come last.
+pub fn row(label: &str, values: &[f64]) {
+    print!("{label:>16}");
+    for value in values {
+        print!(" {value:>14.0}");
+    }
+    let ratio = match values {
+        [.., proved, fast] => proved / fast,
+        _ => f64::NAN,
+    };
+    println!(" {ratio:>8.2}");
 }

@@ -1,13 +1,34 @@
-//! The proved code as other programs see it.
+//! The proved code as other programs see it. A refusal is its number times 65536 plus its place.
 
 mod raw {
     extern "C" {
         pub fn table_check(table: *const u8, len: usize) -> u32;
+        pub fn list_fill_tags(table: *const u8, len: usize, tags: *mut u8, tags_len: usize) -> u32;
+        pub fn list_check_tags(table: *const u8, len: usize, tags: *const u8, tags_len: usize) -> u32;
+        pub fn list_total(tags: *const u8, len: usize) -> u64;
     }
 }
 
-/// 0 for an accepted table, else the refusal's number times 65536 plus its place.
+/// 0 for an accepted table, else the refusal.
 pub fn table_check(table: &[u8]) -> u32 {
     // The library only reads, and within the length it is told.
     unsafe { raw::table_check(table.as_ptr(), table.len()) }
+}
+
+/// 0 and the tags of the arbiter list, or a refusal and the tags as they were.
+pub fn list_fill_tags(table: &[u8], tags: &mut [u8]) -> u32 {
+    // The library writes to the tags alone, and within the length it is told.
+    unsafe { raw::list_fill_tags(table.as_ptr(), table.len(), tags.as_mut_ptr(), tags.len()) }
+}
+
+/// 0 if the table is accepted and the tags are in order for it, else the refusal.
+pub fn list_check_tags(table: &[u8], tags: &[u8]) -> u32 {
+    // The library only reads, and within the lengths it is told.
+    unsafe { raw::list_check_tags(table.as_ptr(), table.len(), tags.as_ptr(), tags.len()) }
+}
+
+/// Bits set.
+pub fn list_total(tags: &[u8]) -> u64 {
+    // The library only reads, and within the length it is told.
+    unsafe { raw::list_total(tags.as_ptr(), tags.len()) }
 }

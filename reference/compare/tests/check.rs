@@ -1,6 +1,4 @@
 //! The proved table check against the reference: random tables from fixed seeds, and the limits.
-//!
-//! A difference is returned and not panicked with: the linked library may bring its own way to panic.
 
 use std::collections::BTreeMap;
 
@@ -8,6 +6,7 @@ use compare::table_check;
 use design::asm::assemble;
 use design::check;
 use design::damage::damaged;
+use design::difference::{ensure, shown, told, Outcome};
 use design::random::{accepted, accepted_of, Random};
 
 /// Tables per seed and seeds: 120000 tables in all.
@@ -16,26 +15,6 @@ const SEEDS: [u64; 4] = [101, 102, 103, 104];
 
 fn wanted(bytes: &[u8]) -> u32 {
     check(bytes).map_or_else(|refusal| refusal.code(), |()| 0)
-}
-
-/// A table as one line of hex digits.
-fn shown(bytes: &[u8]) -> String {
-    bytes.iter().map(|byte| format!("{byte:02x}")).collect()
-}
-
-type Outcome = Result<(), String>;
-
-fn ensure(holds: bool, otherwise: impl Fn() -> String) -> Outcome {
-    if holds {
-        Ok(())
-    } else {
-        Err(otherwise())
-    }
-}
-
-/// A refusal as it is written in the rules.
-fn told(answer: u32) -> String {
-    format!("{} at {}", answer / 65536, answer % 65536)
 }
 
 fn agree(bytes: &[u8]) -> Result<u32, String> {

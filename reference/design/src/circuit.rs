@@ -256,18 +256,17 @@ fn checked(bytes: &[u8], tags: &[u8], state: &State) -> Result<Tree, Refusal> {
     Ok(tree)
 }
 
-/// The lowest node at which a step is possible, none once main has answered.
-fn possible(tree: &Tree, tags: &[u8], state: &State) -> Option<Node> {
-    if state.done(tree.root(tree.main())) {
-        return None;
-    }
-    tree.nodes().find(|node| decide(tree, tags, state, *node).is_ok())
+/// The nodes at which a step is possible, none once main has answered; the state is known to be in order.
+pub fn possible<'a>(tree: &'a Tree, tags: &'a [u8], state: &'a State) -> impl Iterator<Item = Node> + 'a {
+    let answered = state.done(tree.root(tree.main()));
+    tree.nodes().filter(move |node| !answered && decide(tree, tags, state, *node).is_ok())
 }
 
 /// Names a possible step, or none exactly if there is none.
 pub fn query(bytes: &[u8], tags: &[u8], state: &State) -> Result<Option<Node>, Refusal> {
     let tree = checked(bytes, tags, state)?;
-    Ok(possible(&tree, tags, state))
+    let lowest = possible(&tree, tags, state).next();
+    Ok(lowest)
 }
 
 /// Asks for the listed steps up to the first refusal; tells the steps taken and that refusal.
@@ -293,7 +292,8 @@ pub fn run_budget(bytes: &[u8], tags: &[u8], state: &mut State, budget: u32) -> 
         if state.done(main_root) {
             return Ok((taken, Ending::Answered(state.node(main_root).value)));
         }
-        let Some(node) = possible(&tree, tags, state) else {
+        let lowest = possible(&tree, tags, state).next();
+        let Some(node) = lowest else {
             return Ok((taken, Ending::AtRest));
         };
         if taken == budget {

@@ -4,7 +4,9 @@ pub mod asm;
 pub mod check;
 pub mod circuit;
 pub mod damage;
+pub mod difference;
 pub mod draft;
+pub mod features;
 pub mod lexer;
 pub mod list;
 mod maker;
@@ -12,6 +14,7 @@ pub mod random;
 pub mod reading;
 pub mod states;
 pub mod table;
+pub mod towers;
 pub mod tree;
 
 pub use check::check;

@@ -64,6 +64,15 @@ pub fn accepted_of(random: &mut Random, nodes: usize) -> Vec<u8> {
     table(random, nodes, taste)
 }
 
+/// An accepted table with many calls of few functions, so that arms mostly share some.
+pub fn accepted_sharing(random: &mut Random) -> Vec<u8> {
+    let nodes = size(random).max(random.within(12, 60));
+    let calls = random.within(6, 12);
+    let callees = random.pick(&[Callees::Lowest, Callees::Nearest, Callees::Any]);
+    let taste = Taste { calls, callees, ..taste(random) };
+    table(random, nodes, taste)
+}
+
 /// A table with one kind of rule kept loosely, for refusals 7 to 9; it may by chance be an accepted one.
 pub fn with_strays(random: &mut Random) -> Vec<u8> {
     let nodes = size(random);
@@ -111,9 +120,14 @@ fn table(random: &mut Random, nodes: usize, taste: Taste) -> Vec<u8> {
         maker.draft.functions.push(Head { parameters: *parameters, root });
     }
     let draft = maker.draft;
+    numbered(random, &draft)
+}
+
+/// The table of a draft, numbered as it was built or in any other order.
+pub(crate) fn numbered(random: &mut Random, draft: &Draft) -> Vec<u8> {
     match random.once_in(3) {
         true => draft.bytes(),
-        false => shuffled(random, &draft),
+        false => shuffled(random, draft),
     }
 }
 

@@ -2,73 +2,9 @@
 
 use std::collections::BTreeMap;
 
-use design::list::arbiter_list;
+use design::features::features;
 use design::random::{accepted, Random};
-use design::{Kind, Node, Tree};
-
-fn depth(tree: &Tree, node: Node) -> usize {
-    1 + tree.children(node).iter().map(|child| depth(tree, *child)).max().unwrap_or(0)
-}
-
-fn holds(tree: &Tree, node: Node, wanted: &dyn Fn(Node) -> bool) -> bool {
-    tree.children(node).iter().any(|child| wanted(*child) || holds(tree, *child, wanted))
-}
-
-fn in_preorder(tree: &Tree) -> bool {
-    fn walk(tree: &Tree, node: Node, order: &mut Vec<Node>) {
-        order.push(node);
-        for child in tree.children(node) {
-            walk(tree, *child, order);
-        }
-    }
-    let mut order = Vec::new();
-    for function in tree.functions() {
-        walk(tree, tree.root(function), &mut order);
-    }
-    order.iter().copied().eq(tree.nodes())
-}
-
-fn features(tree: &Tree) -> Vec<String> {
-    let mut found = Vec::new();
-    let mut note = |name: &str, there: bool| {
-        if there {
-            found.push(name.to_string());
-        }
-    };
-    let callee = |node: Node| match tree.kind(node) {
-        Kind::Call(callee) => Some(callee),
-        _ => None,
-    };
-    let self_call = |node: Node| callee(node) == Some(tree.owner(node));
-    let other_call = |node: Node| tree.other_callee(node).is_some();
-    let is_let = |node: Node| tree.kind(node) == Kind::Let;
-    let any = |wanted: &dyn Fn(Node) -> bool| tree.nodes().any(wanted);
-    for operation in 0..=10 {
-        note(&format!("operation {operation}"), any(&|node| tree.kind(node) == Kind::Primitive(operation)));
-    }
-    note("call without argument", any(&|node| other_call(node) && tree.children(node).is_empty()));
-    note("call with eight arguments", any(&|node| other_call(node) && tree.children(node).len() == 8));
-    note("self call", any(&self_call));
-    note("call in an argument of a self call", any(&|node| self_call(node) && holds(tree, node, &other_call)));
-    note("let in a let", any(&|node| is_let(node) && holds(tree, node, &is_let)));
-    note("let of nine", any(&|node| is_let(node) && tree.children(node).len() == 9));
-    note("beside of eight", any(&|node| tree.kind(node) == Kind::Primitive(10) && tree.children(node).len() == 8));
-    note("beside of one", any(&|node| tree.kind(node) == Kind::Primitive(10) && tree.children(node).len() == 1));
-    note("bound", any(&|node| matches!(tree.kind(node), Kind::Bound(_))));
-    note("if", any(&|node| tree.kind(node) == Kind::If));
-    let nobody = tree
-        .functions()
-        .any(|function| function != tree.main() && !any(&|node| tree.other_callee(node) == Some(function)));
-    note("function nobody calls", nobody);
-    note("deep chain", tree.functions().any(|function| depth(tree, tree.root(function)) > 30));
-    note("numbers out of preorder", !in_preorder(tree));
-    let list = arbiter_list(tree);
-    note("list", !list.is_empty());
-    let sites = |node: Node| tree.nodes().filter(|other| tree.other_callee(*other) == tree.other_callee(node)).count();
-    note("lone site on the list", list.iter().any(|node| sites(*node) == 1));
-    note("call off the list beside a list", !list.is_empty() && any(&|node| other_call(node) && !list.contains(&node)));
-    found
-}
+use design::Tree;
 
 #[test]
 fn all_that_the_rules_speak_of_occurs() {

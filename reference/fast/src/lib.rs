@@ -54,6 +54,10 @@ impl<'a> Parts<'a> {
         half(self.heads, 4 * (function - 1) + 2)
     }
 
+    pub fn records(&self) -> impl Iterator<Item = &'a [u8; 10]> {
+        self.records.chunks_exact(10).map(|record| record.try_into().expect("ten bytes"))
+    }
+
     pub fn record(&self, node: usize) -> &'a [u8; 10] {
         let at = 10 * (node - 1);
         self.records[at..at + 10].try_into().expect("ten bytes")

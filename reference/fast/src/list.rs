@@ -1,103 +1,92 @@
-//! The arbiter list with packed sets; each function's body is walked once.
+//! The arbiter list from sets of functions alone, which fit a word: first, from callees to callers and from the leaves
+//! up, what each part may call and what the parts held against each other share; then, the other way, which callees
+//! have to be listed in each part. A call is listed if its callee is among those of its own part.
 
-use crate::{check, first, next, refusal, word, Parts, CALL, LET, MOST_FUNCTIONS, MOST_NODES, PRIMITIVE};
+use std::hint::select_unpredictable as select;
 
-const WORDS: usize = MOST_NODES / 64;
+use crate::check::{survey, Survey};
+use crate::{first, next, refusal, Parts, CALL, LET, MOST_FUNCTIONS, MOST_NODES, PRIMITIVE};
 
-/// Calls that may happen at or below a node: the call nodes, and beside them their callees as one word.
+/// What a node and the siblings after it may call, alone and of those held against each other once and twice.
 #[derive(Clone, Copy)]
-struct Calls {
-    nodes: [u64; WORDS],
-    callees: u32,
+struct Row {
+    all: u32,
+    once: u32,
+    twice: u32,
 }
 
-impl Calls {
-    const NONE: Calls = Calls { nodes: [0; WORDS], callees: 0 };
-
-    fn join(&mut self, other: &Calls) {
-        for (own, new) in self.nodes.iter_mut().zip(&other.nodes) {
-            *own |= new;
-        }
-        self.callees |= other.callees;
-    }
-}
-
-struct Walk<'a> {
-    parts: Parts<'a>,
-    /// What may happen in the body of each function so far.
-    bodies: [Calls; MOST_FUNCTIONS],
-    /// Call nodes by callee.
-    calls_to: [[u64; WORDS]; MOST_FUNCTIONS],
-    listed: [u64; WORDS],
+/// What has to be listed at a node: for sure, and if it is held against its siblings.
+#[derive(Clone, Copy)]
+struct Want {
+    sure: u32,
+    shared: u32,
 }
 
 /// Fills the tags of the arbiter list; bits past N become 0. Returns what the check returns; a refusal keeps the tags.
 pub fn list(table: &[u8], tags: &mut [u8; 64]) -> u32 {
-    let refused = check(table);
+    let mut known = Survey::empty();
+    let refused = survey(table, &mut known);
     if refused != 0 {
         return refused;
     }
-    let mut walk = Walk {
-        parts: Parts::of(table),
-        bodies: [Calls::NONE; MOST_FUNCTIONS],
-        calls_to: [[0; WORDS]; MOST_FUNCTIONS],
-        listed: [0; WORDS],
-    };
-    for (bit, record) in walk.parts.records.chunks_exact(10).enumerate() {
-        if record[0] == CALL {
-            walk.calls_to[usize::from(record[2]) - 1][bit / 64] |= 1 << (bit % 64);
-        }
-    }
-    for function in 1..=walk.parts.functions() {
-        walk.bodies[function - 1] = walk.node(function, walk.parts.root(function));
-    }
-    for (bytes, word) in tags.chunks_exact_mut(8).zip(walk.listed) {
+    let parts = Parts::of(table);
+    let listed = listed(&parts, &known);
+    for (bytes, word) in tags.chunks_exact_mut(8).zip(listed) {
         bytes.copy_from_slice(&word.to_le_bytes());
     }
     0
 }
 
-impl Walk<'_> {
-    fn node(&mut self, function: usize, node: usize) -> Calls {
-        let record = self.parts.record(node);
-        let mut all = Calls::NONE;
-        let (mut once, mut twice) = (0, 0);
-        let mut child = first(record);
-        while child != 0 {
-            let after = next(self.parts.record(child));
-            // The body of a let comes after its definientia: what they share is settled before it is joined.
-            if record[0] == LET && after == 0 {
-                self.add(&all, twice);
-                twice = 0;
-            }
-            let below = self.node(function, child);
-            twice |= once & below.callees;
-            once |= below.callees;
-            all.join(&below);
-            child = after;
+fn listed(parts: &Parts, known: &Survey) -> [u64; MOST_NODES / 64] {
+    let mut rows = [Row { all: 0, once: 0, twice: 0 }; MOST_NODES + 1];
+    // A function and what its body may call; entry 0 stands for no call.
+    let mut bodies = [0; MOST_FUNCTIONS + 1];
+    let mut roots = [0; MOST_FUNCTIONS + 1];
+    let mut order = [0; MOST_NODES];
+    let mut count = 0;
+    for function in 1..=parts.functions() {
+        let mut node = usize::from(known.latest[function]);
+        while node != 0 {
+            order[count] = node as u16;
+            count += 1;
+            let record = parts.record(node);
+            let (below, after) = (rows[first(record)], rows[next(record)]);
+            let all = below.all | bodies[other_callee(record, function)];
+            let held = select(is_held(known, node, record), all, 0);
+            rows[node] =
+                Row { all: all | after.all, once: held | after.once, twice: after.twice | (held & after.once) };
+            node = known.earlier[node].into();
         }
-        if record[0] == PRIMITIVE || record[0] == CALL {
-            self.add(&all, twice);
-        }
-        let callee = word(record) as usize;
-        if record[0] == CALL && callee != function {
-            all.join(&self.bodies[callee - 1]);
-            all.nodes[(node - 1) / 64] |= 1 << ((node - 1) % 64);
-            all.callees |= 1 << (callee - 1);
-        }
-        all
+        roots[function] = parts.root(function);
+        bodies[function] = rows[roots[function]].all | 1 << (function - 1);
     }
+    let mut wants = [Want { sure: 0, shared: 0 }; MOST_NODES + 1];
+    let mut listed = [0; MOST_NODES / 64];
+    for node in order[..count].iter().rev() {
+        let node = usize::from(*node);
+        let record = parts.record(node);
+        let own = wants[node];
+        let sure = own.sure | select(is_held(known, node, record), own.shared, 0);
+        // Written for an absent link too: nobody reads entry 0.
+        wants[next(record)] = own;
+        wants[first(record)] = Want { sure, shared: rows[first(record)].twice };
+        let callee = other_callee(record, known.above[node].owner().into());
+        wants[roots[callee]].sure |= sure;
+        listed[(node - 1) / 64] |= (u64::from(sure) << 1 >> callee & u64::from(callee != 0)) << ((node - 1) % 64);
+    }
+    listed
+}
 
-    /// Lists those of the calls whose callee two children share.
-    fn add(&mut self, calls: &Calls, mut shared: u32) {
-        while shared != 0 {
-            let callee = shared.trailing_zeros() as usize;
-            for i in 0..WORDS {
-                self.listed[i] |= calls.nodes[i] & self.calls_to[callee][i];
-            }
-            shared &= shared - 1;
-        }
-    }
+/// The callee of a call that is no self call, else 0.
+fn other_callee(record: &[u8; 10], function: usize) -> usize {
+    let callee = usize::from(record[2]);
+    select((record[0] == CALL) & (callee != function), callee, 0)
+}
+
+/// Whether a node is held against its siblings: a child of a primitive or call, or a definiens.
+fn is_held(known: &Survey, node: usize, record: &[u8; 10]) -> bool {
+    let under = known.above[node].under();
+    (under == PRIMITIVE) | (under == CALL) | (under == LET) & (next(record) != 0)
 }
 
 /// Refusal 10 for a tag list handed in with an accepted table.

@@ -2,10 +2,12 @@
 
 use design::circuit::{self, Answer, NodeState};
 use design::damage::damaged;
+use design::difference::shown;
 use design::list::tags_of;
-use design::random::{accepted, accepted_of, Random};
+use design::random::{accepted, accepted_of, accepted_sharing, Random};
 use design::reading::read;
 use design::states::{any_state, arguments, damage_state, damaged_tags, tags};
+use design::towers::{any_comb, any_deep, any_tower};
 use design::{check, Node, Tree};
 use fast::{run_watched, Ending, State};
 
@@ -13,15 +15,10 @@ fn code(answer: Result<(), design::Refusal>) -> u32 {
     answer.map_or_else(|refusal| refusal.code(), |()| 0)
 }
 
-/// A table as one line of hex digits.
-fn shown(bytes: &[u8]) -> String {
-    bytes.iter().map(|byte| format!("{byte:02x}")).collect()
-}
-
 #[test]
 fn the_checks_agree() {
     let mut random = Random::new(11);
-    for _ in 0..20000 {
+    for _ in 0..50000 {
         let bytes = damaged(&mut random);
         assert_eq!(fast::check(&bytes), code(check(&bytes)), "{}", shown(&bytes));
     }
@@ -35,19 +32,25 @@ fn the_checks_agree() {
 fn the_lists_agree() {
     let mut random = Random::new(12);
     let mut listed = 0;
-    for _ in 0..3000 {
-        let bytes = accepted(&mut random);
+    for round in 0..6000 {
+        let bytes = match round % 100 {
+            0 => any_tower(&mut random),
+            1 => any_deep(&mut random),
+            2 => any_comb(&mut random),
+            3..=50 => accepted_sharing(&mut random),
+            _ => accepted(&mut random),
+        };
         let wanted = tags_of(&bytes).expect("an accepted table");
         let mut found = [0xff; 64];
         assert_eq!(fast::list(&bytes, &mut found), 0);
-        assert_eq!(found[..wanted.len()], wanted);
+        assert_eq!(found[..wanted.len()], wanted, "{}", shown(&bytes));
         assert!(found[wanted.len()..].iter().all(|byte| *byte == 0));
         listed += usize::from(wanted.iter().any(|byte| *byte != 0));
         let tree = Tree::read(&bytes).expect("an accepted table");
         let tags = damaged_tags(&mut random, &tree);
         assert_eq!(fast::check_tags(&bytes, &tags), code(design::list::check_tags(&tree, &tags)));
     }
-    assert!(listed > 1000, "{listed}");
+    assert!(listed > 2500, "{listed}");
     let mut kept = [7; 64];
     assert_eq!(fast::list(&[1, 0, 1], &mut kept), 1 << 16);
     assert_eq!(kept, [7; 64]);

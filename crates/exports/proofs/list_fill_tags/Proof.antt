@@ -22,7 +22,10 @@ same-length c = search needs
 
 -- src/lib.rt:30:1
 returns : tie.Need-returns
-returns c = (c .code .ensures ∙ ap codeOf (c .before .before .before .fill-tags .ensures .0), c .before .before .before .fill-tags .ensures .1)
+returns c = (
+  c .code .ensures ∙ ap codeOf (c .before .before .before .fill-tags .ensures .0),
+  c .before .before .before .fill-tags .ensures .1,
+)
 
 pub list-fill-tags-spec : {M : Type 1} → statement M
 list-fill-tags-spec = tie.close (tie.spec fill-tags-requires code-requires same-length returns)

@@ -41,11 +41,13 @@ add-n c = omega (
 
 -- src/arbiters.rt:24:12
 kind-requires : tie.Need-kind-requires Inv-loop μ-loop
-kind-requires c κs = reach-in _ (c .before .before .before .before .before .pre) (c .before .before .loop .n + 1) (omega arith, omega (arith, c .before .before .before .nodes .ensures))
+kind-requires c κs = reach-in _ (c .before .before .before .before .before .pre) (c .before .before .loop .n + 1)
+    (omega arith, omega (arith, c .before .before .before .nodes .ensures))
 
 -- src/arbiters.rt:25:17
 word-requires : tie.Need-word-requires Inv-loop μ-loop
-word-requires c κs = reach-in _ (c .before .before .before .before .before .before .before .pre) (c .before .before .before .before .loop .n + 1) (omega arith, omega (arith, c .before .before .before .before .before .nodes .ensures))
+word-requires c κs = reach-in _ (c .before .before .before .before .before .before .before .pre)
+    (c .before .before .before .before .loop .n + 1) (omega arith, omega (arith, c .before .before .before .before .before .nodes .ensures))
 
 -- src/arbiters.rt:26:45
 cast-t11 : tie.Need-cast-t11 Inv-loop μ-loop

@@ -38,7 +38,11 @@ returns : tie.Need-returns
 unfolding first nodeAt
 returns c =
     let a = c .before .before .before .before .args in
-    c .two-at .ensures ∙ ap (λ i. twoAt (a .table .now) i) (omega (arith, c .before .before .base .ensures, c .before .before .before .before .pre .node .0))
+    c .two-at .ensures ∙ ap (λ i. twoAt (a .table .now) i) (omega (
+      arith,
+      c .before .before .base .ensures,
+      c .before .before .before .before .pre .node .0,
+    ))
 
 pub first-spec : {M : Type 1} → statement M
 first-spec =

@@ -1,0 +1,3 @@
+//! What the sections share.
+
+pub mod measure;

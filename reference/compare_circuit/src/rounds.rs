@@ -1,0 +1,200 @@
+//! One design with its tags, the reference's state and the proved code's beside it. Each round asks both and compares.
+
+use design::circuit::{self, check_state, possible, step_with, Answer, Ending, State};
+use design::difference::{ensure, shown, Outcome};
+use design::random::Random;
+use design::{Node, Refusal, Tree};
+
+use crate::lent::Lent;
+
+/// Most states kept at once when looking for the steps of a run.
+const MOST_STATES: usize = 300;
+
+pub struct Round {
+    pub bytes: Vec<u8>,
+    pub tags: Vec<u8>,
+    pub tree: Tree,
+    pub own: State,
+    pub lent: Lent,
+}
+
+impl Round {
+    /// From a start with these arguments.
+    pub fn started(bytes: Vec<u8>, tags: Vec<u8>, arguments: &[u32]) -> Result<Round, String> {
+        let tree = Tree::read(&bytes).map_err(|refusal| format!("{refusal:?}: {}", shown(&bytes)))?;
+        let mut round = Round { bytes, tags, tree, own: State::zero(), lent: Lent::zero() };
+        round.own.nodes.fill(circuit::NodeState { status: 9, second: true, value: 7 });
+        round.lent = Lent::of(&round.own);
+        let wanted = circuit::start(&round.bytes, &round.tags, arguments, &mut round.own);
+        let found = crate::start(&round.bytes, &round.tags, arguments, &mut round.lent)?;
+        round.expect(found == wanted, || format!("start said {found:?}, wanted {wanted:?} with {arguments:?}"))?;
+        round.same_state("start")?;
+        Ok(round)
+    }
+
+    /// From any state.
+    pub fn standing(bytes: Vec<u8>, tags: Vec<u8>, own: State) -> Result<Round, String> {
+        let tree = Tree::read(&bytes).map_err(|refusal| format!("{refusal:?}: {}", shown(&bytes)))?;
+        let lent = Lent::of(&own);
+        Ok(Round { bytes, tags, tree, own, lent })
+    }
+
+    fn expect(&self, holds: bool, otherwise: impl FnOnce() -> String) -> Outcome {
+        ensure(holds, || self.told(otherwise()))
+    }
+
+    /// A difference with all that is needed to see it again.
+    fn told(&self, message: String) -> String {
+        let (table, tags) = (shown(&self.bytes), shown(&self.tags));
+        format!("{message}\ntable {table}\ntags {tags}\nreference's state {}", standing(&self.tree, &self.own))
+    }
+
+    fn same_state(&self, what: &str) -> Outcome {
+        self.lent.same_as(&self.own).map_err(|difference| self.told(format!("after {what}: {difference}")))
+    }
+
+    pub fn answered(&self) -> bool {
+        self.own.node(self.tree.root(self.tree.main())).status == circuit::DONE
+    }
+
+    /// A node to ask at: mostly one with a step, often another, now and then a number that is none.
+    pub fn some_node(&self, random: &mut Random) -> u16 {
+        let fine = check_state(&self.tree, &self.own).is_ok();
+        match random.below(20) {
+            0..=11 if fine => {
+                let nodes: Vec<Node> = possible(&self.tree, &self.tags, &self.own).collect();
+                if nodes.is_empty() {
+                    random.within(1, self.tree.node_count()) as u16
+                } else {
+                    random.pick(&nodes).0
+                }
+            }
+            12 => random.pick(&[0, self.tree.node_count() as u16 + 1, 512, 513, u16::MAX]),
+            13 => random.number() as u16,
+            _ => random.within(1, self.tree.node_count()) as u16,
+        }
+    }
+
+    /// Asks both for a step and compares answers and states.
+    pub fn step(&mut self, node: u16) -> Result<Answer, String> {
+        let before = self.own.clone();
+        let wanted = step_with(&self.tree, &self.tags, &mut self.own, node);
+        let found = crate::step(&self.bytes, &self.tags, &mut self.lent, node)?;
+        let fine = self.lent.same_as(&self.own);
+        if found != wanted || fine.is_err() {
+            let difference = format!("step at {node} said {found:?}, wanted {wanted:?}; {fine:?}");
+            self.own = before;
+            return Err(self.told(difference));
+        }
+        Ok(wanted)
+    }
+
+    /// The node that the proved query names has to have a step, and it has to name one if there is any.
+    pub fn query(&self) -> Result<Option<Node>, String> {
+        let before = self.lent.clone();
+        let found = crate::query(&self.bytes, &self.tags, &self.lent)?;
+        self.expect(self.lent == before, || "a query changed the state".to_string())?;
+        match check_state(&self.tree, &self.own) {
+            Err(refusal) => {
+                self.expect(found == Err(refusal), || format!("query said {found:?}, wanted {refusal:?}"))?;
+                Ok(None)
+            }
+            Ok(()) => {
+                let nodes: Vec<Node> = possible(&self.tree, &self.tags, &self.own).collect();
+                let fits = match found {
+                    Ok(None) => nodes.is_empty(),
+                    Ok(Some(node)) => nodes.contains(&node),
+                    Err(_) => false,
+                };
+                self.expect(fits, || format!("query said {found:?}, possible are {nodes:?}"))?;
+                Ok(found.unwrap_or(None))
+            }
+        }
+    }
+
+    /// The run over a list of nodes.
+    pub fn run(&mut self, nodes: &[u16]) -> Result<(usize, Option<Refusal>), String> {
+        let before = self.own.clone();
+        let wanted = circuit::run_list(&self.bytes, &self.tags, &mut self.own, nodes);
+        let found = crate::run(&self.bytes, &self.tags, &mut self.lent, nodes)?;
+        let fine = self.lent.same_as(&self.own);
+        if found != wanted || fine.is_err() {
+            let difference = format!("run over {nodes:?} said {found:?}, wanted {wanted:?}; {fine:?}");
+            self.own = before;
+            return Err(self.told(difference));
+        }
+        Ok(wanted)
+    }
+
+    /// The run on a budget. Its steps are not fixed, so it is held against what is true of any such steps;
+    /// the reference goes on from where it came to.
+    pub fn drive(&mut self, budget: u32) -> Result<Result<(u32, Ending), Refusal>, String> {
+        let told = crate::drive(&self.bytes, &self.tags, &mut self.lent, budget)?;
+        if let Err(refusal) = check_state(&self.tree, &self.own) {
+            self.expect(told == Err(refusal), || format!("drive said {told:?}, wanted {refusal:?}"))?;
+            self.same_state("a refused drive")?;
+            return Ok(told);
+        }
+        let (taken, ending) = told.map_err(|refusal| self.told(format!("drive said {refusal:?}")))?;
+        let after = self.lent.state().map_err(|difference| self.told(difference))?;
+        self.lent.same_as(&after).map_err(|difference| self.told(format!("after a drive: {difference}")))?;
+        let what = || format!("drive on {budget} took {taken} and said {ending:?}; came to");
+        let wrong = |message: &str| self.told(format!("{} {}: {message}", what(), standing(&self.tree, &after)));
+        let (nodes, functions) = (self.tree.node_count(), self.tree.function_count());
+        let past_kept = after.nodes[nodes..] == self.own.nodes[nodes..]
+            && after.functions[functions..] == self.own.functions[functions..];
+        ensure(past_kept, || wrong("entries past N or F changed"))?;
+        ensure(check_state(&self.tree, &after).is_ok(), || wrong("24 now"))?;
+        let root = after.node(self.tree.root(self.tree.main()));
+        let steps_left = possible(&self.tree, &self.tags, &after).next().is_some();
+        let fits = match ending {
+            Ending::Answered(value) => root.status == circuit::DONE && root.value == value && taken <= budget,
+            Ending::AtRest => root.status != circuit::DONE && !steps_left && taken <= budget,
+            Ending::Spent => steps_left && taken == budget,
+        };
+        ensure(fits, || wrong("that isn't so"))?;
+        match reach(&self.tree, &self.tags, &self.own, &after, taken) {
+            Some(false) => return Err(wrong("no such steps lead there")),
+            Some(true) | None => {}
+        }
+        self.own = after;
+        Ok(told)
+    }
+}
+
+/// Whether some steps, just so many, lead from one state to the other; none where there are too many ways.
+pub fn reach(tree: &Tree, tags: &[u8], from: &State, to: &State, steps: u32) -> Option<bool> {
+    let mut states = vec![from.clone()];
+    for _ in 0..steps {
+        let mut later: Vec<State> = Vec::new();
+        for state in &states {
+            for node in possible(tree, tags, state) {
+                let mut next = state.clone();
+                step_with(tree, tags, &mut next, node.0);
+                if !later.contains(&next) {
+                    later.push(next);
+                }
+            }
+            if later.len() > MOST_STATES {
+                return None;
+            }
+        }
+        states = later;
+    }
+    Some(states.contains(to))
+}
+
+/// A state's entries up to N and F, short.
+pub fn standing(tree: &Tree, state: &State) -> String {
+    let mut text = String::new();
+    for node in tree.nodes() {
+        let entry = state.node(node);
+        let flag = if entry.second { "s" } else { "" };
+        text += &format!(" {}:{}{flag}={}", node.0, entry.status, entry.value);
+    }
+    for function in tree.functions() {
+        let entry = state.function(function);
+        text += &format!(" f{}:{}{:?}", function.0, entry.occupant.0, entry.registers);
+    }
+    text
+}

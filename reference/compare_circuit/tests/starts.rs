@@ -1,0 +1,142 @@
+//! Starts of the proved circuit against the reference, and what every entry does with a bad table or bad tags.
+
+use std::collections::BTreeMap;
+
+use compare_circuit::lent::Lent;
+use compare_circuit::{drive, query, run, start, step};
+use design::circuit::{self, Answer, State};
+use design::damage::damaged;
+use design::difference::{ensure, shown, Outcome};
+use design::random::{accepted, Random};
+use design::states::{any_state, arguments, damage_state, damaged_tags, tags};
+use design::{Refusal, Tree};
+
+const STARTS: usize = 8_000;
+
+/// A state with something in every part, past N and F too.
+fn noise(random: &mut Random) -> State {
+    let mut state = State::zero();
+    for node in &mut state.nodes {
+        node.status = random.number() as u8;
+        node.second = random.once_in(2);
+        node.value = random.word();
+    }
+    for function in &mut state.functions {
+        function.registers = std::array::from_fn(|_| random.word());
+        function.occupant.0 = random.number() as u16;
+    }
+    state
+}
+
+/// Tags for this table: mostly in order, else with a fault; for a refused table any bytes.
+fn some_tags(random: &mut Random, bytes: &[u8]) -> Vec<u8> {
+    match Tree::read(bytes) {
+        Ok(tree) if random.once_in(3) => damaged_tags(random, &tree),
+        Ok(tree) => tags(random, &tree),
+        Err(_) => (0..random.below(66)).map(|_| random.number() as u8).collect(),
+    }
+}
+
+fn some_table(random: &mut Random) -> Vec<u8> {
+    match random.once_in(3) {
+        true => damaged(random),
+        false => accepted(random),
+    }
+}
+
+fn some_arguments(random: &mut Random, bytes: &[u8]) -> Vec<u32> {
+    match Tree::read(bytes) {
+        Ok(tree) if !random.once_in(4) => arguments(random, &tree),
+        _ => (0..random.below(11)).map(|_| random.word()).collect(),
+    }
+}
+
+/// What a refused start leaves: the lent state is made anew in any case.
+fn after_refused_start() -> State {
+    State::zero()
+}
+
+#[test]
+fn starts() -> Outcome {
+    let mut random = Random::new(411);
+    let mut seen: BTreeMap<u16, usize> = BTreeMap::new();
+    for _ in 0..STARTS {
+        let bytes = some_table(&mut random);
+        let tags = some_tags(&mut random, &bytes);
+        let arguments = some_arguments(&mut random, &bytes);
+        let mut own = noise(&mut random);
+        let mut lent = Lent::of(&own);
+        let wanted = circuit::start(&bytes, &tags, &arguments, &mut own);
+        let found = start(&bytes, &tags, &arguments, &mut lent)?;
+        let with = || format!("table {}, tags {}, arguments {arguments:?}", shown(&bytes), shown(&tags));
+        ensure(found == wanted, || format!("said {found:?}, wanted {wanted:?}: {}", with()))?;
+        if wanted.is_err() {
+            own = after_refused_start();
+        }
+        lent.same_as(&own).map_err(|difference| format!("after {wanted:?} {difference}: {}", with()))?;
+        *seen.entry(wanted.map_or_else(|refusal| refusal.number, |()| 0)).or_insert(0) += 1;
+    }
+    println!("{seen:?}");
+    for number in 0..=11 {
+        let count = seen.get(&number).copied().unwrap_or(0);
+        ensure(count >= 50, || format!("{number} in {count} cases: {seen:?}"))?;
+    }
+    ensure(seen[&0] >= 2000 && seen[&11] >= 500, || format!("{seen:?}"))
+}
+
+/// The refusals before any step: the table's, then the tags', then for a step 12, then 24. All keep the state.
+#[test]
+fn refused_before_any_step() -> Outcome {
+    let mut random = Random::new(412);
+    let mut seen: BTreeMap<u16, usize> = BTreeMap::new();
+    for _ in 0..STARTS {
+        let bytes = some_table(&mut random);
+        let tags = some_tags(&mut random, &bytes);
+        let mut own = match Tree::read(&bytes) {
+            Ok(tree) => any_state(&mut random, &tree),
+            Err(_) => noise(&mut random),
+        };
+        if let Ok(tree) = Tree::read(&bytes) {
+            if random.once_in(2) {
+                damage_state(&mut random, &tree, &mut own);
+            }
+        }
+        let Err(refusal) = circuit::query(&bytes, &tags, &own) else {
+            continue;
+        };
+        *seen.entry(refusal.number).or_insert(0) += 1;
+        all_refused(&mut random, &bytes, &tags, &own, refusal)?;
+    }
+    println!("{seen:?}");
+    for number in (1..=10).chain([24]) {
+        let count = seen.get(&number).copied().unwrap_or(0);
+        ensure(count >= 50, || format!("{number} in {count} cases: {seen:?}"))?;
+    }
+    Ok(())
+}
+
+fn all_refused(random: &mut Random, bytes: &[u8], tags: &[u8], own: &State, refusal: Refusal) -> Outcome {
+    let mut lent = Lent::of(own);
+    let with = |what: &str| format!("{what}, wanted {refusal:?}: table {}, tags {}", shown(bytes), shown(tags));
+    let kept = |lent: &Lent, what: &str| lent.same_as(own).map_err(|difference| with(&format!("{what}: {difference}")));
+    let found = query(bytes, tags, &lent)?;
+    ensure(found == Err(refusal), || with(&format!("query said {found:?}")))?;
+    kept(&lent, "query")?;
+    let nodes: Vec<u16> = (0..random.below(4)).map(|_| random.below(9) as u16).collect();
+    let found = run(bytes, tags, &mut lent, &nodes)?;
+    ensure(found == (0, Some(refusal)), || with(&format!("run said {found:?}")))?;
+    kept(&lent, "run")?;
+    let budget = random.pick(&[0, 1, 7, u32::MAX]);
+    let found = drive(bytes, tags, &mut lent, budget)?;
+    ensure(found == Err(refusal), || with(&format!("drive said {found:?}")))?;
+    kept(&lent, "drive")?;
+    for node in [0, 1, u16::MAX] {
+        let wanted = circuit::step(bytes, tags, &mut own.clone(), node);
+        let found = step(bytes, tags, &mut lent, node)?;
+        ensure(found == wanted && matches!(found, Answer::Refused(_)), || {
+            with(&format!("step {node} said {found:?}"))
+        })?;
+        kept(&lent, "step")?;
+    }
+    Ok(())
+}
