@@ -1,7 +1,10 @@
 -- what the walks along siblings and over children come to, from what they called
 use Prim.Native.Nat.{ℕ, _≤_, _<_}
 use mathlib.Core.Path.{_≡_, refl, subst, sym, ap, _∙_}
-use mathlib.Core.Bool.{Bool, true, false, true≢false}
+use mathlib.Core.Bool.{Bool, true, false, _&&_, _||_, true≢false}
+use lib.Dec.{eqb}
+use Rattle.table.proofs.Tests.{eqb-true}
+use Rattle.list.proofs.ParallelLaws.{parallel-is}
 use mathlib.Core.List.{List}
 use native.Mathlib.Omega.{arith}
 use lib.Bits.{bitOr, bitAnd}
@@ -15,14 +18,44 @@ use Rattle.table.specs.Expressions.{exprAt, exprsAt, finalAt}
 use Rattle.table.specs.Working.{IsNode}
 use Rattle.list.specs.declared.walk.Siblings.{Siblings}
 use Rattle.list.specs.Arbiters.{Test, joined}
-use Rattle.list.specs.Tags.{tagged}
-use Rattle.list.specs.Working.{bitAt, Callee, callsAt, callsAt*, conflictsAt, conflictsAt*, parallelAt, twiceIn, siblings, kidsAt}
-use Rattle.list.specs.Working.{meetOf, Sited, Adds, Memo, Walk, Within, Chained, Beside, Sided}
+use Rattle.list.specs.Tags.{tagged, calleeOf}
+use Rattle.list.specs.Working.{
+  bitAt,
+  Callee,
+  callsAt,
+  callsAt*,
+  conflictsAt,
+  conflictsAt*,
+  parallelAt,
+  twiceIn,
+  siblings,
+  kidsAt,
+  meetOf,
+}
+use Rattle.list.specs.Working.{Sited, Adds, Memo, Walk, Within, Chained, Beside, Sided}
 use Rattle.list.proofs.BitLaws.{zero-bit}
 use Rattle.list.proofs.WalkLaws.{walk-none, walk-same, walk-two, walk-side}
-use Rattle.list.proofs.NodeLaws.{none-calls, none-conflicts, none-twice, none-parallel, some-calls, some-conflicts, lone-calls}
-use Rattle.list.proofs.NodeLaws.{lone-conflicts, lone-twice, twice-more, ends-defs, ends-plain, goes-on, final-here, final-next}
-use Rattle.list.proofs.NodeLaws.{next-there, no-child}
+use Rattle.list.proofs.NodeLaws.{
+  none-calls,
+  none-conflicts,
+  none-twice,
+  none-parallel,
+  some-calls,
+  some-conflicts,
+  lone-calls,
+  lone-conflicts,
+}
+use Rattle.list.proofs.NodeLaws.{
+  lone-twice,
+  twice-more,
+  ends-defs,
+  ends-plain,
+  goes-on,
+  final-here,
+  final-next,
+  next-there,
+  no-child,
+}
 
 abbrev found : (once twice : ℕ) → Node → Siblings
 found o w x = record { once = o; twice = w; last = x }
@@ -112,3 +145,33 @@ module _ (t : List ℕ) (f c : ℕ) (at : Within t f c) where
     where
       u : Chained t f (first t c) defs r (replicate 64 0) own b′ q q′ g g′
       u = subst (λ k. Chained t f k defs r (replicate 64 0) own b′ q q′ g g′) y v
+
+  -- one child alone
+  pub side-one : (defs b : Bool) (d mask : ℕ) (x : Node) (set set′ b′ q q′ g g′ : List ℕ) → Beside t c defs → Within t f d → d ≡ first t c
+      → b ≡ pick defs false (eqb (next t d) 0) → b ≡ true
+      → Walk t (callsAt t (exprAt t d)) (conflictsAt t (exprAt t d)) mask set set′ b′ q q′ g g′
+      → Sided t f c defs (found mask 0 x) set set′ b′ q q′ g g′
+  side-one true b d mask x set set′ b′ q q′ g g′ bs w y e z v = absurd (true≢false (sym z ∙ e))
+  side-one false b d mask x set set′ b′ q q′ g g′ bs w y e z v = record {
+    walk = subst (λ es. Walk t (callsAt* t es) (joined (parallelAt t es) (conflictsAt* t es)) mask set set′ b′ q q′ g g′) (sym here)
+        (walk-same t (callsAt t (exprAt t d)) (callsAt* t (some (exprAt t d) none)) (conflictsAt t (exprAt t d))
+        (joined (parallelAt t (some (exprAt t d) none)) (conflictsAt* t (some (exprAt t d) none))) mask set set′ b′ q q′ g g′
+        (lone-calls t (exprAt t d)) alone v);
+    last = λ p. absurd (true≢false (sym p));
+  }
+    where
+      here : kidsAt t false c ≡ some (exprAt t d) none
+      here = ap (siblings t false) (sym y) ∙ ends-plain t f d w (eqb-true (next t d) 0 (sym e ∙ z))
+
+      none-held : (m : ℕ) → parallelAt t (some (exprAt t d) none) m ≡ false
+      none-held m =
+          parallel-is t m (some (exprAt t d) none) (λ p. bs .calls m (ap (λ es. callsAt* t es m) here ∙ p) .0)
+          ∙ ap (λ p. callsAt* t (some (exprAt t d) none) m && p) (lone-twice t (exprAt t d) (calleeOf t m))
+          ∙ and-no (callsAt* t (some (exprAt t d) none) m)
+        where
+          and-no : (p : Bool) → p && false ≡ false
+          and-no true = refl
+          and-no false = refl
+
+      alone : (m : ℕ) → joined (parallelAt t (some (exprAt t d) none)) (conflictsAt* t (some (exprAt t d) none)) m ≡ conflictsAt t (exprAt t d) m
+      alone = unfold joined in (λ m. ap (λ p. p || conflictsAt* t (some (exprAt t d) none) m) (none-held m) ∙ lone-conflicts t (exprAt t d) m)

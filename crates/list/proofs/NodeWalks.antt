@@ -21,13 +21,17 @@ use Rattle.list.proofs.WalkLaws.{walk-none, walk-same, walk-two, walk-c
 use Rattle.list.proofs.NodeLaws.{Is, leaf, operation, again, Entering, entering, Choosing, choosing, Binding, binding, body-root}
 use Rattle.list.proofs.NodeLaws.{few, owner-few}
 
+-- what is left where a kind is 3 to 6, and none of 5, 3 and 6: a call
+pub call-kind : (k : ℕ) → 3 ≤ k → k ≤ 6 → (k ≡ 5 → ⊥) → (k ≡ 3 → ⊥) → (k ≡ 6 → ⊥) → k ≡ 4
+call-kind k a b x y z = omega arith
+
 module _ (t : List ℕ) (f n : ℕ) (at : Within t f n) where
   by-is : (s x : Test) (mask : ℕ) (set set′ b′ c c′ r r′ : List ℕ) → Is t (exprAt t n) s x → Walk t s x mask set set′ b′ c c′ r r′
       → Walk t (callsAt t (exprAt t n)) (conflictsAt t (exprAt t n)) mask set set′ b′ c c′ r r′
   by-is s x mask set set′ b′ c c′ r r′ is w =
       walk-same t s (callsAt t (exprAt t n)) x (conflictsAt t (exprAt t n)) mask set set′ b′ c c′ r r′ (is .calls) (is .conflicts) w
 
-  pub at-leaf : (k : ℕ) (set b c r : List ℕ) → k ≡ kind t n → (k ≡ 3 → ⊥) → (k ≡ 4 → ⊥) → (k ≡ 5 → ⊥) → (k ≡ 6 → ⊥) → length set ≡ 64
+  at-leaf : (k : ℕ) (set b c r : List ℕ) → k ≡ kind t n → (k ≡ 3 → ⊥) → (k ≡ 4 → ⊥) → (k ≡ 5 → ⊥) → (k ≡ 6 → ⊥) → length set ≡ 64
       → Memo t b c r → Walk t (callsAt t (exprAt t n)) (conflictsAt t (exprAt t n)) 0 set set b c c r r
   at-leaf k set b c r e x y z w l memo =
       by-is nothing nothing 0 set set b c c r r (leaf t f n at (λ q. x (e ∙ q)) (λ q. y (e ∙ q)) (λ q. z (e ∙ q)) (λ q. w (e ∙ q)))
@@ -35,6 +39,17 @@ module _ (t : List ℕ) (f n : ℕ) (at : Within t f n) where
     where
       none-there : (m : ℕ) → nothing m ≡ false
       none-there = unfold nothing in (λ m. refl)
+
+  -- kinds below 3 and above 6 are leaves
+  pub at-low : (k : ℕ) (set b c r : List ℕ) → k ≡ kind t n → k < 3 → length set ≡ 64 → Memo t b c r
+      → Walk t (callsAt t (exprAt t n)) (conflictsAt t (exprAt t n)) 0 set set b c c r r
+  at-low k set b c r e h =
+      at-leaf k set b c r e (λ q. omega (arith, q, h)) (λ q. omega (arith, q, h)) (λ q. omega (arith, q, h)) (λ q. omega (arith, q, h))
+
+  pub at-high : (k : ℕ) (set b c r : List ℕ) → k ≡ kind t n → 6 < k → length set ≡ 64 → Memo t b c r
+      → Walk t (callsAt t (exprAt t n)) (conflictsAt t (exprAt t n)) 0 set set b c c r r
+  at-high k set b c r e h =
+      at-leaf k set b c r e (λ q. omega (arith, q, h)) (λ q. omega (arith, q, h)) (λ q. omega (arith, q, h)) (λ q. omega (arith, q, h))
 
   pub at-operation : (k : ℕ) (s : Siblings) (set set′ b′ c c′ r r′ : List ℕ) → k ≡ kind t n → k ≡ 3
       → Sided t f n false s set set′ b′ c c′ r r′

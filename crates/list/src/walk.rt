@@ -9,11 +9,14 @@ ghost use mathlib.Core.Path.{_≡_};
 ghost use mathlib.Core.Bool.{false};
 ghost use Prim.Native.Nat.{ℕ, _≤_};
 ghost use lib.ListN.{length};
+ghost use lib.Dec.{eqb};
+ghost use Rattle.table.specs.Pick.{pick};
+ghost use Rattle.table.specs.Bytes.{next};
 ghost use Rattle.table.specs.Expressions.{exprAt};
 ghost use Rattle.table.specs.Working.{IsFunction};
 ghost use Rattle.list.specs.Arbiters.{joined};
 ghost use Rattle.list.specs.Working.{Taken, callsAt, callsAt*, conflictsAt, conflictsAt*, parallelAt, siblings, Sited, Seen, Memo};
-ghost use Rattle.list.specs.Working.{Grown, Walk, Within, Beside, Sided, Chained};
+ghost use Rattle.list.specs.Working.{Reach, Grown, Walk, Within, Beside, Sided, Chained};
 
 // Of a chain of siblings: the functions called in one of them, and in two of them; the body of a let.
 pub struct Siblings {
@@ -42,6 +45,12 @@ fn node_walk(
         (now (bodies .exit)) (now (called .entry)) (now (called .exit)) (now (found .entry)) (now (found .exit)) ⌝ }
 {
     let kind = fields::kind(table, n);
+    if kind < 3 {
+        return 0;
+    }
+    if 6 < kind {
+        return 0;
+    }
     if kind == 5 {
         let first = fields::first(table, n);
         let r = chain_walk(table, sites, f, first, false, bodies, called, found, set);
@@ -57,21 +66,30 @@ fn node_walk(
         let mask = node_walk(table, sites, f, last, bodies, called, found, set);
         return r.once | mask;
     }
-    if kind == 4 {
-        let r = side_walk(table, sites, f, n, false, bodies, called, found, set);
-        let word = fields::word(table, n);
-        if word == (f.0 as u32) {
-            return r.once;
-        }
-        let g = Function(word as u16);
-        body_walk(table, sites, g, bodies, called, found);
-        bits::put(set, n);
-        bits::join_at(set, bodies, g);
-        let at = word as usize;
-        let below = called[at];
-        return r.once | (below | (1u32 << word));
+    let r = side_walk(table, sites, f, n, false, bodies, called, found, set);
+    let word = fields::word(table, n);
+    if word == (f.0 as u32) {
+        return r.once;
     }
-    0
+    let g = Function(word as u16);
+    body_walk(table, sites, g, bodies, called, found);
+    bits::put(set, n);
+    bits::join_at(set, bodies, g);
+    let at = word as usize;
+    let below = called[at];
+    r.once | (below | (1u32 << word))
+}
+
+// Whether node c has no sibling after it: then it is held against nothing, and needs no set of its own. Of a let the body comes after it.
+fn lone(table: &[u8], c: Node, defs: bool) -> bool
+    requires { ⌜ Reach (now table) (c .0) ⌝ }
+    ensures { λ r. ⌜ r ≡ pick defs false (eqb (next (now (table .entry)) (c .0)) 0) ⌝ }
+{
+    if defs {
+        return false;
+    }
+    let after = fields::next(table, c);
+    after.0 == 0
 }
 
 // The children of node n, side by side: their sets are held against each other. Of a let (defs) the definientia alone.
@@ -98,6 +116,14 @@ fn side_walk(
     if first.0 == 0 {
         return Siblings {
             once: 0,
+            twice: 0,
+            last: first,
+        };
+    }
+    if lone(table, first, defs) {
+        let mask = node_walk(table, sites, f, first, bodies, called, found, set);
+        return Siblings {
+            once: mask,
             twice: 0,
             last: first,
         };
