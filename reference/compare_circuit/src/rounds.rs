@@ -9,8 +9,9 @@ use design::{Node, Refusal, Tree};
 
 use crate::lent::Lent;
 
-/// Most states kept at once when looking for the steps of a run.
-const MOST_STATES: usize = 300;
+/// Most states kept at once, and most steps, when looking for the steps of a run.
+const MOST_STATES: usize = 100;
+const MOST_STEPS: u32 = 6;
 
 /// A table, mostly of a small design: it gets through its steps.
 pub fn some_table(random: &mut Random) -> Vec<u8> {
@@ -203,6 +204,9 @@ impl Round {
 
 /// Whether some steps, just so many, lead from one state to the other; none where there are too many ways.
 pub fn reach(tree: &Tree, tags: &[u8], from: &State, to: &State, steps: u32) -> Option<bool> {
+    if steps > MOST_STEPS {
+        return None;
+    }
     let mut states = vec![from.clone()];
     for _ in 0..steps {
         let mut later: Vec<State> = Vec::new();

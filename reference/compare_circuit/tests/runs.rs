@@ -9,7 +9,7 @@ use design::states::{any_state, arguments, damage_state};
 use design::towers::{any_comb, any_deep, any_tower};
 use design::Node;
 
-const RUNS: usize = 3_000;
+const RUNS: usize = 6_000;
 
 /// Steps up to which a reading is followed.
 const LIMIT: u64 = 3_000;
@@ -76,7 +76,7 @@ fn runs_over_lists() -> Outcome {
         round.run(&[])?;
     }
     println!("{whole} whole, {refused} refused, {after_answer} of them past the answer");
-    ensure(whole >= 500 && refused >= 1000 && after_answer >= 200, || "too few of a kind".to_string())
+    ensure(whole >= 1000 && refused >= 1000 && after_answer >= 200, || "too few of a kind".to_string())
 }
 
 #[test]
@@ -184,7 +184,7 @@ fn drives_step_by_step() -> Outcome {
                 Err(_) => break,
             }
         }
-        round.drive(random.below(400) as u32)?;
+        let _ = round.drive(random.below(400) as u32)?;
     }
     println!("{at_rest} at rest, {answered} answered, {spent} spent");
     ensure(at_rest >= 500 && answered >= 500 && spent >= 10_000, || "too few of a kind".to_string())
