@@ -173,5 +173,7 @@ module _ (t : List ℕ) (f c : ℕ) (at : Within t f c) where
           and-no true = refl
           and-no false = refl
 
-      alone : (m : ℕ) → joined (parallelAt t (some (exprAt t d) none)) (conflictsAt* t (some (exprAt t d) none)) m ≡ conflictsAt t (exprAt t d) m
-      alone = unfold joined in (λ m. ap (λ p. p || conflictsAt* t (some (exprAt t d) none) m) (none-held m) ∙ lone-conflicts t (exprAt t d) m)
+      alone : (m : ℕ) → joined (parallelAt t (some (exprAt t d) none)) (conflictsAt* t (some (exprAt t d) none)) m ≡ conflictsAt t
+          (exprAt t d) m
+      alone = unfold joined in (λ m. ap (λ p. p || conflictsAt* t (some (exprAt t d) none) m) (none-held m)
+          ∙ lone-conflicts t (exprAt t d) m)
