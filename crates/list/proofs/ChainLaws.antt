@@ -19,13 +19,43 @@ use Rattle.table.specs.Working.{IsNode}
 use Rattle.list.specs.declared.walk.Siblings.{Siblings}
 use Rattle.list.specs.Arbiters.{Test, joined}
 use Rattle.list.specs.Tags.{tagged, calleeOf}
-use Rattle.list.specs.Working.{bitAt, Callee, callsAt, callsAt*, conflictsAt, conflictsAt*, parallelAt, twiceIn, siblings, kidsAt}
-use Rattle.list.specs.Working.{meetOf, Sited, Adds, Memo, Walk, Within, Chained, Beside, Sided}
+use Rattle.list.specs.Working.{
+  bitAt,
+  Callee,
+  callsAt,
+  callsAt*,
+  conflictsAt,
+  conflictsAt*,
+  parallelAt,
+  twiceIn,
+  siblings,
+  kidsAt,
+  meetOf,
+}
+use Rattle.list.specs.Working.{Sited, Adds, Memo, Walk, Within, Chained, Beside, Sided}
 use Rattle.list.proofs.BitLaws.{zero-bit}
 use Rattle.list.proofs.WalkLaws.{walk-none, walk-same, walk-two, walk-side}
-use Rattle.list.proofs.NodeLaws.{none-calls, none-conflicts, none-twice, none-parallel, some-calls, some-conflicts, lone-calls}
-use Rattle.list.proofs.NodeLaws.{lone-conflicts, lone-twice, twice-more, ends-defs, ends-plain, goes-on, final-here, final-next}
-use Rattle.list.proofs.NodeLaws.{next-there, no-child}
+use Rattle.list.proofs.NodeLaws.{
+  none-calls,
+  none-conflicts,
+  none-twice,
+  none-parallel,
+  some-calls,
+  some-conflicts,
+  lone-calls,
+  lone-conflicts,
+}
+use Rattle.list.proofs.NodeLaws.{
+  lone-twice,
+  twice-more,
+  ends-defs,
+  ends-plain,
+  goes-on,
+  final-here,
+  final-next,
+  next-there,
+  no-child,
+}
 
 abbrev found : (once twice : ℕ) → Node → Siblings
 found o w x = record { once = o; twice = w; last = x }
@@ -145,5 +175,5 @@ module _ (t : List ℕ) (f c : ℕ) (at : Within t f c) where
 
       alone : (m : ℕ) → joined (parallelAt t (some (exprAt t d) none)) (conflictsAt* t (some (exprAt t d) none)) m ≡ conflictsAt t
           (exprAt t d) m
-      alone = unfold joined in (λ m. ap (λ p. p || conflictsAt* t (some (exprAt t d) none) m) (none-held m) ∙ lone-conflicts t (exprAt t
-          d) m)
+      alone = unfold joined in (λ m. ap (λ p. p || conflictsAt* t (some (exprAt t d) none) m) (none-held m)
+          ∙ lone-conflicts t (exprAt t d) m)

@@ -148,9 +148,6 @@ module _ (t : List ℕ) (f n : ℕ) (at : Within t f n) where
   abbrev v : View t n
   v = view t ok n i
 
-  differ : {A : Type 0} (a b k : ℕ) → k ≡ a → k ≡ b → (a ≡ b → ⊥) → A
-  differ a b k p q d = absurd (d (sym p ∙ q))
-
   -- a leaf
   pub leaf : (kind t n ≡ 3 → ⊥) → (kind t n ≡ 4 → ⊥) → (kind t n ≡ 5 → ⊥) → (kind t n ≡ 6 → ⊥) → Is t (exprAt t n) nothing nothing
   leaf a b c d = go v

@@ -1,9 +1,10 @@
 -- the number of bits set in the tag bytes is the number of records
-use Prim.Native.Nat.{ℕ, zero, suc, _+_, _-_, _*_, _/_, _%_, _≤_, _<_}
+use Prim.Native.Nat.{ℕ, zero, suc, _+_, _-_, _*_, _/_, _%_, _^_, _≤_, _<_}
 use mathlib.Core.Path.{_≡_, refl, sym, subst, ap, ap₂, _∙_}
 use mathlib.Core.Bool.{Bool, true, false, _&&_}
 use mathlib.Core.List.{List, [], _∷_, _++_}
 use native.Mathlib.Omega.{arith}
+use native.Mathlib.Nat.{mod-eq-of-lt}
 use native.Mathlib.Decide.{ℕ-discrete, decLe}
 use lib.Count.{ones, ones-step}
 use lib.Dec.{eqb, leb}
@@ -196,3 +197,7 @@ module _ (t : List ℕ) where
 
         plus-zero : (a : ℕ) → a + 0 ≡ a
         plus-zero a = omega arith
+
+    -- so it is what `total` answers on the tag bytes
+    pub total-whole : bitsSet (tagsOf t) % 2 ^ 64 ≡ length (recordsOf t)
+    total-whole = ap (λ k. k % 2 ^ 64) total-records ∙ mod-eq-of-lt (omega (arith, few-records, passed t (functions t) (nodes t) ok .0 .N-high))

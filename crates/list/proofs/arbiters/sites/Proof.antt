@@ -1,3 +1,4 @@
+-- `arbiters::sites` meets its contract
 use mathlib.Core.Path.{_≡_, refl, sym, subst, ap, _∙_}
 use Prim.Native.Nat.{ℕ, _+_, _-_, _≤_}
 use native.Mathlib.Omega.{arith}
@@ -8,12 +9,6 @@ use Rattle.list.proofs.NodeLaws.{few, reach-in}
 use Rattle.list.proofs.SiteLaws.{word-few, sites-none, sites-call, sites-other}
 use Rattle.list.proofs.arbiters.sites.Statement.{statement}
 use Rattle.list.proofs.arbiters.sites.Tie as tie
-use Rattle.list.proofs.arbiters.sites.Reads as reads
-use Rattle.list.proofs.arbiters.sites.Lts as lts
-use Rattle.list.proofs.bits.put_at.Reads as put-at-reads
-use Rattle.list.proofs.fields.kind.Reads as kind-reads
-use Rattle.table.proofs.read.nodes.Reads as nodes-reads
-use Rattle.list.proofs.fields.word.Reads as word-reads
 
 abbrev Inv-loop : tie.InvT-loop
 Inv-loop table row₀ last n₀ row n = (n ≤ nodes table) × SitedTo table n row
@@ -21,15 +16,12 @@ Inv-loop table row₀ last n₀ row n = (n ≤ nodes table) × SitedTo table n r
 abbrev μ-loop : tie.MeasureT-loop
 μ-loop table row₀ last n₀ row n = nodes table - n
 
--- src/arbiters.rt:19:9
 nodes-requires : tie.Need-nodes-requires Inv-loop μ-loop
 nodes-requires c κs = tt
 
--- src/arbiters.rt:21:5
 loop-holds : tie.Need-loop-holds Inv-loop μ-loop
 loop-holds c = (omega arith, sites-none _)
 
--- src/arbiters.rt:22:9
 add-n : tie.Need-add-n Inv-loop μ-loop
 add-n c = omega (
   arith,
@@ -39,17 +31,14 @@ add-n c = omega (
       (c .before .before .before .before .before .pre) .1,
 )
 
--- src/arbiters.rt:24:12
 kind-requires : tie.Need-kind-requires Inv-loop μ-loop
 kind-requires c κs = reach-in _ (c .before .before .before .before .before .pre) (c .before .before .loop .n + 1)
     (omega arith, omega (arith, c .before .before .before .nodes .ensures))
 
--- src/arbiters.rt:25:17
 word-requires : tie.Need-word-requires Inv-loop μ-loop
 word-requires c κs = reach-in _ (c .before .before .before .before .before .before .before .pre)
     (c .before .before .before .before .loop .n + 1) (omega arith, omega (arith, c .before .before .before .before .before .nodes .ensures))
 
--- src/arbiters.rt:26:45
 cast-t11 : tie.Need-cast-t11 Inv-loop μ-loop
 cast-t11 c =
     let ok = c .before .before .before .before .before .before .before .before .before .pre in
@@ -60,7 +49,6 @@ cast-t11 c =
     (c .before .before .before .kind .ensures) ∙ c .before .before .if2 .taken) in
     record { fits = omega (arith, w, c .before .word .ensures) }
 
--- src/arbiters.rt:26:13
 put-at-requires : tie.Need-put-at-requires Inv-loop μ-loop
 put-at-requires c κs =
     let ok = c .before .before .before .before .before .before .before .before .before .pre in
@@ -75,14 +63,12 @@ put-at-requires c κs =
       (omega arith, omega (arith, n, few _ ok .1)),
     )
 
--- src/arbiters.rt:21:5
 loop-less : tie.Need-loop-less Inv-loop μ-loop
 loop-less c = let n : nodes
     (c .before .before .before .before .before .before .before .before .before .before .args .table .now) ≡ c .before .before
     .before .before .before .before .before .before .nodes .result .0 = sym
     (c .before .before .before .before .before .before .before .before .nodes .ensures) in omega (arith, n)
 
--- src/arbiters.rt:21:5
 loop-again : tie.Need-loop-again Inv-loop μ-loop
 loop-again c =
     let n : nodes (c .before .before .before .before .before .before .before .before .before .before .args .table .now) ≡ c
@@ -96,13 +82,11 @@ loop-again c =
           (c .before .before .word .ensures) (c .put-at .ensures),
     )
 
--- src/arbiters.rt:21:5
 loop-less-2 : tie.Need-loop-less-2 Inv-loop μ-loop
 loop-less-2 c = let n : nodes
     (c .before .before .before .before .before .before .before .args .table .now) ≡ c .before .before .before .before
     .before .nodes .result .0 = sym (c .before .before .before .before .before .nodes .ensures) in omega (arith, n)
 
--- src/arbiters.rt:21:5
 loop-again-2 : tie.Need-loop-again-2 Inv-loop μ-loop
 loop-again-2 c =
     let n : nodes (c .before .before .before .before .before .before .before .args .table .now) ≡ c .before .before .before
@@ -113,7 +97,6 @@ loop-again-2 c =
           (c .before .kind .ensures ∙ q)),
     )
 
--- src/arbiters.rt:14:1
 returns : tie.Need-returns Inv-loop μ-loop
 returns c =
     let n : nodes (c .before .before .before .before .before .args .table .now) ≡ c .before .before .before .nodes .result .0 = sym

@@ -1,3 +1,4 @@
+-- `bits::bit` meets its contract
 use Prim.Native.Nat.{_*_, _-_, _^_, _%_}
 use mathlib.Core.Path.{_≡_}
 use native.Mathlib.Omega.{arith}
@@ -5,22 +6,16 @@ use Rattle.list.proofs.BitLaws.{bit-is}
 use borrow.Author.Needs.{needs}
 use Rattle.list.proofs.bits.bit.Statement.{statement}
 use Rattle.list.proofs.bits.bit.Tie as tie
-use Rattle.list.proofs.bits.bit.Reads as reads
-use Rattle.list.proofs.bits.bit.Lts as lts
 
--- src/bits.rt:18:14
 sub-result : tie.Need-sub-result
 sub-result c = search needs
 
--- src/bits.rt:18:13
 cast-result : tie.Need-cast-result
 cast-result c = search needs
 
--- src/bits.rt:18:5
 shl-result : tie.Need-shl-result
 shl-result c = search needs
 
--- src/bits.rt:14:1
 returns : tie.Need-returns
 returns c =
     let n = c .args .n in

@@ -1,3 +1,4 @@
+-- `bits::meet_at` meets its contract
 use mathlib.Core.Path.{_≡_, sym, ap, ap₂, _∙_}
 use Prim.Native.Nat.{ℕ, _+_, _-_, _*_, _≤_, _/_, _%_}
 use native.Mathlib.Omega.{arith}
@@ -9,8 +10,6 @@ use Rattle.list.proofs.BitLaws.{and-bit, adds-by, tagged-bit, tagged-ro
 use Rattle.list.proofs.Bytewise.{Upto, upto-none, upto-more}
 use Rattle.list.proofs.bits.meet_at.Statement.{statement}
 use Rattle.list.proofs.bits.meet_at.Tie as tie
-use Rattle.list.proofs.bits.meet_at.Reads as reads
-use Rattle.list.proofs.bits.meet_at.Lts as lts
 
 abbrev Inv-loop : tie.InvT-loop
 Inv-loop found₀ set row h base i₀ found i =
@@ -19,43 +18,33 @@ Inv-loop found₀ set row h base i₀ found i =
 abbrev μ-loop : tie.MeasureT-loop
 μ-loop found₀ set row h base i₀ found i = 64 - i
 
--- src/bits.rt:79:16
 mul-base : tie.Need-mul-base Inv-loop μ-loop
 mul-base c = omega arith
 
--- src/bits.rt:81:5
 loop-holds : tie.Need-loop-holds Inv-loop μ-loop
 loop-holds c = (omega arith, search needs, upto-none _ _)
 
--- src/bits.rt:82:17
 element-copy-out-x : tie.Need-element-copy-out-x Inv-loop μ-loop
 element-copy-out-x c = omega arith
 
--- src/bits.rt:83:17
 element-copy-out-y : tie.Need-element-copy-out-y Inv-loop μ-loop
 element-copy-out-y c = omega arith
 
--- src/bits.rt:84:21
 add-z : tie.Need-add-z Inv-loop μ-loop
 add-z c = omega arith
 
--- src/bits.rt:84:17
 element-copy-out-z : tie.Need-element-copy-out-z Inv-loop μ-loop
 element-copy-out-z c = omega arith
 
--- src/bits.rt:85:9
 element-write-found : tie.Need-element-write-found Inv-loop μ-loop
 element-write-found c = omega arith
 
--- src/bits.rt:86:9
 add-i : tie.Need-add-i Inv-loop μ-loop
 add-i c = omega arith
 
--- src/bits.rt:81:5
 loop-less : tie.Need-loop-less Inv-loop μ-loop
 loop-less c = omega arith
 
--- src/bits.rt:81:5
 loop-again : tie.Need-loop-again Inv-loop μ-loop
 loop-again c =
     let a = c .before .before .before .before .before .args in
@@ -67,7 +56,6 @@ loop-again c =
           (ap (λ x. bitOr x (bitAnd (getD (a .set .now) i 0) (getD (a .row .now) (64 * a .h + i) 0))) (inv .2 .left i (omega arith))),
     )
 
--- src/bits.rt:74:1
 returns : tie.Need-returns Inv-loop μ-loop
 returns c =
     let a = c .before .before .args in

@@ -1,3 +1,4 @@
+-- `bits::put_at` meets its contract
 use mathlib.Core.Path.{sym, subst}
 use Prim.Native.Nat.{_+_, _-_, _*_, _/_}
 use lib.Bits.{bitOr}
@@ -7,43 +8,31 @@ use Rattle.list.proofs.BitLaws.{put-row}
 use borrow.Author.Needs.{needs}
 use Rattle.list.proofs.bits.put_at.Statement.{statement}
 use Rattle.list.proofs.bits.put_at.Tie as tie
-use Rattle.list.proofs.bits.put_at.Reads as reads
-use Rattle.list.proofs.bits.put_at.Lts as lts
-use Rattle.list.proofs.bits.bit.Reads as bit-reads
 
--- src/bits.rt:37:20
 cast-at : tie.Need-cast-at
 cast-at c = search needs
 
--- src/bits.rt:37:14
 mul-at : tie.Need-mul-at
 mul-at c = search needs
 
--- src/bits.rt:37:38
 sub-at : tie.Need-sub-at
 sub-at c = search needs
 
--- src/bits.rt:37:36
 cast-at-2 : tie.Need-cast-at-2
 cast-at-2 c = search needs
 
--- src/bits.rt:37:14
 add-at : tie.Need-add-at
 add-at c = search needs
 
--- src/bits.rt:38:13
 element-copy-out-x : tie.Need-element-copy-out-x
 element-copy-out-x c = search needs
 
--- src/bits.rt:39:19
 bit-requires : tie.Need-bit-requires
 bit-requires c κs = search needs
 
--- src/bits.rt:39:5
 element-write-row : tie.Need-element-write-row
 element-write-row c = search needs
 
--- src/bits.rt:32:1
 returns : tie.Need-returns
 returns c =
     let a = c .before .before .before .args in

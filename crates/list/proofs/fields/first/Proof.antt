@@ -1,39 +1,29 @@
+-- `fields::first` meets its contract
 use mathlib.Core.Path.{ap, _∙_}
 use native.Mathlib.Omega.{arith}
 use Rattle.table.specs.Bytes.{twoAt, nodeAt, first}
 use borrow.Author.Needs.{needs}
 use Rattle.list.proofs.fields.first.Statement.{statement}
 use Rattle.list.proofs.fields.first.Tie as tie
-use Rattle.list.proofs.fields.first.Reads as reads
-use Rattle.list.proofs.fields.first.Lts as lts
-use Rattle.list.proofs.fields.base.Reads as base-reads
-use Rattle.list.proofs.fields.two_at.Reads as two-at-reads
 
--- src/fields.rt:56:9
 base-requires : tie.Need-base-requires
 base-requires c κs = search needs
 
--- src/fields.rt:57:13
 cast-k : tie.Need-cast-k
 cast-k c = search needs
 
--- src/fields.rt:58:32
 mul-two-at : tie.Need-mul-two-at
 mul-two-at c = search needs
 
--- src/fields.rt:58:24
 add-two-at : tie.Need-add-two-at
 add-two-at c = search needs
 
--- src/fields.rt:58:24
 sub-two-at : tie.Need-sub-two-at
 sub-two-at c = search needs
 
--- src/fields.rt:58:10
 two-at-requires : tie.Need-two-at-requires
 two-at-requires c κs = search needs
 
--- src/fields.rt:52:1
 returns : tie.Need-returns
 unfolding first nodeAt
 returns c =

@@ -1,39 +1,29 @@
+-- `fields::next` meets its contract
 use mathlib.Core.Path.{ap, _∙_}
 use native.Mathlib.Omega.{arith}
 use Rattle.table.specs.Bytes.{twoAt, nodeAt, next}
 use borrow.Author.Needs.{needs}
 use Rattle.list.proofs.fields.next.Statement.{statement}
 use Rattle.list.proofs.fields.next.Tie as tie
-use Rattle.list.proofs.fields.next.Reads as reads
-use Rattle.list.proofs.fields.next.Lts as lts
-use Rattle.list.proofs.fields.base.Reads as base-reads
-use Rattle.list.proofs.fields.two_at.Reads as two-at-reads
 
--- src/fields.rt:65:9
 base-requires : tie.Need-base-requires
 base-requires c κs = search needs
 
--- src/fields.rt:66:13
 cast-k : tie.Need-cast-k
 cast-k c = search needs
 
--- src/fields.rt:67:32
 mul-two-at : tie.Need-mul-two-at
 mul-two-at c = search needs
 
--- src/fields.rt:67:24
 add-two-at : tie.Need-add-two-at
 add-two-at c = search needs
 
--- src/fields.rt:67:24
 sub-two-at : tie.Need-sub-two-at
 sub-two-at c = search needs
 
--- src/fields.rt:67:10
 two-at-requires : tie.Need-two-at-requires
 two-at-requires c κs = search needs
 
--- src/fields.rt:61:1
 returns : tie.Need-returns
 unfolding next nodeAt
 returns c =

@@ -1,3 +1,4 @@
+-- `tags::held` meets its contract
 use mathlib.Core.Path.{_≡_, sym, ap₂, _∙_}
 use native.Mathlib.Omega.{arith}
 use Rattle.table.specs.Check.{accepted}
@@ -6,42 +7,31 @@ use Rattle.list.proofs.TagVerdicts.{not-yes, not-no, wrong-length, past
 use borrow.Author.Needs.{needs}
 use Rattle.list.proofs.tags.held.Statement.{statement}
 use Rattle.list.proofs.tags.held.Tie as tie
-use Rattle.list.proofs.tags.held.Reads as reads
-use Rattle.list.proofs.tags.held.Lts as lts
-use Rattle.list.proofs.tags.lowest_unfit.Reads as lowest-unfit-reads
-use Rattle.list.proofs.tags.none_past.Reads as none-past-reads
 
--- src/tags.rt:76:17
 cast-count : tie.Need-cast-count
 cast-count c = search needs
 
--- src/tags.rt:77:23
 add-if1 : tie.Need-add-if1
 add-if1 c = search needs
 
--- src/tags.rt:78:9
 returns : tie.Need-returns
 returns c = wrong-length _ _ _ (c .before .before .before .before .pre .3) (c .if1 .taken)
 
--- src/tags.rt:80:9
 none-past-requires : tie.Need-none-past-requires
 none-past-requires c κs =
     let p = c .before .before .before .before .pre in
     let n = few _ (p .0) .1 in
     (omega (arith, n, p .3), omega (arith, n, p .3, c .if1 .left))
 
--- src/tags.rt:81:9
 returns-2 : tie.Need-returns-2
 returns-2 c =
     let e = c .before .before .before .before .before .before .pre .3 in
     past-last _ _ _ e (c .before .before .if1 .left) (sym (past-is _ _ _ e) ∙ sym (c .before .none-past .ensures)
     ∙ not-yes _ (c .if2 .taken))
 
--- src/tags.rt:83:9
 lowest-unfit-requires : tie.Need-lowest-unfit-requires
 lowest-unfit-requires c κs = let p = c .before .before .before .before .before .before .pre in (p .0, p .1, p .3)
 
--- src/tags.rt:85:9
 returns-3 : tie.Need-returns-3
 returns-3 c =
     let e = c .before .before .before .before .before .before .before .before .pre .3 in
@@ -50,7 +40,6 @@ returns-3 c =
     ∙ not-no _ (c .before .before .if2 .left)) (c .before .lowest-unfit .ensures)
     (c .if3 .taken)
 
--- src/tags.rt:72:1
 returns-4 : tie.Need-returns-4
 returns-4 c =
     let p = c .before .before .before .before .before .before .before .before .pre in

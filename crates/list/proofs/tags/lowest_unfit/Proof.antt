@@ -1,3 +1,4 @@
+-- `tags::lowest_unfit` meets its contract
 use mathlib.Core.Path.{_≡_, refl, sym, ap, _∙_}
 use Prim.Native.Nat.{ℕ, _+_, _-_, _≤_}
 use native.Mathlib.Omega.{arith}
@@ -10,11 +11,6 @@ use Rattle.list.proofs.TagLoops.{lowest-none, lowest-next, lowest-found
 use Rattle.list.proofs.Owners.{owner-of, untagged, tag-other, tag-again, tag-call}
 use Rattle.list.proofs.tags.lowest_unfit.Statement.{statement}
 use Rattle.list.proofs.tags.lowest_unfit.Tie as tie
-use Rattle.list.proofs.tags.lowest_unfit.Reads as reads
-use Rattle.list.proofs.tags.lowest_unfit.Lts as lts
-use Rattle.list.proofs.tags.marks.Reads as marks-reads
-use Rattle.table.proofs.read.kind.Reads as kind-reads
-use Rattle.table.proofs.read.word.Reads as word-reads
 
 abbrev Inv-loop : tie.InvT-loop
 Inv-loop table tags last owner n₀ n = (n ≤ nodes table) × (lowest (tagFits table tags) n ≡ 0)
@@ -22,11 +18,9 @@ Inv-loop table tags last owner n₀ n = (n ≤ nodes table) × (lowest (tagFits 
 abbrev μ-loop : tie.MeasureT-loop
 μ-loop table tags last owner n₀ n = nodes table - n
 
--- src/tags.rt:54:5
 loop-holds : tie.Need-loop-holds Inv-loop μ-loop
 loop-holds c = (omega arith, lowest-none _)
 
--- src/tags.rt:55:9
 add-n : tie.Need-add-n Inv-loop μ-loop
 add-n c = omega (
   arith,
@@ -36,19 +30,15 @@ add-n c = omega (
       (c .before .before .before .before .before .pre .0) .1,
 )
 
--- src/tags.rt:56:24
 cast-marks : tie.Need-cast-marks Inv-loop μ-loop
 cast-marks c = search needs
 
--- src/tags.rt:56:12
 marks-requires : tie.Need-marks-requires Inv-loop μ-loop
 marks-requires c κs = omega arith
 
--- src/tags.rt:57:17
 kind-requires : tie.Need-kind-requires Inv-loop μ-loop
 kind-requires c κs = tt
 
--- src/tags.rt:59:17
 returns : tie.Need-returns Inv-loop μ-loop
 returns c =
     let a = c .before .before .before .before .before .before .before .before .before .args in
@@ -59,15 +49,12 @@ returns c =
     (tag-other (a .table .now) (a .tags .now) (n + 1) (sym (c .before .before .before .marks .ensures) ∙ c .before .before .if2 .taken)
     (λ q. c .if3 .taken (c .before .kind .ensures ∙ q))) (omega (arith, p .2)))
 
--- src/tags.rt:61:17
 word-requires : tie.Need-word-requires Inv-loop μ-loop
 word-requires c κs = tt
 
--- src/tags.rt:62:29
 cast-own : tie.Need-cast-own Inv-loop μ-loop
 cast-own c = search needs
 
--- src/tags.rt:62:23
 mul-own : tie.Need-mul-own Inv-loop μ-loop
 mul-own c = record {
   fits = omega (
@@ -80,7 +67,6 @@ mul-own c = record {
   );
 }
 
--- src/tags.rt:62:23
 array-copy-out-own : tie.Need-array-copy-out-own Inv-loop μ-loop
 array-copy-out-own c = omega (
   arith,
@@ -91,11 +77,9 @@ array-copy-out-own c = omega (
       (c .before .before .before .before .before .before .before .before .before .before .pre .0) .1,
 )
 
--- src/tags.rt:63:25
 cast-if4 : tie.Need-cast-if4 Inv-loop μ-loop
 cast-if4 c = search needs
 
--- src/tags.rt:64:17
 returns-2 : tie.Need-returns-2 Inv-loop μ-loop
 returns-2 c =
     let a = c .before .before .before .before .before .before .before .before .before .before .before .before .before .args in
@@ -109,12 +93,10 @@ returns-2 c =
     (sym (c .before .before .before .word .ensures) ∙ c .if4 .taken
     ∙ owner-of t (p .0) _ (p .1) (n + 1) _ (omega (arith, p .2)) (omega (arith, p .2, few t (p .0) .1)))) (omega (arith, p .2)))
 
--- src/tags.rt:54:5
 loop-less : tie.Need-loop-less Inv-loop μ-loop
 loop-less c = let p = c .before .before .before .before .before .before .before .before .before .before .before .before
     .before .pre in omega (arith, p .2)
 
--- src/tags.rt:54:5
 loop-again : tie.Need-loop-again Inv-loop μ-loop
 loop-again c =
     let a = c .before .before .before .before .before .before .before .before .before .before .before .before .before .args in
@@ -130,11 +112,9 @@ loop-again c =
           ∙ sym (owner-of t (p .0) _ (p .1) (n + 1) _ (omega (arith, p .2)) (omega (arith, p .2, few t (p .0) .1)))))),
     )
 
--- src/tags.rt:54:5
 loop-less-2 : tie.Need-loop-less-2 Inv-loop μ-loop
 loop-less-2 c = let p = c .before .before .before .before .before .before .before .pre in omega (arith, p .2)
 
--- src/tags.rt:54:5
 loop-again-2 : tie.Need-loop-again-2 Inv-loop μ-loop
 loop-again-2 c =
     let a = c .before .before .before .before .before .before .before .args in
@@ -145,7 +125,6 @@ loop-again-2 c =
           (untagged (a .table .now) (a .tags .now) (n + 1) (sym (c .before .marks .ensures) ∙ c .if2 .left)),
     )
 
--- src/tags.rt:49:1
 returns-3 : tie.Need-returns-3 Inv-loop μ-loop
 returns-3 c =
     let a = c .before .before .before .before .before .args in

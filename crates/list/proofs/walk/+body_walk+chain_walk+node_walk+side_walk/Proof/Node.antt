@@ -17,9 +17,13 @@ use Rattle.list.proofs.walk.body_walk.Reads as body-walk
 use Rattle.list.proofs.bits.put.Reads as put-reads
 use Rattle.list.proofs.bits.join_at.Reads as join-at-reads
 use Rattle.list.proofs.walk.+body_walk+chain_walk+node_walk+side_walk.Lts-node_walk as lts
-use Rattle.list.proofs.walk.+body_walk+chain_walk+node_walk+side_walk.Proof.Measures.{node-walk-at, body-walk-below}
-use Rattle.list.proofs.walk.+body_walk+chain_walk+node_walk+side_walk.Proof.Measures.{chain-walk-below, node-walk-below}
-use Rattle.list.proofs.walk.+body_walk+chain_walk+node_walk+side_walk.Proof.Measures.{side-walk-below}
+use Rattle.list.proofs.walk.+body_walk+chain_walk+node_walk+side_walk.Proof.Measures.{
+  node-walk-at,
+  body-walk-below,
+  chain-walk-below,
+  node-walk-below,
+  side-walk-below,
+}
 
 module _ (t : ℕ) where
   abbrev pub given : lts.Claims
@@ -65,9 +69,9 @@ module _ (t : ℕ) where
       let p = c .before .before .before .before .before .before .before .before .before .before .pre in
       let a = c .before .before .before .before .before .before .before .before .before .before .args in
       let e = c .before .before .before .before .first .ensures in
-      let u = choosing (a .table .now) (a .f .0) (a .n .0) (p .1 .1 .0)
-      (sym (c .before .before .before .before .before .before .before .before .kind .ensures) ∙
-      c .before .before .before .before .before .if3 .taken) in
+      let u = choosing (a .table .now) (a .f .0) (a .n .0) (p .1 .1 .0) (sym
+      (c .before .before .before .before .before .before .before .before .kind .ensures)
+      ∙ c .before .before .before .before .before .if3 .taken) in
       (omega (arith, p .0, e, u .past, u .there .node .1), (p .1 .0, (subst (Within _ _) (sym e) (u .there), p .1 .1 .1)))
 
   pub returns-3 : lts.Need-returns-3 given (node-walk-at t) node-walk.Post
@@ -88,8 +92,8 @@ module _ (t : ℕ) where
             p .1 .1 .0,
             (
               beside-operation _ _ _ (p .1 .1 .0) (sym
-                  (c .before .before .before .before .before .before .before .before .kind .ensures) ∙
-                  c .before .before .before .before .if4 .taken),
+                  (c .before .before .before .before .before .before .before .before .kind .ensures)
+                  ∙ c .before .before .before .before .if4 .taken),
               p .1 .1 .1,
             ),
           ),
@@ -113,8 +117,8 @@ module _ (t : ℕ) where
             p .1 .1 .0,
             (
               beside-binding _ _ _ (p .1 .1 .0) (sym
-                  (c .before .before .before .before .before .before .before .before .before .kind .ensures) ∙
-                  c .before .before .before .before .if5 .taken),
+                  (c .before .before .before .before .before .before .before .before .before .kind .ensures)
+                  ∙ c .before .before .before .before .if5 .taken),
               p .1 .1 .1,
             ),
           ),
@@ -123,27 +127,28 @@ module _ (t : ℕ) where
 
   pub node-walk-requires : lts.Need-node-walk-requires given (node-walk-at t) node-walk.Post
   node-walk-requires c κs =
-      let p = c .before .before .before .before .before .before .before .before .before .before .before .before .before .before .before
-      .before .before .pre in
-      let a = c .before .before .before .before .before .before .before .before .before .before .before .before .before .before .before
-      .before .before .args in
+      let p = c .before .before .before .before .before .before .before .before .before .before .before .before .before .before
+      .before .before .before .pre in
+      let a = c .before .before .before .before .before .before .before .before .before .before .before .before .before .before
+      .before .before .before .args in
       let w = p .1 .1 .0 in
       let s = c .before .before .before .before .before .side-walk2 .ensures in
       let l = s .last refl in
       let q = binding (a .table .now) (a .f .0) (a .n .0) w (sym
-      (c .before .before .before .before .before .before .before .before .before .before .before .before .before .before .before
-      .kind .ensures) ∙ c .before .before .before .before .before .before .before .before .before .before .if5 .taken) .past in (
+      (c .before .before .before .before .before .before .before .before .before .before .before .before .before .before
+      .before .kind .ensures) ∙ c .before .before .before .before .before .before .before .before .before
+      .before .if5 .taken) .past in (
         omega (arith, p .0, q, l .2, l .0 .1),
         (s .walk .added .size, (record { taken = w .taken; node = l .0; own = l .1 }, (p .1 .1 .1 .0, s .walk .memo))),
       )
 
   pub returns-5 : lts.Need-returns-5 given (node-walk-at t) node-walk.Post
   returns-5 c =
-      let p = c .before .before .before .before .before .before .before .before .before .before .before .before .before .before .before
-      .before .before .before .before .pre .1 in
+      let p = c .before .before .before .before .before .before .before .before .before .before .before .before .before .before
+      .before .before .before .before .before .pre .1 in
       at-let _ _ _ (p .1 .0) _ (c .before .before .before .before .before .before .before .side-walk2 .result) _ _ _ _ _ _ _ _ _ _ _ _
-      (c .before .before .before .before .before .before .before .before .before .before .before .before .before .before .before
-      .before .before .kind .ensures)
+      (c .before .before .before .before .before .before .before .before .before .before .before .before .before .before
+      .before .before .before .kind .ensures)
       (c .before .before .before .before .before .before .before .before .before .before .before .before .if5 .taken)
       (c .before .before .before .before .before .before .before .side-walk2 .ensures)
       (c .before .node-walk .ensures)
@@ -158,8 +163,8 @@ module _ (t : ℕ) where
             p .1 .1 .0,
             (
               beside-call _ _ _ (p .1 .1 .0) (sym
-                  (c .before .before .before .before .before .before .before .before .before .kind .ensures) ∙
-                  (call-kind _ (c .before .before .before .before .before .before .before .before .if1 .left)
+                  (c .before .before .before .before .before .before .before .before .before .kind .ensures)
+                  ∙ (call-kind _ (c .before .before .before .before .before .before .before .before .if1 .left)
                   (c .before .before .before .before .before .before .before .if2 .left)
                   (c .before .before .before .before .before .before .if3 .left) (c .before .before .before .before .before .if4 .left)
                   (c .before .before .before .before .if5 .left))),
@@ -178,23 +183,24 @@ module _ (t : ℕ) where
 
   pub returns-6 : lts.Need-returns-6 given (node-walk-at t) node-walk.Post
   returns-6 c =
-      let p = c .before .before .before .before .before .before .before .before .before .before .before .before .before .before .before
-      .pre .1 in
+      let p = c .before .before .before .before .before .before .before .before .before .before .before .before .before .before
+      .before .pre .1 in
       at-again _ _ _ (p .1 .0) _ _ (c .before .before .before .side-walk3 .result) _ _ _ _ _ _ _
       (c .before .before .before .before .before .before .before .before .before .before .before .before .before .kind .ensures)
       (call-kind _ (c .before .before .before .before .before .before .before .before .before .before .before .before .if1 .left)
       (c .before .before .before .before .before .before .before .before .before .before .before .if2 .left)
       (c .before .before .before .before .before .before .before .before .before .before .if3 .left)
       (c .before .before .before .before .before .before .before .before .before .if4 .left)
-      (c .before .before .before .before .before .before .before .before .if5 .left)) (c .before .before .word .ensures) (c .if6 .taken)
+      (c .before .before .before .before .before .before .before .before .if5 .left)) (c .before .before .word .ensures)
+      (c .if6 .taken)
       (c .before .before .before .side-walk3 .ensures)
 
   pub cast-t43 : lts.Need-cast-t43 given (node-walk-at t) node-walk.Post
   cast-t43 c =
       let u = callee-there _ _ _
-      (c .before .before .before .before .before .before .before .before .before .before .before .before .before .before .before
-      .pre .1 .1 .0) _ _ (c .before .before .before .before .before .before .before .before .before .before .before .before .before
-      .kind .ensures) (call-kind _
+      (c .before .before .before .before .before .before .before .before .before .before .before .before .before .before
+      .before .pre .1 .1 .0) _ _ (c .before .before .before .before .before .before .before .before .before .before .before
+      .before .before .kind .ensures) (call-kind _
       (c .before .before .before .before .before .before .before .before .before .before .before .before .if1 .left)
       (c .before .before .before .before .before .before .before .before .before .before .before .if2 .left)
       (c .before .before .before .before .before .before .before .before .before .before .if3 .left)
@@ -205,49 +211,52 @@ module _ (t : ℕ) where
 
   pub body-walk-requires : lts.Need-body-walk-requires given (node-walk-at t) node-walk.Post
   body-walk-requires c κs =
-      let p = c .before .before .before .before .before .before .before .before .before .before .before .before .before .before .before
-      .before .before .before .pre in
+      let p = c .before .before .before .before .before .before .before .before .before .before .before .before .before .before
+      .before .before .before .before .pre in
       let u = callee-there _ _ _
-      (c .before .before .before .before .before .before .before .before .before .before .before .before .before .before .before
-      .before .before .before .pre .1 .1 .0) _ _
-      (c .before .before .before .before .before .before .before .before .before .before .before .before .before .before .before
-      .before .kind .ensures)
-      (call-kind _ (c .before .before .before .before .before .before .before .before .before .before .before .before .before
-      .before .before .if1 .left)
-      (c .before .before .before .before .before .before .before .before .before .before .before .before .before .before .if2 .left)
-      (c .before .before .before .before .before .before .before .before .before .before .before .before .before .if3 .left)
-      (c .before .before .before .before .before .before .before .before .before .before .before .before .if4 .left)
-      (c .before .before .before .before .before .before .before .before .before .before .before .if5 .left))
+      (c .before .before .before .before .before .before .before .before .before .before .before .before .before .before
+      .before .before .before .before .pre .1 .1 .0) _ _
+      (c .before .before .before .before .before .before .before .before .before .before .before .before .before .before
+      .before .before .kind .ensures) (call-kind _
+      (c .before .before .before .before .before .before .before .before .before .before .before .before .before .before
+      .before .if1 .left) (c .before .before .before .before .before .before .before .before .before .before .before .before
+      .before .before .if2 .left) (c .before .before .before .before .before .before .before .before .before .before .before
+      .before .before .if3 .left) (c .before .before .before .before .before .before .before .before .before .before .before
+      .before .if4 .left) (c .before .before .before .before .before .before .before .before .before .before .before .if5 .left))
       (c .before .before .before .before .before .word .ensures) (c .before .before .before .if6 .left) in
       let s = c .before .before .before .before .before .before .side-walk3 .ensures in
       (omega (arith, p .0, u .1), ((p .1 .1 .0 .taken, u .0), (p .1 .1 .1 .0, s .walk .memo)))
 
   pub put-requires : lts.Need-put-requires given (node-walk-at t) node-walk.Post
   put-requires c κs =
-      let w = c .before .before .before .before .before .before .before .before .before .before .before .before .before .before .before
-      .before .before .before .before .before .pre .1 .1 .0 in (
+      let w = c .before .before .before .before .before .before .before .before .before .before .before .before .before .before
+      .before .before .before .before .before .before .pre .1 .1 .0 in (
         c .before .before .before .before .before .before .before .before .side-walk3 .ensures .walk .added .size,
-        (w .node .0, omega (arith, w .node .1, few _ (w .taken) .1)),
+        (
+          w .node .0,
+          omega
+              (arith, w .node .1, few _ (w .taken) .1),
+        ),
       )
 
   pub join-at-requires : lts.Need-join-at-requires given (node-walk-at t) node-walk.Post
   join-at-requires c κs =
       let u = callee-there _ _ _
-      (c .before .before .before .before .before .before .before .before .before .before .before .before .before .before .before
-      .before .before .before .before .before .before .before .before .pre .1 .1 .0) _ _
-      (c .before .before .before .before .before .before .before .before .before .before .before .before .before .before .before
-      .before .before .before .before .before .before .kind .ensures)
-      (call-kind _ (c .before .before .before .before .before .before .before .before .before .before .before .before .before
-      .before .before .before .before .before .before .before .if1 .left)
-      (c .before .before .before .before .before .before .before .before .before .before .before .before .before .before .before
-      .before .before .before .before .if2 .left)
-      (c .before .before .before .before .before .before .before .before .before .before .before .before .before .before .before
-      .before .before .before .if3 .left)
-      (c .before .before .before .before .before .before .before .before .before .before .before .before .before .before .before
-      .before .before .if4 .left)
-      (c .before .before .before .before .before .before .before .before .before .before .before .before .before .before .before
-      .before .if5 .left)) (c .before .before .before .before .before .before .before .before .before .before .word .ensures)
-      (c .before .before .before .before .before .before .before .before .if6 .left) in
+      (c .before .before .before .before .before .before .before .before .before .before .before .before .before .before
+      .before .before .before .before .before .before .before .before .before .pre .1 .1 .0) _ _
+      (c .before .before .before .before .before .before .before .before .before .before .before .before .before .before
+      .before .before .before .before .before .before .before .kind .ensures) (call-kind _
+      (c .before .before .before .before .before .before .before .before .before .before .before .before .before .before
+      .before .before .before .before .before .before .if1 .left)
+      (c .before .before .before .before .before .before .before .before .before .before .before .before .before .before
+      .before .before .before .before .before .if2 .left)
+      (c .before .before .before .before .before .before .before .before .before .before .before .before .before .before
+      .before .before .before .before .if3 .left)
+      (c .before .before .before .before .before .before .before .before .before .before .before .before .before .before
+      .before .before .before .if4 .left)
+      (c .before .before .before .before .before .before .before .before .before .before .before .before .before .before
+      .before .before .if5 .left)) (c .before .before .before .before .before .before .before .before .before
+      .before .word .ensures) (c .before .before .before .before .before .before .before .before .if6 .left) in
       (c .before .before .put .ensures .size, omega (arith, u .2))
 
   pub cast-at : lts.Need-cast-at given (node-walk-at t) node-walk.Post
@@ -256,20 +265,20 @@ module _ (t : ℕ) where
   pub mul-below : lts.Need-mul-below given (node-walk-at t) node-walk.Post
   mul-below c =
       let u = callee-there _ _ _
-      (c .before .before .before .before .before .before .before .before .before .before .before .before .before .before .before
-      .before .before .before .before .before .before .before .before .before .pre .1 .1 .0) _ _
-      (c .before .before .before .before .before .before .before .before .before .before .before .before .before .before .before
-      .before .before .before .before .before .before .before .kind .ensures)
-      (call-kind _ (c .before .before .before .before .before .before .before .before .before .before .before .before .before
-      .before .before .before .before .before .before .before .before .if1 .left)
-      (c .before .before .before .before .before .before .before .before .before .before .before .before .before .before .before
-      .before .before .before .before .before .if2 .left)
-      (c .before .before .before .before .before .before .before .before .before .before .before .before .before .before .before
-      .before .before .before .before .if3 .left)
-      (c .before .before .before .before .before .before .before .before .before .before .before .before .before .before .before
-      .before .before .before .if4 .left)
-      (c .before .before .before .before .before .before .before .before .before .before .before .before .before .before .before
-      .before .before .if5 .left))
+      (c .before .before .before .before .before .before .before .before .before .before .before .before .before .before
+      .before .before .before .before .before .before .before .before .before .before .pre .1 .1 .0) _ _
+      (c .before .before .before .before .before .before .before .before .before .before .before .before .before .before
+      .before .before .before .before .before .before .before .before .kind .ensures) (call-kind _
+      (c .before .before .before .before .before .before .before .before .before .before .before .before .before .before
+      .before .before .before .before .before .before .before .if1 .left)
+      (c .before .before .before .before .before .before .before .before .before .before .before .before .before .before
+      .before .before .before .before .before .before .if2 .left)
+      (c .before .before .before .before .before .before .before .before .before .before .before .before .before .before
+      .before .before .before .before .before .if3 .left)
+      (c .before .before .before .before .before .before .before .before .before .before .before .before .before .before
+      .before .before .before .before .if4 .left)
+      (c .before .before .before .before .before .before .before .before .before .before .before .before .before .before
+      .before .before .before .if5 .left))
       (c .before .before .before .before .before .before .before .before .before .before .before .word .ensures)
       (c .before .before .before .before .before .before .before .before .before .if6 .left) in
       record { fits = omega (arith, u .2) }
@@ -277,20 +286,20 @@ module _ (t : ℕ) where
   pub element-copy-out-below : lts.Need-element-copy-out-below given (node-walk-at t) node-walk.Post
   element-copy-out-below c =
       let u = callee-there _ _ _
-      (c .before .before .before .before .before .before .before .before .before .before .before .before .before .before .before
-      .before .before .before .before .before .before .before .before .before .pre .1 .1 .0) _ _
-      (c .before .before .before .before .before .before .before .before .before .before .before .before .before .before .before
-      .before .before .before .before .before .before .before .kind .ensures)
-      (call-kind _ (c .before .before .before .before .before .before .before .before .before .before .before .before .before
-      .before .before .before .before .before .before .before .before .if1 .left)
-      (c .before .before .before .before .before .before .before .before .before .before .before .before .before .before .before
-      .before .before .before .before .before .if2 .left)
-      (c .before .before .before .before .before .before .before .before .before .before .before .before .before .before .before
-      .before .before .before .before .if3 .left)
-      (c .before .before .before .before .before .before .before .before .before .before .before .before .before .before .before
-      .before .before .before .if4 .left)
-      (c .before .before .before .before .before .before .before .before .before .before .before .before .before .before .before
-      .before .before .if5 .left))
+      (c .before .before .before .before .before .before .before .before .before .before .before .before .before .before
+      .before .before .before .before .before .before .before .before .before .before .pre .1 .1 .0) _ _
+      (c .before .before .before .before .before .before .before .before .before .before .before .before .before .before
+      .before .before .before .before .before .before .before .before .kind .ensures) (call-kind _
+      (c .before .before .before .before .before .before .before .before .before .before .before .before .before .before
+      .before .before .before .before .before .before .before .if1 .left)
+      (c .before .before .before .before .before .before .before .before .before .before .before .before .before .before
+      .before .before .before .before .before .before .if2 .left)
+      (c .before .before .before .before .before .before .before .before .before .before .before .before .before .before
+      .before .before .before .before .before .if3 .left)
+      (c .before .before .before .before .before .before .before .before .before .before .before .before .before .before
+      .before .before .before .before .if4 .left)
+      (c .before .before .before .before .before .before .before .before .before .before .before .before .before .before
+      .before .before .before .if5 .left))
       (c .before .before .before .before .before .before .before .before .before .before .before .word .ensures)
       (c .before .before .before .before .before .before .before .before .before .if6 .left) in
       omega (arith, u .2)
@@ -298,63 +307,62 @@ module _ (t : ℕ) where
   pub shl-result : lts.Need-shl-result given (node-walk-at t) node-walk.Post
   shl-result c =
       let u = callee-there _ _ _
-      (c .before .before .before .before .before .before .before .before .before .before .before .before .before .before .before
-      .before .before .before .before .before .before .before .before .before .before .pre .1 .1 .0) _ _
-      (c .before .before .before .before .before .before .before .before .before .before .before .before .before .before .before
-      .before .before .before .before .before .before .before .before .kind .ensures)
-      (call-kind _ (c .before .before .before .before .before .before .before .before .before .before .before .before .before
-      .before .before .before .before .before .before .before .before .before .if1 .left)
-      (c .before .before .before .before .before .before .before .before .before .before .before .before .before .before .before
-      .before .before .before .before .before .before .if2 .left)
-      (c .before .before .before .before .before .before .before .before .before .before .before .before .before .before .before
-      .before .before .before .before .before .if3 .left)
-      (c .before .before .before .before .before .before .before .before .before .before .before .before .before .before .before
-      .before .before .before .before .if4 .left)
-      (c .before .before .before .before .before .before .before .before .before .before .before .before .before .before .before
-      .before .before .before .if5 .left))
+      (c .before .before .before .before .before .before .before .before .before .before .before .before .before .before
+      .before .before .before .before .before .before .before .before .before .before .before .pre .1 .1 .0) _ _
+      (c .before .before .before .before .before .before .before .before .before .before .before .before .before .before
+      .before .before .before .before .before .before .before .before .before .kind .ensures) (call-kind _
+      (c .before .before .before .before .before .before .before .before .before .before .before .before .before .before
+      .before .before .before .before .before .before .before .before .if1 .left)
+      (c .before .before .before .before .before .before .before .before .before .before .before .before .before .before
+      .before .before .before .before .before .before .before .if2 .left)
+      (c .before .before .before .before .before .before .before .before .before .before .before .before .before .before
+      .before .before .before .before .before .before .if3 .left)
+      (c .before .before .before .before .before .before .before .before .before .before .before .before .before .before
+      .before .before .before .before .before .if4 .left)
+      (c .before .before .before .before .before .before .before .before .before .before .before .before .before .before
+      .before .before .before .before .if5 .left))
       (c .before .before .before .before .before .before .before .before .before .before .before .before .word .ensures)
       (c .before .before .before .before .before .before .before .before .before .before .if6 .left) in
       omega (arith, u .2)
 
   pub returns-7 : lts.Need-returns-7 given (node-walk-at t) node-walk.Post
   returns-7 c =
-      let p = c .before .before .before .before .before .before .before .before .before .before .before .before .before .before .before
-      .before .before .before .before .before .before .before .before .before .before .before .pre .1 in
+      let p = c .before .before .before .before .before .before .before .before .before .before .before .before .before .before
+      .before .before .before .before .before .before .before .before .before .before .before .before .pre .1 in
       let u = callee-there _ _ _
-      (c .before .before .before .before .before .before .before .before .before .before .before .before .before .before .before
-      .before .before .before .before .before .before .before .before .before .before .before .pre .1 .1 .0) _ _
-      (c .before .before .before .before .before .before .before .before .before .before .before .before .before .before .before
-      .before .before .before .before .before .before .before .before .before .kind .ensures)
-      (call-kind _ (c .before .before .before .before .before .before .before .before .before .before .before .before .before
-      .before .before .before .before .before .before .before .before .before .before .if1 .left)
-      (c .before .before .before .before .before .before .before .before .before .before .before .before .before .before .before
-      .before .before .before .before .before .before .before .if2 .left)
-      (c .before .before .before .before .before .before .before .before .before .before .before .before .before .before .before
-      .before .before .before .before .before .before .if3 .left)
-      (c .before .before .before .before .before .before .before .before .before .before .before .before .before .before .before
-      .before .before .before .before .before .if4 .left)
-      (c .before .before .before .before .before .before .before .before .before .before .before .before .before .before .before
-      .before .before .before .before .if5 .left))
+      (c .before .before .before .before .before .before .before .before .before .before .before .before .before .before
+      .before .before .before .before .before .before .before .before .before .before .before .before .pre .1 .1 .0) _ _
+      (c .before .before .before .before .before .before .before .before .before .before .before .before .before .before
+      .before .before .before .before .before .before .before .before .before .before .kind .ensures) (call-kind _
+      (c .before .before .before .before .before .before .before .before .before .before .before .before .before .before
+      .before .before .before .before .before .before .before .before .before .if1 .left)
+      (c .before .before .before .before .before .before .before .before .before .before .before .before .before .before
+      .before .before .before .before .before .before .before .before .if2 .left)
+      (c .before .before .before .before .before .before .before .before .before .before .before .before .before .before
+      .before .before .before .before .before .before .before .if3 .left)
+      (c .before .before .before .before .before .before .before .before .before .before .before .before .before .before
+      .before .before .before .before .before .before .if4 .left)
+      (c .before .before .before .before .before .before .before .before .before .before .before .before .before .before
+      .before .before .before .before .before .if5 .left))
       (c .before .before .before .before .before .before .before .before .before .before .before .before .before .word .ensures)
       (c .before .before .before .before .before .before .before .before .before .before .before .if6 .left) in
       at-call _ _ _ (p .1 .0) _ _ _
+      (c .before .before .before .before .before .before .before .before .before .before .before .before .before
+      .before .side-walk3 .result) _ _ _ _ _ _ _ _ _ _ _ _
       (c .before .before .before .before .before .before .before .before .before .before .before .before .before .before
-      .side-walk3 .result) _ _ _ _ _ _ _ _ _ _ _ _
-      (c .before .before .before .before .before .before .before .before .before .before .before .before .before .before .before
-      .before .before .before .before .before .before .before .before .before .kind .ensures)
-      (call-kind _ (c .before .before .before .before .before .before .before .before .before .before .before .before .before
-      .before .before .before .before .before .before .before .before .before .before .if1 .left)
-      (c .before .before .before .before .before .before .before .before .before .before .before .before .before .before .before
-      .before .before .before .before .before .before .before .if2 .left)
-      (c .before .before .before .before .before .before .before .before .before .before .before .before .before .before .before
-      .before .before .before .before .before .before .if3 .left)
-      (c .before .before .before .before .before .before .before .before .before .before .before .before .before .before .before
-      .before .before .before .before .before .if4 .left)
-      (c .before .before .before .before .before .before .before .before .before .before .before .before .before .before .before
-      .before .before .before .before .if5 .left))
+      .before .before .before .before .before .before .before .before .before .before .kind .ensures) (call-kind _
+      (c .before .before .before .before .before .before .before .before .before .before .before .before .before .before
+      .before .before .before .before .before .before .before .before .before .if1 .left)
+      (c .before .before .before .before .before .before .before .before .before .before .before .before .before .before
+      .before .before .before .before .before .before .before .before .if2 .left)
+      (c .before .before .before .before .before .before .before .before .before .before .before .before .before .before
+      .before .before .before .before .before .before .before .if3 .left)
+      (c .before .before .before .before .before .before .before .before .before .before .before .before .before .before
+      .before .before .before .before .before .before .if4 .left)
+      (c .before .before .before .before .before .before .before .before .before .before .before .before .before .before
+      .before .before .before .before .before .if5 .left))
       (c .before .before .before .before .before .before .before .before .before .before .before .before .before .word .ensures)
-      (c .before .before .before .before .before .before .before .before .before .before .before .if6 .left)
-      (bit-is _ 32 (omega (arith, u .2)))
-      (c .before .before .before .before .before .before .before .before .before .before .before .before .before .before
-      .side-walk3 .ensures) (c .before .before .before .before .before .before .before .body-walk .ensures)
+      (c .before .before .before .before .before .before .before .before .before .before .before .if6 .left) (bit-is _ 32 (omega
+      (arith, u .2))) (c .before .before .before .before .before .before .before .before .before .before .before .before
+      .before .before .side-walk3 .ensures) (c .before .before .before .before .before .before .before .body-walk .ensures)
       (c .before .before .before .before .before .put .ensures) (c .before .before .join-at .ensures)

@@ -13,8 +13,11 @@ use Rattle.list.proofs.walk.chain_walk.Reads as chain-walk
 use Rattle.list.proofs.bits.meet.Reads as meet-reads
 use Rattle.list.proofs.bits.join.Reads as join-reads
 use Rattle.list.proofs.walk.+body_walk+chain_walk+node_walk+side_walk.Lts-side_walk as lts
-use Rattle.list.proofs.walk.+body_walk+chain_walk+node_walk+side_walk.Proof.Measures.{side-walk-at, chain-walk-below}
-use Rattle.list.proofs.walk.+body_walk+chain_walk+node_walk+side_walk.Proof.Measures.{node-walk-below}
+use Rattle.list.proofs.walk.+body_walk+chain_walk+node_walk+side_walk.Proof.Measures.{
+  side-walk-at,
+  chain-walk-below,
+  node-walk-below,
+}
 
 module _ (t : ℕ) where
   abbrev pub given : lts.Claims
@@ -91,10 +94,10 @@ module _ (t : ℕ) where
 
   pub returns-3 : lts.Need-returns-3 given (side-walk-at t) side-walk.Post
   returns-3 c =
-      let p = c .before .before .before .before .before .before .before .before .before .before .before .before .before .before .before
-      .before .before .pre .1 in
+      let p = c .before .before .before .before .before .before .before .before .before .before .before .before .before .before
+      .before .before .before .pre .1 in
       side-all _ _ _ (p .1 .0) _ _ (c .before .before .before .before .before .before .chain-walk .result) _ _ _ _ _ _ _ _ _ _
-      (p .1 .1 .0) (p .1 .1 .1 .0)
-      (c .before .before .before .before .before .before .before .before .before .before .before .before .before .before .before
-      .first .ensures)
-      (c .before .before .before .before .before .before .chain-walk .ensures) (c .before .before .before .meet .ensures) (c .join .ensures)
+      (p .1 .1 .0) (p .1 .1 .1 .0) (c .before .before .before .before .before .before .before .before .before .before .before
+      .before .before .before .before .first .ensures)
+      (c .before .before .before .before .before .before .chain-walk .ensures) (c .before .before .before .meet .ensures)
+      (c .join .ensures)
