@@ -7,6 +7,12 @@ pub mod MeaningFacts
 pub mod Demands
 pub mod OwnList
 pub mod AnyState
+-- the code: entries, chains, plans
+pub mod CellLaws
+pub mod ChainLaws
+pub mod OperationLaws
+pub mod ActBy
+pub mod PlanLaws
 pub mod RunFacts
 pub mod Fits
 pub mod ReadingFits
