@@ -13,6 +13,9 @@ pub mod ChainLaws
 pub mod OperationLaws
 pub mod ActBy
 pub mod PlanLaws
+pub mod GroupLaws
+pub mod GiveLaws
+pub mod TakeLaws
 pub mod RunFacts
 pub mod Fits
 pub mod ReadingFits

@@ -10,7 +10,8 @@ use Rattle.table.specs.Pick.{pick}
 use Rattle.table.specs.Bytes.{functions, nodes, root, kind, extra, word, first}
 use Rattle.table.specs.Naming.{owner, chain, children}
 use Rattle.table.specs.Check.{accepted, checkOf}
-use Rattle.table.specs.Expressions.{thenAt, elseAt}
+use Rattle.table.specs.Expressions.{bodyOf, thenAt, elseAt}
+use Rattle.table.specs.declared.Function.{Function}
 use Rattle.circuit.specs.State.{State512, entry, register}
 use Rattle.circuit.specs.Step.{Act, stuck, blocked, does, Move, begins, turns, finishes, enters, leaves, restarts, by-status, over, perform}
 use Rattle.circuit.specs.Operations.{operate}
@@ -34,6 +35,9 @@ seek home g (suc k) n = pick (eqb (home (suc n)) g) (suc n) (seek home g k (suc 
 pub record Grouped (t heads links : List ℕ) : Type 0 where
   pub first : (g : ℕ) → g ≤ 32 → getD heads g 0 ≡ seek (owner t) g (nodes t) 0
   pub next : (n : ℕ) → 1 ≤ n → n ≤ nodes t → getD links n 0 ≡ seek (owner t) (owner t n) (nodes t - n) n
+
+abbrev pub ofFunction : Function → ℕ
+ofFunction f = f .0
 
 abbrev pub stateAs : List ℕ → List Bool → List ℕ → List ℕ → List ℕ → State512
 stateAs a b c d e = record { status = a; second = b; value = c; registers = d; occupant = e }
@@ -139,3 +143,9 @@ operateBy op x y last =
     (pick (eqb op 8) (pick (eqb x y) 1 0)
     (pick (eqb op 9) (pick (ltb x y) 1 0)
     last)))))))))
+
+-- what is done at a node that has this step: the code says which, and the state after it
+abbrev pub Took : (t : List ℕ) → State512 → ℕ → Act → (code : ℕ) → State512 → Type 0
+Took t s n stuck code s′ = (code ≡ 0) × (s′ ≡ s)
+Took t s n blocked code s′ = (code ≡ 1) × (s′ ≡ s)
+Took t s n (does m) code s′ = (code ≡ 2) × (s′ ≡ perform (nodes t) (owner t) (bodyOf t) s n m)
