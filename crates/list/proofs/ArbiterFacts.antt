@@ -117,7 +117,7 @@ module _ (N : ℕ) (calleeᵇ callee : ℕ → ℕ) (same : (n : ℕ) → callee
       (λ i. or-decides (tᵇ i) (callsIn N calleeᵇ Bᵇ e i) (y i) (C-decides e i))
       (λ i h. ⊎-elim (λ u. r i u) (λ u. C-all (Range N) callee B ranged e (λ c g j. k c g (inl j)) i u) h) (λ c g j. k c g (inr j)) m)
 
-  first-decides : (es : Exprs) → Calling* (Range N) es → (m : ℕ) → Decides (parallel N calleeᵇ Bᵇ nothing es m) (PC callee B ∅ es m)
+  pub first-decides : (es : Exprs) → Calling* (Range N) es → (m : ℕ) → Decides (parallel N calleeᵇ Bᵇ nothing es m) (PC callee B ∅ es m)
   unfolding nothing
   first-decides es k m = PC-decides nothing ∅ es (λ i. no-decides) (λ i h. absurd h) k m
 
@@ -151,7 +151,7 @@ module _ (N : ℕ) (calleeᵇ callee : ℕ → ℕ) (same : (n : ℕ) → callee
 
 module _ (F N : ℕ) (body at : ℕ → Expr) (calleeᵇ : ℕ → ℕ) (same : (n : ℕ) → calleeᵇ n ≡ callee-at at n)
     (calls : (f : ℕ) → 1 ≤ f → f ≤ F → Calling (Range N) (body f)) where
-  sets-decides : (t : ℕ) → t ≤ F → (g m : ℕ) → Decides (callsOf N calleeᵇ body t g m) (sets body at t g m)
+  pub sets-decides : (t : ℕ) → t ≤ F → (g m : ℕ) → Decides (callsOf N calleeᵇ body t g m) (sets body at t g m)
   unfolding callsOf
   sets-decides zero l g m = no-decides
   sets-decides (suc t) l g m = go (ℕ-discrete g (suc t)) (sets-decides t (omega arith))

@@ -25,16 +25,16 @@ use Rattle.list.proofs.Callees.{callee-word, listed-exactly}
 use Rattle.list.specs.Tags.{Holding, tagged, isCall, calleeOf, listed, bitsFrom, bytesFrom, tagLength, tagsOf, nonePast, tagFits}
 use Rattle.list.specs.Tags.{tagsRefusal, after, checkWith}
 
-half-of : (b : Bool) (y : ℕ) → (one b + 2 * y) / 2 ≡ y
+pub half-of : (b : Bool) (y : ℕ) → (one b + 2 * y) / 2 ≡ y
 half-of true y = omega arith
 half-of false y = omega arith
 
-low-of : (b : Bool) (y : ℕ) → (one b + 2 * y) % 2 ≡ one b
+pub low-of : (b : Bool) (y : ℕ) → (one b + 2 * y) % 2 ≡ one b
 low-of true y = omega arith
 low-of false y = omega arith
 
 -- bit j of k bits from n on is that of n + j
-bit-is : (s : Test) (k n j : ℕ) → j < k → bitsFrom s k n / 2 ^ j % 2 ≡ one (s (n + j))
+pub bit-is : (s : Test) (k n j : ℕ) → j < k → bitsFrom s k n / 2 ^ j % 2 ≡ one (s (n + j))
 unfolding bitsFrom
 bit-is s zero n j h = absurd (omega arith)
 bit-is s (suc k) n zero h =
@@ -53,7 +53,7 @@ bit-is s (suc k) n (suc j) h =
     plus-suc : (n j : ℕ) → suc n + j ≡ n + suc j
     plus-suc n j = omega arith
 
-byte-is : (s : Test) (k n i : ℕ) → i < k → getD (bytesFrom s k n) i 0 ≡ bitsFrom s 8 (n + 8 * i)
+pub byte-is : (s : Test) (k n i : ℕ) → i < k → getD (bytesFrom s k n) i 0 ≡ bitsFrom s 8 (n + 8 * i)
 unfolding bytesFrom
 byte-is s zero n i h = absurd (omega arith)
 byte-is s (suc k) n zero h = ap (bitsFrom s 8) (plus-zero n)
@@ -65,7 +65,7 @@ byte-is s (suc k) n (suc i) h = byte-is s k (n + 8) i (omega arith) ∙ ap (bits
     plus-eight : (n i : ℕ) → n + 8 + 8 * i ≡ n + 8 * suc i
     plus-eight n i = omega arith
 
-bytes-length : (s : Test) (k n : ℕ) → length (bytesFrom s k n) ≡ k
+pub bytes-length : (s : Test) (k n : ℕ) → length (bytesFrom s k n) ≡ k
 unfolding bytesFrom
 bytes-length s zero n = refl
 bytes-length s (suc k) n = ap suc (bytes-length s k (n + 8))
@@ -93,7 +93,7 @@ tagged-is s k m a b =
 
 module _ (t : List ℕ) (F N : ℕ) (check : checkOf t ≡ accepted F N) where
   -- what is listed is a call of the table
-  listed-call : (n : ℕ) → listed t n ≡ true → Range (nodes t) n × (isCall t n ≡ true)
+  pub listed-call : (n : ℕ) → listed t n ≡ true → Range (nodes t) n × (isCall t n ≡ true)
   unfolding calleeOf
   listed-call n e = listed-all (λ c. Range (nodes t) c × (isCall t c ≡ true)) (functions t) (bodyOf t) (exprAt t) here n
       (listed-exactly t F N check n .0 e)
@@ -126,7 +126,7 @@ module _ (t : List ℕ) (F N : ℕ) (check : checkOf t ≡ accepted F N) where
   pub tags-hold : Holding t (tagsOf t)
   tags-hold n e = let r = listed-call n e .0 in tags-mark n (r .0) (r .1) ∙ e
 
-  tags-length : length (tagsOf t) ≡ tagLength t
+  pub tags-length : length (tagsOf t) ≡ tagLength t
   unfolding tagsOf
   tags-length = bytes-length (λ n. leb n (nodes t) && listed t n) (tagLength t) 1
 

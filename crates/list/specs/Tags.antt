@@ -3,6 +3,7 @@ use Prim.Native.Nat.{ℕ, zero, suc, _+_, _-_, _*_, _/_, _%_, _^_}
 use mathlib.Core.Bool.{Bool, _&&_, _||_, not, true}
 use mathlib.Core.List.{List, [], _∷_}
 use lib.Dec.{eqb, leb}
+use lib.Count.{ones}
 use lib.ListN.{length, getD}
 use mathlib.Core.Path.{_≡_}
 use Rattle.table.specs.Pick.{pick}
@@ -11,6 +12,7 @@ use Rattle.table.specs.Bytes.{functions, nodes, kind, word}
 use Rattle.table.specs.Find.{one, lowest, all}
 use Rattle.table.specs.Naming.{owner}
 use Rattle.table.specs.Check.{Verdict, accepted, refused, stage, checkOf}
+use Rattle.table.specs.Survey.{ifAccepted}
 use Rattle.table.specs.Expressions.{bodyOf}
 
 -- node n is bit (n - 1) mod 8 of byte (n - 1) / 8; past the end every byte reads 0
@@ -65,6 +67,19 @@ after (refused number place) rest = refused number place
 -- the table, then its tags
 unfoldable pub checkWith : List ℕ → List ℕ → Verdict
 checkWith t tags = after (checkOf t) λ _. tagsRefusal t tags
+
+-- a tag list that is lent to be filled: 10 looks at its length alone
+unfoldable pub fillVerdict : List ℕ → ℕ → Verdict
+fillVerdict t len = after (checkOf t) λ _. stage 10 (eqb len (tagLength t)) 0 λ _. accepted (functions t) (nodes t)
+
+-- its bytes then: unchanged on any refusal
+unfoldable pub filledTags : List ℕ → List ℕ → List ℕ
+filledTags t tags = ifAccepted (fillVerdict t (length tags)) (tagsOf t) tags
+
+-- the number of bits set in a list of bytes
+unfoldable pub bitsSet : List ℕ → ℕ
+bitsSet [] = 0
+bitsSet (x ∷ s) = ones x + bitsSet s
 
 -- the tags hold the list
 abbrev pub Holding : (t tags : List ℕ) → Type 0

@@ -73,7 +73,8 @@ module _ (t : List ℕ) (p : ℕ) (low : 1 ≤ p) where
       go (yes z) f = ap (underLast t p) z ∙ under-zero t p
       go (no z) f =
           let l = parent-lower t a (omega arith) in
-          under-step t p a (omega arith) ∙ rw (eqb-no (parent t a) p (λ q. omega (arith, q, l))) (f (parent t a) (omega arith) (omega arith))
+          under-step t p a (omega arith) ∙ rw (eqb-no (parent t a) p (λ q. omega (arith, q, l)))
+          (f (parent t a) (omega arith) (omega arith))
 
   pub under-none : (a : ℕ) → a ≤ p → underLast t p a ≡ false
   under-none a i = none-above a a (omega arith) i

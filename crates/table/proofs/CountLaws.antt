@@ -31,7 +31,8 @@ module _ (t : List ℕ) (n k e w p c j : ℕ) (r : Counts) (ek : k ≡ kind t n)
   pub told-counted : within r j ≡ counted t n
   unfolding counted children
   told-counted = ap₂ within
-      (er ∙ counts-by k e p (params t w) ep ∙ ap₂ (λ x y. countsOf x y (params t w)) ek ee ∙ ap (λ x. countsOf (kind t n) (extra t n) (params t x)) ew)
+      (er ∙ counts-by k e p (params t w) ep ∙ ap₂ (λ x y. countsOf x y (params t w)) ek ee ∙ ap
+      (λ x. countsOf (kind t n) (extra t n) (params t x)) ew)
       (ej ∙ ap (λ x. length (chain t x)) ec)
 
 -- a first child is 0 or a node
@@ -61,7 +62,8 @@ module _ (t : List ℕ) (n : ℕ) where
   scoped-other a b = rw (eqb-no (kind t n) 2 a, eqb-no (kind t n) 7 b)
 
 -- 5, 6 and 9 from what was read of a node
-module _ (t : List ℕ) (n k e w c o : ℕ) (ek : k ≡ kind t n) (ee : e ≡ extra t n) (ew : w ≡ word t n) (ec : c ≡ first t n) (eo : o ≡ owner t n) where
+module _ (t : List ℕ) (n k e w c o : ℕ) (ek : k ≡ kind t n) (ee : e ≡ extra t n) (ew : w ≡ word t n) (ec : c ≡ first t n)
+    (eo : o ≡ owner t n) where
   pub told-formed : fields k e w c ≡ formed t n
   unfolding formed
   told-formed = rw (ek, ee, ew, ec)

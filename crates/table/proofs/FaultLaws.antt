@@ -51,9 +51,11 @@ module _ (t : List ℕ) (n : ℕ) where
       go : (a b c d e : Bool) → formed t n ≡ a → calleeFits t n ≡ b → counted t n ≡ c → scoped t n ≡ d → tailed t n ≡ e
           → Met t n (pick (formed t n) (pick (calleeFits t n) (pick (counted t n) (pick (scoped t n) (pick (tailed t n) 10 9) 8) 7) 6) 5)
       go false b c d e p q r s u = rw p (meets 5 (omega arith, omega arith)
-          (λ i. absurd (omega arith)) (λ i. absurd (omega arith)) (λ i. absurd (omega arith)) (λ i. absurd (omega arith)) (λ i. absurd (omega arith)) (λ i. p))
+          (λ i. absurd (omega arith)) (λ i. absurd (omega arith)) (λ i. absurd (omega arith)) (λ i. absurd (omega arith))
+          (λ i. absurd (omega arith)) (λ i. p))
       go true false c d e p q r s u = rw (p, q) (meets 6 (omega arith, omega arith)
-          (λ i. p) (λ i. absurd (omega arith)) (λ i. absurd (omega arith)) (λ i. absurd (omega arith)) (λ i. absurd (omega arith)) (λ i. q))
+          (λ i. p) (λ i. absurd (omega arith)) (λ i. absurd (omega arith)) (λ i. absurd (omega arith)) (λ i. absurd (omega arith))
+          (λ i. q))
       go true true false d e p q r s u = rw (p, q, r) (meets 7 (omega arith, omega arith)
           (λ i. p) (λ i. q) (λ i. absurd (omega arith)) (λ i. absurd (omega arith)) (λ i. absurd (omega arith)) (λ i. r))
       go true true true false e p q r s u = rw (p, q, r, s) (meets 8 (omega arith, omega arith)
@@ -112,10 +114,12 @@ unfolding checkNodes test
 lowest-check t b h = sym (go (decLt 5 (b .number)) (decLt 6 (b .number)) (decLt 7 (b .number)) (decLt 8 (b .number)) (decLt 9 (b .number)))
   where
     refusal : b .number < 10 → faultVerdict t b ≡ refused (b .number) (b .place)
-    refusal l = ap (λ x. pick x (accepted (functions t) (nodes t)) (refused (b .number) (b .place))) (eqb-no (b .number) 10 (λ z. omega arith))
+    refusal l = ap (λ x. pick x (accepted (functions t) (nodes t)) (refused (b .number) (b .place)))
+        (eqb-no (b .number) 10 (λ z. omega arith))
 
     -- the number is k: its stage refuses
-    at : (k : ℕ) → b .number ≡ k → k < 10 → (rest : Unit {0} → Verdict) → stage k true (lowest (test t k) (nodes t)) rest ≡ faultVerdict t b
+    at : (k : ℕ) → b .number ≡ k → k < 10 → (rest : Unit {0} → Verdict) → stage k true (lowest (test t k) (nodes t)) rest ≡ faultVerdict
+        t b
     at k e l rest =
         stage-off k (lowest (test t k) (nodes t)) (b .place) rest (rw e at (h .here (omega arith))) (h .some (omega arith))
         ∙ ap (λ x. refused x (b .place)) (sym e) ∙ sym (refusal (omega arith))
@@ -123,7 +127,8 @@ lowest-check t b h = sym (go (decLt 5 (b .number)) (decLt 6 (b .number)) (decLt 
     on : (k : ℕ) → 5 ≤ k → k < b .number → (rest : Unit {0} → Verdict) → stage k true (lowest (test t k) (nodes t)) rest ≡ rest tt
     on k a l rest = stage-on k (lowest (test t k) (nodes t)) rest (h .before k a l)
 
-    go : Dec (5 < b .number) → Dec (6 < b .number) → Dec (7 < b .number) → Dec (8 < b .number) → Dec (9 < b .number) → checkNodes t ≡ faultVerdict t b
+    go : Dec (5 < b .number) → Dec (6 < b .number) → Dec (7 < b .number) → Dec (8 < b .number) → Dec (9 < b .number) → checkNodes t ≡
+        faultVerdict t b
     go (no x) d e f g = at 5 (omega (arith, h .range .0)) (omega arith) _
     go (yes x) (no y) e f g = on 5 (omega arith) x _ ∙ at 6 (omega arith) (omega arith) _
     go (yes x) (yes y) (no z) f g = on 5 (omega arith) x _ ∙ on 6 (omega arith) y _ ∙ at 7 (omega arith) (omega arith) _

@@ -83,7 +83,8 @@ module _ (t o p : List ℕ) (l : List Bool) (n : ℕ) (h : KinTo t o p l n) (roo
       ∙ ap (λ k. pick (eqb k 0) (rootOf t (n + 1)) (owner t k)) em ∙ sym (owner-step t (n + 1) (omega arith))
 
   pub new-parent : y ≡ parent t (n + 1)
-  new-parent = ey ∙ ap (λ a. pick (eqb m 0) 0 (pick (eqb (first t m) (n + 1)) m a)) (filled-at (parent t) p n m (omega arith) (h .parents) lower)
+  new-parent = ey ∙ ap (λ a. pick (eqb m 0) 0 (pick (eqb (first t m) (n + 1)) m a))
+      (filled-at (parent t) p n m (omega arith) (h .parents) lower)
       ∙ ap (λ k. pick (eqb k 0) 0 (pick (eqb (first t k) (n + 1)) k (parent t k))) em ∙ sym (parent-step t (n + 1) (omega arith))
 
   pub parent-below : y ≤ n
@@ -94,7 +95,8 @@ module _ (t o p : List ℕ) (l : List Bool) (n : ℕ) (h : KinTo t o p l n) (roo
     new-tail = ez ∙ above (ℕ-discrete y 0)
         ∙ ap (λ k. pick (eqb k 0) true (tailChild t k (n + 1) && tail t k)) new-parent ∙ sym (tail-step t (n + 1) (omega arith))
       where
-        above : Dec (y ≡ 0) → pick (eqb y 0) true (tailChild t y (n + 1) && getD l y false) ≡ pick (eqb y 0) true (tailChild t y (n + 1) && tail t y)
+        above : Dec (y ≡ 0) → pick (eqb y 0) true (tailChild t y (n + 1) && getD l y false) ≡ pick (eqb y 0) true
+            (tailChild t y (n + 1) && tail t y)
         above (yes q) = rw (eqb-yes y 0 q)
         above (no q) = ap (λ b. pick (eqb y 0) true (tailChild t y (n + 1) && b)) (h .tails y (omega arith) parent-below)
 
@@ -115,7 +117,8 @@ module _ (t o p : List ℕ) (l : List Bool) (n : ℕ) (h : KinTo t o p l n) (roo
       tails = tails-more;
     }
 
-pub kin-all : (t o p : List ℕ) (l : List Bool) → Framed t → KinTo t o p l (nodes t) → Related t (record { owner = o; parent = p; tail = l })
+pub kin-all : (t o p : List ℕ) (l : List Bool) → Framed t → KinTo t o p l (nodes t) → Related t
+    (record { owner = o; parent = p; tail = l })
 kin-all t o p l fr h = record {
   owners = λ n i. h .owners n (omega arith);
   parents = λ n i. h .parents n (omega arith);

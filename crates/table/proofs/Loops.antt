@@ -126,7 +126,11 @@ bumped-few l at b h j = go (ℕ-discrete j at) (decLt at (length l))
   where
     go : Dec (j ≡ at) → Dec (at < length l) → getD (set l at (getD l at 0 + 1)) j 0 ≤ b + 1
     go (yes e) (yes i) = rw e (omega (arith, getD-set-same l at (getD l at 0 + 1) 0 i, h at))
-    go (yes e) (no i) = rw (e, List·getD-eq-default (set l at (getD l at 0 + 1)) 0 {n = at} (omega (arith, length-set l at (getD l at 0 + 1)))) (omega arith)
+    go (yes e) (no i) = rw (
+      e,
+      List·getD-eq-default (set l at (getD l at 0 + 1)) 0 {n = at} (omega
+          (arith, length-set l at (getD l at 0 + 1))),
+    ) (omega arith)
     go (no e) i = omega (arith, getD-set-other l at j (getD l at 0 + 1) 0 e, h j)
 
 pub blank-at {ℓ} : {A : Type ℓ} (k j : ℕ) (a : A) → getD (replicate k a) j a ≡ a

@@ -53,7 +53,8 @@ roots-none t = record {
 pub slot-of : (t : List ℕ) → Framed t → (n : ℕ) → IsNode t n → Slot n
 slot-of t fr n i = (i .0, omega (arith, i .1, fr .N-high))
 
-pub roots-all : (t m r : List ℕ) → Framed t → RootsTo t m r (functions t) → Rooted t (record { mentions = m; roots = r; namers = replicate 513 0 })
+pub roots-all : (t m r : List ℕ) → Framed t → RootsTo t m r (functions t) → Rooted t
+    (record { mentions = m; roots = r; namers = replicate 513 0 })
 unfolding rootOf
 roots-all t m r fr h = record {
   few = h .few;

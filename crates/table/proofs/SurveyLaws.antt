@@ -58,7 +58,8 @@ pub blank-surveyed : (t : List ℕ) (k p : ℕ) → checkOf t ≡ refused k p
 unfolding ownersOf parentsOf
 blank-surveyed t k p e = record {
   checked = sym e;
-  owners = by-elements (λ n. asFunction (ifAccepted (checkOf t) (ofNode t (owner t) n) 0)) (asFunction 0) 513 (replicate 513 (asFunction 0))
+  owners = by-elements (λ n. asFunction (ifAccepted (checkOf t) (ofNode t (owner t) n) 0)) (asFunction 0) 513
+      (replicate 513 (asFunction 0))
       (length-replicate 513 (asFunction 0))
       (λ i h. blank-at 513 i (asFunction 0) ∙ sym (ap (λ v. asFunction (ifAccepted v (ofNode t (owner t) i) 0)) e));
   parents = by-elements (λ n. asNode (ifAccepted (checkOf t) (ofNode t (parent t) n) 0)) (asNode 0) 513 (replicate 513 (asNode 0))
@@ -73,7 +74,8 @@ pub told-surveyed : (t : List ℕ) (r : Kin) (f : Function) (n : Node) (o : List
 unfolding ownersOf parentsOf
 told-surveyed t r f n o p lo lp h e ef en eo ep = record {
   checked = ap₂ accepted ef en ∙ sym e;
-  owners = eo ∙ by-elements (λ n. asFunction (ifAccepted (checkOf t) (ofNode t (owner t) n) 0)) (asFunction 0) 513 (map asFunction (r .owner))
+  owners = eo ∙ by-elements (λ n. asFunction (ifAccepted (checkOf t) (ofNode t (owner t) n) 0)) (asFunction 0) 513
+      (map asFunction (r .owner))
       (length-map (r .owner) asFunction ∙ lo)
       (λ i l. List·getD-map asFunction (r .owner) i 0 ∙ ap asFunction (h .owners i l)
       ∙ sym (ap (λ v. asFunction (ifAccepted v (ofNode t (owner t) i) 0)) e));
@@ -84,11 +86,15 @@ told-surveyed t r f n o p lo lp h e ef en eo ep = record {
 }
 
 -- what the nodes' part found
-pub fault-refused : (t : List ℕ) (r : Fault) → faultVerdict t r ≡ checkNodes t → (r .number ≡ 10 → ⊥) → checkNodes t ≡ refused (r .number) (r .place)
-fault-refused t r e z = sym e ∙ ap (λ x. pick x (accepted (functions t) (nodes t)) (refused (r .number) (r .place))) (eqb-no (r .number) 10 z)
+pub fault-refused : (t : List ℕ) (r : Fault) → faultVerdict t r ≡ checkNodes t → (r .number ≡ 10 → ⊥) → checkNodes t ≡ refused
+    (r .number) (r .place)
+fault-refused t r e z = sym e ∙ ap (λ x. pick x (accepted (functions t) (nodes t)) (refused (r .number) (r .place)))
+    (eqb-no (r .number) 10 z)
 
-pub fault-none : (t : List ℕ) (r : Fault) → faultVerdict t r ≡ checkNodes t → r .number ≡ 10 → checkNodes t ≡ accepted (functions t) (nodes t)
-fault-none t r e z = sym e ∙ ap (λ x. pick x (accepted (functions t) (nodes t)) (refused (r .number) (r .place))) (eqb-yes (r .number) 10 z)
+pub fault-none : (t : List ℕ) (r : Fault) → faultVerdict t r ≡ checkNodes t → r .number ≡ 10 → checkNodes t ≡ accepted (functions t)
+    (nodes t)
+fault-none t r e z = sym e ∙ ap (λ x. pick x (accepted (functions t) (nodes t)) (refused (r .number) (r .place)))
+    (eqb-yes (r .number) 10 z)
 
 -- the first three numbers
 abbrev Sizes : List ℕ → Type 0

@@ -23,7 +23,8 @@ use Rattle.table.specs.Expressions.{condOf, bindOf, nodeOf, exprsAt, exp
 pub data View (t : List ℕ) (n : ℕ) : Type 0 where
   is-const : kind t n ≡ 1 → first t n ≡ 0 → exprAt t n ≡ const n (word t n) → View t n
   is-param : kind t n ≡ 2 → first t n ≡ 0 → extra t n < params t (owner t n) → exprAt t n ≡ param n (extra t n) → View t n
-  is-prim : kind t n ≡ 3 → T (within (operationCounts (extra t n)) (length (children t n))) → exprAt t n ≡ prim n (extra t n) (exprsAt t (first t n))
+  is-prim : kind t n ≡ 3 → T (within (operationCounts (extra t n)) (length (children t n))) → exprAt t n ≡ prim n (extra t n)
+      (exprsAt t (first t n))
       → View t n
   is-call : kind t n ≡ 4 → 1 ≤ word t n → word t n < owner t n → length (children t n) ≡ params t (word t n)
       → exprAt t n ≡ call n (word t n) (exprsAt t (first t n)) → View t n

@@ -1,11 +1,13 @@
-use Rattle.table.proofs.SurveyLaws.{framed, frame-refused, blank-surveyed, told-surveyed, roots-refused, unlinked-refused, records-refused, nodes-checked, links-pass, fault-refused, fault-none}
+use Rattle.table.proofs.SurveyLaws.{framed, frame-refused, blank-surveyed, told-surveyed, roots-refused, unlinked-refused}
+use Rattle.table.proofs.SurveyLaws.{records-refused, nodes-checked, links-pass, fault-refused, fault-none}
 use lib.ListN.{length}
 use borrow.Author.Tests.{eq-eqb, ne-eqb, le-leb, lt-leb, lt-ltb, le-ltb, not-true, not-false}
 use native.Mathlib.Omega.{arith}
 use Rattle.table.proofs.Tests.{told-yes, told-no}
 use mathlib.Core.Path.{_≡_, refl, sym, ap, _∙_}
 use mathlib.Core.Logic.{inl, inr}
-use Rattle.table.proofs.SurveyLaws.{framed, frame-refused, blank-surveyed, told-surveyed, roots-refused, unlinked-refused, records-refused, nodes-checked, links-pass}
+use Rattle.table.proofs.SurveyLaws.{framed, frame-refused, blank-surveyed, told-surveyed, roots-refused, unlinked-refused}
+use Rattle.table.proofs.SurveyLaws.{records-refused, nodes-checked, links-pass}
 use Rattle.table.specs.Survey.{Surveyed, blankOf}
 use Rattle.table.specs.declared.Findings.{Findings}
 use Rattle.table.specs.Pick.{pick}
@@ -38,7 +40,9 @@ blank-requires c κs = search needs
 
 -- src/lib.rt:58:9
 returns : tie.Need-returns
-returns c = let t = c .before .before .before .before .args .table .now in let fr = c .before .before .before .before .pre in subst (Surveyed t) (sym (c .blank .ensures)) (blank-surveyed t 4 0 (roots-refused t fr (sym (c .before .before .roots-fit .ensures) ∙ not-true _ (c .before .if1 .taken))))
+returns c = let t = c .before .before .before .before .args .table .now in let fr = c .before .before .before .before .pre in subst
+    (Surveyed t) (sym (c .blank .ensures)) (blank-surveyed t 4 0 (roots-refused t fr
+    (sym (c .before .before .roots-fit .ensures) ∙ not-true _ (c .before .if1 .taken))))
 
 -- src/lib.rt:60:9
 collect-requires : tie.Need-collect-requires
@@ -54,7 +58,10 @@ blank-requires-2 c κs = search needs
 
 -- src/lib.rt:63:9
 returns-2 : tie.Need-returns-2
-returns-2 c = let t = c .before .before .before .before .before .before .before .args .table .now in let fr = c .before .before .before .before .before .before .before .pre in subst (Surveyed t) (sym (c .blank2 .ensures)) (blank-surveyed t 4 _ (unlinked-refused t fr _ (sym (c .before .before .before .before .before .roots-fit .ensures) ∙ not-false _ (c .before .before .before .before .if1 .left)) (c .before .before .lowest-unlinked .ensures) (c .before .if2 .taken)))
+returns-2 c = let t = c .before .before .before .before .before .before .before .args .table .now in let fr =
+    c .before .before .before .before .before .before .before .pre in subst (Surveyed t) (sym (c .blank2 .ensures))
+    (blank-surveyed t 4 _ (unlinked-refused t fr _ (sym (c .before .before .before .before .before .roots-fit .ensures) ∙ not-false _
+    (c .before .before .before .before .if1 .left)) (c .before .before .lowest-unlinked .ensures) (c .before .if2 .taken)))
 
 -- src/lib.rt:65:9
 records-fit-requires : tie.Need-records-fit-requires
@@ -66,15 +73,30 @@ blank-requires-3 c κs = search needs
 
 -- src/lib.rt:66:9
 returns-3 : tie.Need-returns-3
-returns-3 c = let t = c .before .before .before .before .before .before .before .before .before .args .table .now in let fr = c .before .before .before .before .before .before .before .before .before .pre in subst (Surveyed t) (sym (c .blank3 .ensures)) (blank-surveyed t 5 0 (records-refused t fr (sym (c .before .before .before .before .before .before .before .roots-fit .ensures) ∙ not-false _ (c .before .before .before .before .before .before .if1 .left)) (sym (c .before .before .before .before .lowest-unlinked .ensures) ∙ c .before .before .before .if2 .left) (sym (c .before .before .records-fit .ensures) ∙ not-true _ (c .before .if3 .taken))))
+returns-3 c = let t = c .before .before .before .before .before .before .before .before .before .args .table .now in let fr =
+    c .before .before .before .before .before .before .before .before .before .pre in subst (Surveyed t) (sym (c .blank3 .ensures))
+    (blank-surveyed t 5 0 (records-refused t fr (sym (c .before .before .before .before .before .before .before .roots-fit .ensures) ∙
+    not-false _ (c .before .before .before .before .before .before .if1 .left))
+    (sym (c .before .before .before .before .lowest-unlinked .ensures) ∙ c .before .before .before .if2 .left)
+    (sym (c .before .before .records-fit .ensures) ∙ not-true _ (c .before .if3 .taken))))
 
 -- src/lib.rt:68:9
 collect-requires-2 : tie.Need-collect-requires-2
-collect-requires-2 c κs = (c .before .before .before .before .before .before .before .before .pre, c .before .before .before .before .collect .ensures)
+collect-requires-2 c κs = (
+  c .before .before .before .before .before .before .before .before .pre,
+  c .before .before .before .before .collect .ensures,
+)
 
 -- src/lib.rt:69:9
 lowest-requires : tie.Need-lowest-requires
-lowest-requires c κs = let t = c .before .before .before .before .before .before .before .before .before .args .table .now in let fr = c .before .before .before .before .before .before .before .before .before .pre in (fr, links-pass t fr (sym (c .before .before .before .before .before .before .before .roots-fit .ensures) ∙ not-false _ (c .before .before .before .before .before .before .if1 .left)) (sym (c .before .before .before .before .lowest-unlinked .ensures) ∙ c .before .before .before .if2 .left), c .collect2 .ensures)
+lowest-requires c κs = let t = c .before .before .before .before .before .before .before .before .before .args .table .now in let fr =
+    c .before .before .before .before .before .before .before .before .before .pre in (
+      fr,
+      links-pass t fr (sym (c .before .before .before .before .before .before .before .roots-fit .ensures) ∙ not-false _
+          (c .before .before .before .before .before .before .if1 .left))
+          (sym (c .before .before .before .before .lowest-unlinked .ensures) ∙ c .before .before .before .if2 .left),
+      c .collect2 .ensures,
+    )
 
 -- src/lib.rt:71:9
 blank-requires-4 : tie.Need-blank-requires-4
@@ -82,7 +104,17 @@ blank-requires-4 c κs = search needs
 
 -- src/lib.rt:71:9
 returns-4 : tie.Need-returns-4
-returns-4 c = let t = c .before .before .before .before .before .before .before .before .before .before .before .before .before .args .table .now in let fr = c .before .before .before .before .before .before .before .before .before .before .before .before .before .pre in subst (Surveyed t) (sym (c .blank4 .ensures)) (blank-surveyed t _ _ (nodes-checked t fr (sym (c .before .before .before .before .before .before .before .before .before .before .before .roots-fit .ensures) ∙ not-false _ (c .before .before .before .before .before .before .before .before .before .before .if1 .left)) (sym (c .before .before .before .before .before .before .before .before .lowest-unlinked .ensures) ∙ c .before .before .before .before .before .before .before .if2 .left) (sym (c .before .before .before .before .before .before .records-fit .ensures) ∙ not-false _ (c .before .before .before .before .before .if3 .left)) ∙ fault-refused t (c .before .before .before .lowest .result) (c .before .before .before .lowest .ensures) (c .before .if4 .taken)))
+returns-4 c = let t =
+    c .before .before .before .before .before .before .before .before .before .before .before .before .before .args .table .now in let
+    fr = c .before .before .before .before .before .before .before .before .before .before .before .before .before .pre in subst
+    (Surveyed t) (sym (c .blank4 .ensures)) (blank-surveyed t _ _ (nodes-checked t fr
+    (sym (c .before .before .before .before .before .before .before .before .before .before .before .roots-fit .ensures) ∙ not-false _
+    (c .before .before .before .before .before .before .before .before .before .before .if1 .left))
+    (sym (c .before .before .before .before .before .before .before .before .lowest-unlinked .ensures) ∙
+    c .before .before .before .before .before .before .before .if2 .left)
+    (sym (c .before .before .before .before .before .before .records-fit .ensures) ∙ not-false _
+    (c .before .before .before .before .before .if3 .left)) ∙ fault-refused t (c .before .before .before .lowest .result)
+    (c .before .before .before .lowest .ensures) (c .before .if4 .taken)))
 
 -- src/lib.rt:76:36
 functions-requires : tie.Need-functions-requires
@@ -102,7 +134,27 @@ nodes-requires-2 c κs = search needs
 
 -- src/lib.rt:53:1
 returns-5 : tie.Need-returns-5
-returns-5 c = let t = c .before .before .before .before .before .before .before .before .before .before .before .before .before .before .before .before .before .before .args .table .now in let fr = c .before .before .before .before .before .before .before .before .before .before .before .before .before .before .before .before .before .before .pre in let k = c .before .before .before .before .before .before .before .before .before .collect2 .result in let lo : length (k .owner) ≡ 513 = search needs in let lp : length (k .parent) ≡ 513 = search needs in told-surveyed t k _ _ _ _ lo lp (c .before .before .before .before .before .before .before .before .before .collect2 .ensures) (nodes-checked t fr (sym (c .before .before .before .before .before .before .before .before .before .before .before .before .before .before .before .before .roots-fit .ensures) ∙ not-false _ (c .before .before .before .before .before .before .before .before .before .before .before .before .before .before .before .if1 .left)) (sym (c .before .before .before .before .before .before .before .before .before .before .before .before .before .lowest-unlinked .ensures) ∙ c .before .before .before .before .before .before .before .before .before .before .before .before .if2 .left) (sym (c .before .before .before .before .before .before .before .before .before .before .before .records-fit .ensures) ∙ not-false _ (c .before .before .before .before .before .before .before .before .before .before .if3 .left)) ∙ fault-none t (c .before .before .before .before .before .before .before .before .lowest .result) (c .before .before .before .before .before .before .before .before .lowest .ensures) (c .before .before .before .before .before .before .if4 .left)) (c .before .before .before .functions .ensures) (c .before .before .nodes .ensures) (c .before .functions2 .ensures) (c .nodes2 .ensures)
+returns-5 c = let t =
+    c .before .before .before .before .before .before .before .before .before .before .before .before .before .before .before .before
+    .before .before .args .table .now in let fr =
+    c .before .before .before .before .before .before .before .before .before .before .before .before .before .before .before
+    .before .before .before .pre in let k =
+    c .before .before .before .before .before .before .before .before .before .collect2 .result in let lo : length (k .owner) ≡ 513
+    = search needs in let lp : length (k .parent) ≡ 513 = search needs in told-surveyed t k _ _ _ _ lo lp
+    (c .before .before .before .before .before .before .before .before .before .collect2 .ensures)
+    (nodes-checked t fr (sym
+    (c .before .before .before .before .before .before .before .before .before .before .before .before .before .before .before
+    .before .roots-fit .ensures) ∙ not-false _
+    (c .before .before .before .before .before .before .before .before .before .before .before .before .before .before .before .if1
+    .left)) (sym (c .before .before .before .before .before .before .before .before .before .before .before .before .before
+    .lowest-unlinked .ensures) ∙
+    c .before .before .before .before .before .before .before .before .before .before .before .before .if2 .left)
+    (sym (c .before .before .before .before .before .before .before .before .before .before .before .records-fit .ensures) ∙
+    not-false _ (c .before .before .before .before .before .before .before .before .before .before .if3 .left)) ∙ fault-none t
+    (c .before .before .before .before .before .before .before .before .lowest .result)
+    (c .before .before .before .before .before .before .before .before .lowest .ensures)
+    (c .before .before .before .before .before .before .if4 .left)) (c .before .before .before .functions .ensures)
+    (c .before .before .nodes .ensures) (c .before .functions2 .ensures) (c .nodes2 .ensures)
 
 pub inspect-spec : {M : Type 1} → statement M
 inspect-spec =

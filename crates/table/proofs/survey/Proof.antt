@@ -3,7 +3,8 @@ use native.Mathlib.Omega.{arith}
 use Rattle.table.proofs.Tests.{told-yes, told-no}
 use mathlib.Core.Path.{_≡_, refl, sym, ap, _∙_}
 use mathlib.Core.Logic.{inl, inr}
-use Rattle.table.proofs.SurveyLaws.{framed, frame-refused, blank-surveyed, told-surveyed, roots-refused, unlinked-refused, records-refused, nodes-checked, links-pass}
+use Rattle.table.proofs.SurveyLaws.{framed, frame-refused, blank-surveyed, told-surveyed, roots-refused, unlinked-refused}
+use Rattle.table.proofs.SurveyLaws.{records-refused, nodes-checked, links-pass}
 use Rattle.table.specs.Survey.{Surveyed, blankOf}
 use Rattle.table.specs.declared.Findings.{Findings}
 use Rattle.table.specs.Pick.{pick}
@@ -28,7 +29,8 @@ blank-requires c κs = search needs
 
 -- src/lib.rt:47:9
 returns : tie.Need-returns
-returns c = let t = c .before .before .before .before .args .table .now in subst (Surveyed t) (sym (c .blank .ensures)) (blank-surveyed t _ 0 (frame-refused t _ (c .before .before .number .ensures) (c .before .if1 .taken)))
+returns c = let t = c .before .before .before .before .args .table .now in subst (Surveyed t) (sym (c .blank .ensures))
+    (blank-surveyed t _ 0 (frame-refused t _ (c .before .before .number .ensures) (c .before .if1 .taken)))
 
 -- src/lib.rt:49:5
 inspect-requires : tie.Need-inspect-requires

@@ -34,7 +34,18 @@ first-at-requires c κs = c .before .before .before .pre .0 .place
 
 -- src/faults.rt:67:9
 chain-length-requires : tie.Need-chain-length-requires
-chain-length-requires c κs = let p = c .before .before .before .before .pre .0 in (p .place .framed, p .links, p .place .start, omega (arith, c .first-at .ensures, first-inside (c .before .before .before .before .args .table .now) (p .links) (c .before .before .before .before .args .n) (p .place .low, p .place .high)))
+chain-length-requires c κs = let p = c .before .before .before .before .pre .0 in (
+  p .place .framed,
+  p .links,
+  p .place .start,
+  omega (
+    arith,
+    c .first-at .ensures,
+    first-inside
+        (c .before .before .before .before .args .table .now) (p .links) (c .before .before .before .before .args .n)
+        (p .place .low, p .place .high),
+  ),
+)
 
 -- src/faults.rt:68:13
 cast-if1 : tie.Need-cast-if1
@@ -46,11 +57,34 @@ cast-result c = search needs
 
 -- src/faults.rt:60:1
 returns : tie.Need-returns
-returns c = sym (sym (told-counted (c .before .before .before .before .before .before .before .args .table .now) (c .before .before .before .before .before .before .before .args .n) (c .before .before .before .before .before .before .before .args .kind) (c .before .before .before .before .before .before .before .args .extra) (c .before .before .before .before .before .before .before .args .word) (c .before .before .before .before .before .callee-params .result) (c .before .before .before .first-at .result) (c .before .before .chain-length .result) (c .before .before .before .before .child-counts .result) (c .before .before .before .before .before .before .before .pre .0 .kinded) (c .before .before .before .before .before .before .before .pre .0 .extras) (c .before .before .before .before .before .before .before .pre .0 .worded) (c .before .before .before .before .before .callee-params .ensures) (c .before .before .before .before .child-counts .ensures) (c .before .before .before .first-at .ensures) (c .before .before .chain-length .ensures)) ∙ simp (lt-leb _ _ (c .if1 .taken)))
+returns c = sym (sym (told-counted (c .before .before .before .before .before .before .before .args .table .now)
+    (c .before .before .before .before .before .before .before .args .n)
+    (c .before .before .before .before .before .before .before .args .kind)
+    (c .before .before .before .before .before .before .before .args .extra)
+    (c .before .before .before .before .before .before .before .args .word)
+    (c .before .before .before .before .before .callee-params .result) (c .before .before .before .first-at .result)
+    (c .before .before .chain-length .result) (c .before .before .before .before .child-counts .result)
+    (c .before .before .before .before .before .before .before .pre .0 .kinded)
+    (c .before .before .before .before .before .before .before .pre .0 .extras)
+    (c .before .before .before .before .before .before .before .pre .0 .worded)
+    (c .before .before .before .before .before .callee-params .ensures) (c .before .before .before .before .child-counts .ensures)
+    (c .before .before .before .first-at .ensures) (c .before .before .chain-length .ensures)) ∙ simp (lt-leb _ _ (c .if1 .taken)))
 
 -- src/faults.rt:60:1
 returns-2 : tie.Need-returns-2
-returns-2 c = sym (sym (told-counted (c .before .before .before .before .before .before .before .before .args .table .now) (c .before .before .before .before .before .before .before .before .args .n) (c .before .before .before .before .before .before .before .before .args .kind) (c .before .before .before .before .before .before .before .before .args .extra) (c .before .before .before .before .before .before .before .before .args .word) (c .before .before .before .before .before .before .callee-params .result) (c .before .before .before .before .first-at .result) (c .before .before .before .chain-length .result) (c .before .before .before .before .before .child-counts .result) (c .before .before .before .before .before .before .before .before .pre .0 .kinded) (c .before .before .before .before .before .before .before .before .pre .0 .extras) (c .before .before .before .before .before .before .before .before .pre .0 .worded) (c .before .before .before .before .before .before .callee-params .ensures) (c .before .before .before .before .before .child-counts .ensures) (c .before .before .before .before .first-at .ensures) (c .before .before .before .chain-length .ensures)) ∙ simp (le-leb _ _ (c .before .if1 .left)))
+returns-2 c = sym (sym (told-counted (c .before .before .before .before .before .before .before .before .args .table .now)
+    (c .before .before .before .before .before .before .before .before .args .n)
+    (c .before .before .before .before .before .before .before .before .args .kind)
+    (c .before .before .before .before .before .before .before .before .args .extra)
+    (c .before .before .before .before .before .before .before .before .args .word)
+    (c .before .before .before .before .before .before .callee-params .result) (c .before .before .before .before .first-at .result)
+    (c .before .before .before .chain-length .result) (c .before .before .before .before .before .child-counts .result)
+    (c .before .before .before .before .before .before .before .before .pre .0 .kinded)
+    (c .before .before .before .before .before .before .before .before .pre .0 .extras)
+    (c .before .before .before .before .before .before .before .before .pre .0 .worded)
+    (c .before .before .before .before .before .before .callee-params .ensures)
+    (c .before .before .before .before .before .child-counts .ensures) (c .before .before .before .before .first-at .ensures)
+    (c .before .before .before .chain-length .ensures)) ∙ simp (le-leb _ _ (c .before .if1 .left)))
 
 pub count-fits-spec : {M : Type 1} → statement M
 count-fits-spec =

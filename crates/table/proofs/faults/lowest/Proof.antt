@@ -46,19 +46,57 @@ mul-own c = search needs
 
 -- src/faults.rt:186:19
 element-copy-out-own : tie.Need-element-copy-out-own Inv-loop μ-loop
-element-copy-out-own c = omega (arith, c .before .before .before .last-node .ensures, c .before .before .before .before .before .before .pre .0 .N-high)
+element-copy-out-own c = omega (
+  arith,
+  c .before .before .before .last-node .ensures,
+  c .before .before .before .before .before .before .pre .0 .N-high,
+)
 
 -- src/faults.rt:187:20
 element-copy-out-tail : tie.Need-element-copy-out-tail Inv-loop μ-loop
-element-copy-out-tail c = omega (arith, c .before .before .before .before .last-node .ensures, c .before .before .before .before .before .before .before .pre .0 .N-high)
+element-copy-out-tail c = omega (
+  arith,
+  c .before .before .before .before .last-node .ensures,
+  c .before .before .before .before .before .before .before .pre .0 .N-high,
+)
 
 -- src/faults.rt:188:13
 fault-at-requires : tie.Need-fault-at-requires Inv-loop μ-loop
-fault-at-requires c κs = let t = c .before .before .before .before .before .before .before .before .before .args .table .now in let k = c .before .before .before .before .before .before .before .before .before .args .t2 in let p = c .before .before .before .before .before .before .before .before .before .pre in ((record { framed = p .0; start = c .before .before .before .before .before .before .before .base .ensures; low = omega arith; high = omega (arith, c .before .before .before .before .before .before .last-node .ensures) }, p .1, related-parent t k (p .0) (p .2)), (related-owner t k (p .0) (p .2) (c .before .before .before .before .loop .n + 1) (omega (arith, c .before .before .before .before .before .before .last-node .ensures)), p .2 .tails (c .before .before .before .before .loop .n + 1) (omega arith, omega (arith, c .before .before .before .before .before .before .last-node .ensures))))
+fault-at-requires c κs = let t = c .before .before .before .before .before .before .before .before .before .args .table .now in let k =
+    c .before .before .before .before .before .before .before .before .before .args .t2 in let p =
+    c .before .before .before .before .before .before .before .before .before .pre in (
+      (
+        record {
+          framed = p .0;
+          start = c .before .before .before .before .before .before .before .base .ensures;
+          low = omega arith;
+          high
+              = omega (arith, c .before .before .before .before .before .before .last-node .ensures);
+        },
+        p .1,
+        related-parent t k (p .0) (p .2),
+      ),
+      (
+        related-owner t k (p .0) (p .2) (c .before .before .before .before .loop .n + 1)
+            (omega (arith, c .before .before .before .before .before .before .last-node .ensures)),
+        p .2 .tails
+            (c .before .before .before .before .loop .n + 1) (
+              omega arith,
+              omega (
+                arith,
+                c .before .before .before .before .before .before .last-node .ensures,
+              ),
+            ),
+      ),
+    )
 
 -- src/faults.rt:189:36
 cast-lower : tie.Need-cast-lower Inv-loop μ-loop
-cast-lower c = omega (arith, c .before .before .before .before .before .before .before .last-node .ensures, c .before .before .before .before .before .before .before .before .before .before .pre .0 .N-high)
+cast-lower c = omega (
+  arith,
+  c .before .before .before .before .before .before .before .last-node .ensures,
+  c .before .before .before .before .before .before .before .before .before .before .pre .0 .N-high,
+)
 
 -- src/faults.rt:189:9
 lower-requires : tie.Need-lower-requires Inv-loop μ-loop
@@ -70,11 +108,19 @@ loop-less c = omega arith
 
 -- src/faults.rt:184:5
 loop-again : tie.Need-loop-again Inv-loop μ-loop
-loop-again c = (omega arith, rw (c .lower .ensures) (lowest-next (c .before .before .before .before .before .before .before .before .before .before .before .args .table .now) (c .before .before .before .before .before .before .loop .n) (c .before .fault-at .result) (c .before .before .before .before .before .before .loop .best) (c .before .before .before .before .before .before .loop .inv .1) (c .before .fault-at .ensures)))
+loop-again c = (
+  omega arith,
+  rw (c .lower .ensures) (lowest-next
+      (c .before .before .before .before .before .before .before .before .before .before .before .args .table .now)
+      (c .before .before .before .before .before .before .loop .n) (c .before .fault-at .result)
+      (c .before .before .before .before .before .before .loop .best) (c .before .before .before .before .before .before .loop .inv .1)
+      (c .before .fault-at .ensures)),
+)
 
 -- src/faults.rt:172:1
 returns : tie.Need-returns Inv-loop μ-loop
-returns c = let t = c .before .before .before .before .before .before .args .table .now in let e : c .before .loop .n ≡ nodes t = omega (arith, c .before .before .before .last-node .ensures) in lowest-check t (c .before .loop .best) (rw e at (c .before .loop .inv .1))
+returns c = let t = c .before .before .before .before .before .before .args .table .now in let e : c .before .loop .n ≡ nodes t = omega
+    (arith, c .before .before .before .last-node .ensures) in lowest-check t (c .before .loop .best) (rw e at (c .before .loop .inv .1))
 
 pub lowest-spec : {M : Type 1} → statement M
 lowest-spec =

@@ -7,7 +7,8 @@ use mathlib.Core.Path.{_≡_, refl, sym, ap, _∙_}
 use mathlib.Core.Logic.{inl, inr}
 use Rattle.table.specs.Bytes.{byteAt, twoAt, fourAt, functions, nodes, nodeAt, functionAt, kind, first, next, params, spare, root}
 use Prim.Native.Nat.{_+_, _*_, _-_, _≤_}
-use Rattle.table.proofs.ChainLoop.{rest, ChainTo, chain-start, chain-next, chain-falls, chain-end, under-none, under-child, under-up, parent-past, scope-root, scope-kind, scope-last, scope-let}
+use Rattle.table.proofs.ChainLoop.{rest, ChainTo, chain-start, chain-next, chain-falls, chain-end, under-none, under-child}
+use Rattle.table.proofs.ChainLoop.{under-up, parent-past, scope-root, scope-kind, scope-last, scope-let}
 use Rattle.table.specs.Naming.{parent, underLast, inScope}
 use Rattle.table.proofs.Family.{parent-lower}
 use Rattle.table.proofs.faults.under_last.Statement.{statement}
@@ -36,27 +37,42 @@ element-copy-out-up c = omega (arith, c .before .before .before .pre .0 .framed 
 
 -- src/faults.rt:78:18
 cast-up : tie.Need-cast-up Inv-loop μ-loop
-cast-up c = let t = c .before .before .before .before .args .table .now in let a = c .before .before .loop .a in let q = c .before .before .before .before .pre .1 a (omega arith) in omega (arith, q, parent-lower t a (omega arith), c .before .before .before .before .pre .0 .framed .N-high)
+cast-up c = let t = c .before .before .before .before .args .table .now in let a = c .before .before .loop .a in let q =
+    c .before .before .before .before .pre .1 a (omega arith) in omega
+    (arith, q, parent-lower t a (omega arith), c .before .before .before .before .pre .0 .framed .N-high)
 
 -- src/faults.rt:80:20
 next-at-requires : tie.Need-next-at-requires Inv-loop μ-loop
-next-at-requires c κs = let p = c .before .before .before .before .before .pre .0 in record { framed = p .framed; start = p .start; low = omega arith; high = c .before .before .before .loop .inv .0 }
+next-at-requires c κs = let p = c .before .before .before .before .before .pre .0 in record
+    { framed = p .framed; start = p .start; low = omega arith; high = c .before .before .before .loop .inv .0 }
 
 -- src/faults.rt:80:13
 returns : tie.Need-returns Inv-loop μ-loop
-returns c = let t = c .before .before .before .before .before .before .args .table .now in let a = c .before .before .before .before .loop .a in let q = c .before .before .before .before .before .before .pre .1 a (omega arith) in ap (λ x. eqb x 0) (c .next-at .ensures) ∙ sym (c .before .before .before .before .loop .inv .1 ∙ under-child t (c .before .before .before .before .before .before .args .p) (c .before .before .before .before .before .before .pre .2) a (omega arith) (sym q ∙ c .before .if1 .taken))
+returns c = let t = c .before .before .before .before .before .before .args .table .now in let a =
+    c .before .before .before .before .loop .a in let q = c .before .before .before .before .before .before .pre .1 a (omega arith) in
+    ap (λ x. eqb x 0) (c .next-at .ensures) ∙ sym (c .before .before .before .before .loop .inv .1 ∙ under-child t
+    (c .before .before .before .before .before .before .args .p) (c .before .before .before .before .before .before .pre .2) a
+    (omega arith) (sym q ∙ c .before .if1 .taken))
 
 -- src/faults.rt:77:5
 loop-less : tie.Need-loop-less Inv-loop μ-loop
-loop-less c = let t = c .before .before .before .before .before .args .table .now in let a = c .before .before .before .loop .a in let q = c .before .before .before .before .before .pre .1 a (omega arith) in omega (arith, q, parent-lower t a (omega arith))
+loop-less c = let t = c .before .before .before .before .before .args .table .now in let a = c .before .before .before .loop .a in let q
+    = c .before .before .before .before .before .pre .1 a (omega arith) in omega (arith, q, parent-lower t a (omega arith))
 
 -- src/faults.rt:77:5
 loop-again : tie.Need-loop-again Inv-loop μ-loop
-loop-again c = let t = c .before .before .before .before .before .args .table .now in let a = c .before .before .before .loop .a in let q = c .before .before .before .before .before .pre .1 a (omega arith) in (omega (arith, q, parent-lower t a (omega arith)), c .before .before .before .loop .inv .1 ∙ under-up t (c .before .before .before .before .before .args .p) (c .before .before .before .before .before .pre .2) a (omega arith) (λ e. c .if1 .left (q ∙ e)) ∙ ap (underLast t (c .before .before .before .before .before .args .p)) (sym q))
+loop-again c = let t = c .before .before .before .before .before .args .table .now in let a = c .before .before .before .loop .a in let
+    q = c .before .before .before .before .before .pre .1 a (omega arith) in (
+      omega (arith, q, parent-lower t a (omega arith)),
+      c .before .before .before .loop .inv .1 ∙ under-up t
+          (c .before .before .before .before .before .args .p) (c .before .before .before .before .before .pre .2) a (omega arith)
+          (λ e. c .if1 .left (q ∙ e)) ∙ ap (underLast t (c .before .before .before .before .before .args .p)) (sym q),
+    )
 
 -- src/faults.rt:72:1
 returns-2 : tie.Need-returns-2 Inv-loop μ-loop
-returns-2 c = sym (c .before .loop .inv .1 ∙ under-none (c .before .before .before .args .table .now) (c .before .before .before .args .p) (c .before .before .before .pre .2) (c .before .loop .a) (c .loop-test .left))
+returns-2 c = sym (c .before .loop .inv .1 ∙ under-none (c .before .before .before .args .table .now)
+    (c .before .before .before .args .p) (c .before .before .before .pre .2) (c .before .loop .a) (c .loop-test .left))
 
 pub under-last-spec : {M : Type 1} → statement M
 under-last-spec =

@@ -38,22 +38,53 @@ cast-n c = search needs
 -- src/frame.rt:114:9
 returns-2 : tie.Need-returns-2
 unfolding frameNumber sizes whole functions nodes
-returns-2 c = simp (le-leb 4 _ (c .before .before .before .if1 .left), sym (c .before .before .two-at .ensures), lt-leb 1 _ (c .if2 .taken))
+returns-2 c = simp (
+  le-leb 4 _ (c .before .before .before .if1 .left),
+  sym (c .before .before .two-at .ensures),
+  lt-leb 1 _
+      (c .if2 .taken),
+)
 
 -- src/frame.rt:117:9
 returns-3 : tie.Need-returns-3
 unfolding frameNumber sizes whole functions nodes
-returns-3 c = simp (le-leb 4 _ (c .before .before .before .before .if1 .left), sym (c .before .before .before .two-at .ensures), le-leb 1 _ (c .before .if2 .left), lt-leb _ 32 (c .if3 .taken))
+returns-3 c = simp (
+  le-leb 4 _ (c .before .before .before .before .if1 .left),
+  sym (c .before .before .before .two-at .ensures),
+  le-leb
+      1 _ (c .before .if2 .left),
+  lt-leb _ 32 (c .if3 .taken),
+)
 
 -- src/frame.rt:120:9
 returns-4 : tie.Need-returns-4
 unfolding frameNumber sizes whole functions nodes
-returns-4 c = simp (le-leb 4 _ (c .before .before .before .before .before .if1 .left), sym (c .before .before .before .before .two-at .ensures), sym (c .before .before .before .two-at2 .ensures), le-leb 1 _ (c .before .before .if2 .left), le-leb _ 32 (c .before .if3 .left), lt-leb 1 _ (c .if4 .taken))
+returns-4 c = simp (
+  le-leb 4 _ (c .before .before .before .before .before .if1 .left),
+  sym
+      (c .before .before .before .before .two-at .ensures),
+  sym (c .before .before .before .two-at2 .ensures),
+  le-leb 1 _
+      (c .before .before .if2 .left),
+  le-leb _ 32 (c .before .if3 .left),
+  lt-leb 1 _ (c .if4 .taken),
+)
 
 -- src/frame.rt:123:9
 returns-5 : tie.Need-returns-5
 unfolding frameNumber sizes whole functions nodes
-returns-5 c = simp (le-leb 4 _ (c .before .before .before .before .before .before .if1 .left), sym (c .before .before .before .before .before .two-at .ensures), sym (c .before .before .before .before .two-at2 .ensures), le-leb 1 _ (c .before .before .before .if2 .left), le-leb _ 32 (c .before .before .if3 .left), le-leb 1 _ (c .before .if4 .left), lt-leb _ 512 (c .if5 .taken))
+returns-5 c = simp (
+  le-leb 4 _ (c .before .before .before .before .before .before .if1 .left),
+  sym
+      (c .before .before .before .before .before .two-at .ensures),
+  sym (c .before .before .before .before .two-at2 .ensures),
+  le-leb 1 _
+      (c .before .before .before .if2 .left),
+  le-leb _ 32 (c .before .before .if3 .left),
+  le-leb 1 _ (c .before .if4 .left),
+  lt-leb _ 512
+      (c .if5 .taken),
+)
 
 -- src/frame.rt:125:19
 mul-if6 : tie.Need-mul-if6
@@ -74,12 +105,38 @@ add-if6-2 c = search needs
 -- src/frame.rt:126:9
 returns-6 : tie.Need-returns-6
 unfolding frameNumber sizes whole functions nodes
-returns-6 c = simp (le-leb 4 _ (c .before .before .before .before .before .before .before .if1 .left), sym (c .before .before .before .before .before .before .two-at .ensures), sym (c .before .before .before .before .before .two-at2 .ensures), le-leb 1 _ (c .before .before .before .before .if2 .left), le-leb _ 32 (c .before .before .before .if3 .left), le-leb 1 _ (c .before .before .if4 .left), le-leb _ 512 (c .before .if5 .left), ne-eqb _ _ (c .if6 .taken))
+returns-6 c = simp (
+  le-leb 4 _ (c .before .before .before .before .before .before .before .if1 .left),
+  sym
+      (c .before .before .before .before .before .before .two-at .ensures),
+  sym
+      (c .before .before .before .before .before .two-at2 .ensures),
+  le-leb 1 _ (c .before .before .before .before .if2 .left),
+  le-leb _
+      32 (c .before .before .before .if3 .left),
+  le-leb 1 _ (c .before .before .if4 .left),
+  le-leb _ 512 (c .before .if5 .left),
+  ne-eqb _
+      _ (c .if6 .taken),
+)
 
 -- src/frame.rt:104:1
 returns-7 : tie.Need-returns-7
 unfolding frameNumber sizes whole functions nodes
-returns-7 c = simp (le-leb 4 _ (c .before .before .before .before .before .before .before .if1 .left), sym (c .before .before .before .before .before .before .two-at .ensures), sym (c .before .before .before .before .before .two-at2 .ensures), le-leb 1 _ (c .before .before .before .before .if2 .left), le-leb _ 32 (c .before .before .before .if3 .left), le-leb 1 _ (c .before .before .if4 .left), le-leb _ 512 (c .before .if5 .left), eq-eqb _ _ (c .if6 .left))
+returns-7 c = simp (
+  le-leb 4 _ (c .before .before .before .before .before .before .before .if1 .left),
+  sym
+      (c .before .before .before .before .before .before .two-at .ensures),
+  sym
+      (c .before .before .before .before .before .two-at2 .ensures),
+  le-leb 1 _ (c .before .before .before .before .if2 .left),
+  le-leb _
+      32 (c .before .before .before .if3 .left),
+  le-leb 1 _ (c .before .before .if4 .left),
+  le-leb _ 512 (c .before .if5 .left),
+  eq-eqb _
+      _ (c .if6 .left),
+)
 
 pub number-spec : {M : Type 1} → statement M
 number-spec =

@@ -46,7 +46,14 @@ params-at-requires c κs = (c .before .before .before .before .pre, (omega arith
 
 -- src/frame.rt:164:46
 spare-at-requires : tie.Need-spare-at-requires Inv-loop μ-loop
-spare-at-requires c κs = (c .before .before .before .before .before .pre, (omega arith, omega (arith, c .before .before .before .last-function .ensures)))
+spare-at-requires c κs = (
+  c .before .before .before .before .before .pre,
+  (
+    omega arith,
+    omega
+        (arith, c .before .before .before .last-function .ensures),
+  ),
+)
 
 -- src/frame.rt:164:13
 record-fits-requires : tie.Need-record-fits-requires Inv-loop μ-loop
@@ -55,7 +62,12 @@ record-fits-requires c κs = search needs
 -- src/frame.rt:165:13
 returns : tie.Need-returns Inv-loop μ-loop
 unfolding recordFits
-returns c = let e = c .before .record-fits .ensures ∙ ap₂ (λ n m. leb n 8 && eqb m 0) (c .before .before .before .params-at .ensures) (c .before .before .spare-at .ensures) in sym (all-fails (recordFits (c .before .before .before .before .before .before .before .before .args .table .now)) (functions (c .before .before .before .before .before .before .before .before .args .table .now)) (c .before .before .before .before .before .loop .f + 1) (omega arith) (omega (arith, c .before .before .before .before .before .before .last-function .ensures)) (sym e ∙ not-true _ (c .if1 .taken)))
+returns c = let e = c .before .record-fits .ensures ∙ ap₂ (λ n m. leb n 8 && eqb m 0) (c .before .before .before .params-at .ensures)
+    (c .before .before .spare-at .ensures) in sym (all-fails (recordFits
+    (c .before .before .before .before .before .before .before .before .args .table .now))
+    (functions (c .before .before .before .before .before .before .before .before .args .table .now))
+    (c .before .before .before .before .before .loop .f + 1) (omega arith)
+    (omega (arith, c .before .before .before .before .before .before .last-function .ensures)) (sym e ∙ not-true _ (c .if1 .taken)))
 
 -- src/frame.rt:162:5
 loop-less : tie.Need-loop-less Inv-loop μ-loop
@@ -64,11 +76,19 @@ loop-less c = omega arith
 -- src/frame.rt:162:5
 loop-again : tie.Need-loop-again Inv-loop μ-loop
 unfolding recordFits
-loop-again c = let e = c .before .record-fits .ensures ∙ ap₂ (λ n m. leb n 8 && eqb m 0) (c .before .before .before .params-at .ensures) (c .before .before .spare-at .ensures) in (omega arith, all-more (recordFits (c .before .before .before .before .before .before .before .before .args .table .now)) (c .before .before .before .before .before .loop .f) (c .before .before .before .before .before .loop .inv .1) (sym e ∙ not-false _ (c .if1 .left)))
+loop-again c = let e = c .before .record-fits .ensures ∙ ap₂ (λ n m. leb n 8 && eqb m 0) (c .before .before .before .params-at .ensures)
+    (c .before .before .spare-at .ensures) in (
+      omega arith,
+      all-more (recordFits
+          (c .before .before .before .before .before .before .before .before .args .table .now))
+          (c .before .before .before .before .before .loop .f) (c .before .before .before .before .before .loop .inv .1)
+          (sym e ∙ not-false _ (c .if1 .left)),
+    )
 
 -- src/frame.rt:156:1
 returns-2 : tie.Need-returns-2 Inv-loop μ-loop
-returns-2 c = let e : c .before .loop .f ≡ functions (c .before .before .before .before .args .table .now) = omega (arith, c .before .before .last-function .ensures) in sym (rw e at (c .before .loop .inv .1))
+returns-2 c = let e : c .before .loop .f ≡ functions (c .before .before .before .before .args .table .now) = omega
+    (arith, c .before .before .last-function .ensures) in sym (rw e at (c .before .loop .inv .1))
 
 pub records-fit-spec : {M : Type 1} → statement M
 records-fit-spec =

@@ -46,7 +46,14 @@ add-f c = omega arith
 
 -- src/frame.rt:141:23
 root-at-requires : tie.Need-root-at-requires Inv-loop μ-loop
-root-at-requires c κs = (c .before .before .before .before .before .pre, (omega arith, omega (arith, c .before .before .before .last-function .ensures)))
+root-at-requires c κs = (
+  c .before .before .before .before .before .pre,
+  (
+    omega arith,
+    omega
+        (arith, c .before .before .before .last-function .ensures),
+  ),
+)
 
 -- src/frame.rt:141:13
 root-fits-requires : tie.Need-root-fits-requires Inv-loop μ-loop
@@ -55,7 +62,12 @@ root-fits-requires c κs = search needs
 -- src/frame.rt:142:13
 returns : tie.Need-returns Inv-loop μ-loop
 unfolding rootFits
-returns c = let e = c .before .root-fits .ensures ∙ ap₂ (λ n m. among 1 n m) (c .before .before .before .before .before .last-node .ensures) (c .before .before .root-at .ensures) in sym (all-fails (rootFits (c .before .before .before .before .before .before .before .before .args .table .now)) (functions (c .before .before .before .before .before .before .before .before .args .table .now)) (c .before .before .before .before .loop .f + 1) (omega arith) (omega (arith, c .before .before .before .before .before .before .last-function .ensures)) (sym e ∙ not-true _ (c .if1 .taken)))
+returns c = let e = c .before .root-fits .ensures ∙ ap₂ (λ n m. among 1 n m)
+    (c .before .before .before .before .before .last-node .ensures) (c .before .before .root-at .ensures) in sym
+    (all-fails (rootFits (c .before .before .before .before .before .before .before .before .args .table .now))
+    (functions (c .before .before .before .before .before .before .before .before .args .table .now))
+    (c .before .before .before .before .loop .f + 1) (omega arith)
+    (omega (arith, c .before .before .before .before .before .before .last-function .ensures)) (sym e ∙ not-true _ (c .if1 .taken)))
 
 -- src/frame.rt:139:5
 loop-less : tie.Need-loop-less Inv-loop μ-loop
@@ -64,11 +76,18 @@ loop-less c = omega arith
 -- src/frame.rt:139:5
 loop-again : tie.Need-loop-again Inv-loop μ-loop
 unfolding rootFits
-loop-again c = let e = c .before .root-fits .ensures ∙ ap₂ (λ n m. among 1 n m) (c .before .before .before .before .before .last-node .ensures) (c .before .before .root-at .ensures) in (omega arith, all-more (rootFits (c .before .before .before .before .before .before .before .before .args .table .now)) (c .before .before .before .before .loop .f) (c .before .before .before .before .loop .inv .1) (sym e ∙ not-false _ (c .if1 .left)))
+loop-again c = let e = c .before .root-fits .ensures ∙ ap₂ (λ n m. among 1 n m)
+    (c .before .before .before .before .before .last-node .ensures) (c .before .before .root-at .ensures) in (
+      omega arith,
+      all-more (rootFits (c .before .before .before .before .before .before .before .before .args .table .now))
+          (c .before .before .before .before .loop .f) (c .before .before .before .before .loop .inv .1)
+          (sym e ∙ not-false _ (c .if1 .left)),
+    )
 
 -- src/frame.rt:132:1
 returns-2 : tie.Need-returns-2 Inv-loop μ-loop
-returns-2 c = let e : c .before .loop .f ≡ functions (c .before .before .before .before .before .args .table .now) = omega (arith, c .before .before .before .last-function .ensures) in sym (rw e at (c .before .loop .inv .1))
+returns-2 c = let e : c .before .loop .f ≡ functions (c .before .before .before .before .before .args .table .now) = omega
+    (arith, c .before .before .before .last-function .ensures) in sym (rw e at (c .before .loop .inv .1))
 
 pub roots-fit-spec : {M : Type 1} → statement M
 roots-fit-spec =

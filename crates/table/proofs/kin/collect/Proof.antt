@@ -68,15 +68,37 @@ mul-owner-of c = search needs
 
 -- src/kin.rt:77:32
 element-copy-out-owner-of : tie.Need-element-copy-out-owner-of Inv-loop μ-loop
-element-copy-out-owner-of c = omega (arith, c .before .before .before .last-node .ensures, c .before .before .before .before .before .before .pre .0 .N-high)
+element-copy-out-owner-of c = omega (
+  arith,
+  c .before .before .before .last-node .ensures,
+  c .before .before .before .before .before .before .pre .0 .N-high,
+)
 
 -- src/kin.rt:77:48
 mul-owner-of-2 : tie.Need-mul-owner-of-2 Inv-loop μ-loop
-mul-owner-of-2 c = let t = c .before .before .before .before .before .before .before .args .table .now in let n = c .before .before .before .loop .n + 1 in let q = c .before .before .before .before .before .before .before .pre .1 .holders n (omega arith, omega (arith, c .before .before .before .before .last-node .ensures)) in let w = namer-lower t n (omega arith) in omega (arith, q, w, c .before .before .before .before .last-node .ensures, c .before .before .before .before .before .before .before .pre .0 .N-high)
+mul-owner-of-2 c = let t = c .before .before .before .before .before .before .before .args .table .now in let n =
+    c .before .before .before .loop .n + 1 in let q = c .before .before .before .before .before .before .before .pre .1 .holders n
+    (omega arith, omega (arith, c .before .before .before .before .last-node .ensures)) in let w = namer-lower t n (omega arith) in
+    omega (
+      arith,
+      q,
+      w,
+      c .before .before .before .before .last-node .ensures,
+      c .before .before .before .before .before .before .before .pre .0 .N-high,
+    )
 
 -- src/kin.rt:77:48
 array-read-owner-of : tie.Need-array-read-owner-of Inv-loop μ-loop
-array-read-owner-of c = let t = c .before .before .before .before .before .before .before .args .table .now in let n = c .before .before .before .loop .n + 1 in let q = c .before .before .before .before .before .before .before .pre .1 .holders n (omega arith, omega (arith, c .before .before .before .before .last-node .ensures)) in let w = namer-lower t n (omega arith) in omega (arith, q, w, c .before .before .before .before .last-node .ensures, c .before .before .before .before .before .before .before .pre .0 .N-high)
+array-read-owner-of c = let t = c .before .before .before .before .before .before .before .args .table .now in let n =
+    c .before .before .before .loop .n + 1 in let q = c .before .before .before .before .before .before .before .pre .1 .holders n
+    (omega arith, omega (arith, c .before .before .before .before .last-node .ensures)) in let w = namer-lower t n (omega arith) in
+    omega (
+      arith,
+      q,
+      w,
+      c .before .before .before .before .last-node .ensures,
+      c .before .before .before .before .before .before .before .pre .0 .N-high,
+    )
 
 -- src/kin.rt:77:20
 owner-of-requires : tie.Need-owner-of-requires Inv-loop μ-loop
@@ -88,19 +110,57 @@ mul-owner c = search needs
 
 -- src/kin.rt:77:9
 array-write-owner : tie.Need-array-write-owner Inv-loop μ-loop
-array-write-owner c = omega (arith, c .before .before .before .before .before .last-node .ensures, c .before .before .before .before .before .before .before .before .pre .0 .N-high)
+array-write-owner c = omega (
+  arith,
+  c .before .before .before .before .before .last-node .ensures,
+  c .before .before .before .before .before .before .before .before .pre .0 .N-high,
+)
 
 -- src/kin.rt:78:47
 mul-parent-of : tie.Need-mul-parent-of Inv-loop μ-loop
-mul-parent-of c = let t = c .before .before .before .before .before .before .before .before .args .table .now in let n = c .before .before .before .before .loop .n + 1 in let q = c .before .before .before .before .before .before .before .before .pre .1 .holders n (omega arith, omega (arith, c .before .before .before .before .before .last-node .ensures)) in let w = namer-lower t n (omega arith) in omega (arith, q, w, c .before .before .before .before .before .last-node .ensures, c .before .before .before .before .before .before .before .before .pre .0 .N-high)
+mul-parent-of c = let t = c .before .before .before .before .before .before .before .before .args .table .now in let n =
+    c .before .before .before .before .loop .n + 1 in let q =
+    c .before .before .before .before .before .before .before .before .pre .1 .holders n
+    (omega arith, omega (arith, c .before .before .before .before .before .last-node .ensures)) in let w = namer-lower t n (omega arith)
+    in omega (
+      arith,
+      q,
+      w,
+      c .before .before .before .before .before .last-node .ensures,
+      c .before .before .before .before .before .before .before .before .pre .0 .N-high,
+    )
 
 -- src/kin.rt:78:47
 array-read-parent-of : tie.Need-array-read-parent-of Inv-loop μ-loop
-array-read-parent-of c = let t = c .before .before .before .before .before .before .before .before .args .table .now in let n = c .before .before .before .before .loop .n + 1 in let q = c .before .before .before .before .before .before .before .before .pre .1 .holders n (omega arith, omega (arith, c .before .before .before .before .before .last-node .ensures)) in let w = namer-lower t n (omega arith) in omega (arith, q, w, c .before .before .before .before .before .last-node .ensures, c .before .before .before .before .before .before .before .before .pre .0 .N-high)
+array-read-parent-of c = let t = c .before .before .before .before .before .before .before .before .args .table .now in let n =
+    c .before .before .before .before .loop .n + 1 in let q =
+    c .before .before .before .before .before .before .before .before .pre .1 .holders n
+    (omega arith, omega (arith, c .before .before .before .before .before .last-node .ensures)) in let w = namer-lower t n (omega arith)
+    in omega (
+      arith,
+      q,
+      w,
+      c .before .before .before .before .before .last-node .ensures,
+      c .before .before .before .before .before .before .before .before .pre .0 .N-high,
+    )
 
 -- src/kin.rt:78:13
 parent-of-requires : tie.Need-parent-of-requires Inv-loop μ-loop
-parent-of-requires c κs = let t = c .before .before .before .before .before .before .before .before .args .table .now in let n = c .before .before .before .before .loop .n + 1 in let q = c .before .before .before .before .before .before .before .before .pre .1 .holders n (omega arith, omega (arith, c .before .before .before .before .before .last-node .ensures)) in let w = namer-lower t n (omega arith) in (record { framed = c .before .before .before .before .before .before .before .before .pre .0; start = c .before .before .before .before .before .before .base .ensures; low = omega arith; high = omega (arith, c .before .before .before .before .before .last-node .ensures) }, omega (arith, q, w))
+parent-of-requires c κs = let t = c .before .before .before .before .before .before .before .before .args .table .now in let n =
+    c .before .before .before .before .loop .n + 1 in let q =
+    c .before .before .before .before .before .before .before .before .pre .1 .holders n
+    (omega arith, omega (arith, c .before .before .before .before .before .last-node .ensures)) in let w = namer-lower t n (omega arith)
+    in (
+      record {
+        framed = c .before .before .before .before .before .before .before .before .pre .0;
+        start =
+            c .before .before .before .before .before .before .base .ensures;
+        low = omega arith;
+        high = omega
+            (arith, c .before .before .before .before .before .last-node .ensures);
+      },
+      omega (arith, q, w),
+    )
 
 -- src/kin.rt:79:9
 mul-parent : tie.Need-mul-parent Inv-loop μ-loop
@@ -108,7 +168,11 @@ mul-parent c = search needs
 
 -- src/kin.rt:79:9
 array-write-parent : tie.Need-array-write-parent Inv-loop μ-loop
-array-write-parent c = omega (arith, c .before .before .before .before .before .before .last-node .ensures, c .before .before .before .before .before .before .before .before .before .pre .0 .N-high)
+array-write-parent c = omega (
+  arith,
+  c .before .before .before .before .before .before .last-node .ensures,
+  c .before .before .before .before .before .before .before .before .before .pre .0 .N-high,
+)
 
 -- src/kin.rt:80:17
 cast-p : tie.Need-cast-p Inv-loop μ-loop
@@ -116,15 +180,69 @@ cast-p c = search needs
 
 -- src/kin.rt:81:46
 array-read-tail-of : tie.Need-array-read-tail-of Inv-loop μ-loop
-array-read-tail-of c = let t = c .before .before .before .before .before .before .before .before .before .args .table .now in let n = c .before .before .before .before .before .loop .n + 1 in let q = c .before .before .before .before .before .before .before .before .before .pre .1 .holders n (omega arith, omega (arith, c .before .before .before .before .before .before .last-node .ensures)) in let w = namer-lower t n (omega arith) in omega (arith, parent-below t (c .before .before .before .before .before .loop .owner) (c .before .before .before .before .before .loop .parent) (c .before .before .before .before .before .loop .tail) (c .before .before .before .before .before .loop .n) (c .before .before .before .before .before .loop .inv .1) (omega (arith, c .before .before .before .before .before .before .last-node .ensures, c .before .before .before .before .before .before .before .before .before .pre .0 .N-high)) _ _ (c .before .owner-of .result) (c .parent-of .result) q (c .before .before .before .before .before .before .before .before .before .pre .1 .tops n (omega arith, omega (arith, c .before .before .before .before .before .before .last-node .ensures))) (c .before .owner-of .ensures) (c .parent-of .ensures), c .before .before .before .before .before .before .last-node .ensures, c .before .before .before .before .before .before .before .before .before .pre .0 .N-high)
+array-read-tail-of c = let t = c .before .before .before .before .before .before .before .before .before .args .table .now in let n =
+    c .before .before .before .before .before .loop .n + 1 in let q =
+    c .before .before .before .before .before .before .before .before .before .pre .1 .holders n
+    (omega arith, omega (arith, c .before .before .before .before .before .before .last-node .ensures)) in let w = namer-lower t n
+    (omega arith) in omega (
+      arith,
+      parent-below t (c .before .before .before .before .before .loop .owner)
+          (c .before .before .before .before .before .loop .parent) (c .before .before .before .before .before .loop .tail)
+          (c .before .before .before .before .before .loop .n) (c .before .before .before .before .before .loop .inv .1)
+          (omega (
+            arith,
+            c .before .before .before .before .before .before .last-node .ensures,
+            c .before .before .before .before .before .before .before .before .before .pre .0 .N-high,
+          )) _ _ (c .before .owner-of .result)
+          (c .parent-of .result) q (c .before .before .before .before .before .before .before .before .before .pre .1 .tops n (
+            omega arith,
+            omega (arith, c .before .before .before .before .before .before .last-node .ensures),
+          )) (c .before .owner-of .ensures)
+          (c .parent-of .ensures),
+      c .before .before .before .before .before .before .last-node .ensures,
+      c .before .before .before .before .before .before .before .before .before .pre .0 .N-high,
+    )
 
 -- src/kin.rt:81:19
 tail-of-requires : tie.Need-tail-of-requires Inv-loop μ-loop
-tail-of-requires c κs = let t = c .before .before .before .before .before .before .before .before .before .args .table .now in let n = c .before .before .before .before .before .loop .n + 1 in let q = c .before .before .before .before .before .before .before .before .before .pre .1 .holders n (omega arith, omega (arith, c .before .before .before .before .before .before .last-node .ensures)) in let w = namer-lower t n (omega arith) in (record { framed = c .before .before .before .before .before .before .before .before .before .pre .0; start = c .before .before .before .before .before .before .before .base .ensures; low = omega arith; high = omega (arith, c .before .before .before .before .before .before .last-node .ensures) }, omega (arith, parent-below t (c .before .before .before .before .before .loop .owner) (c .before .before .before .before .before .loop .parent) (c .before .before .before .before .before .loop .tail) (c .before .before .before .before .before .loop .n) (c .before .before .before .before .before .loop .inv .1) (omega (arith, c .before .before .before .before .before .before .last-node .ensures, c .before .before .before .before .before .before .before .before .before .pre .0 .N-high)) _ _ (c .before .owner-of .result) (c .parent-of .result) q (c .before .before .before .before .before .before .before .before .before .pre .1 .tops n (omega arith, omega (arith, c .before .before .before .before .before .before .last-node .ensures))) (c .before .owner-of .ensures) (c .parent-of .ensures)))
+tail-of-requires c κs = let t = c .before .before .before .before .before .before .before .before .before .args .table .now in let n =
+    c .before .before .before .before .before .loop .n + 1 in let q =
+    c .before .before .before .before .before .before .before .before .before .pre .1 .holders n
+    (omega arith, omega (arith, c .before .before .before .before .before .before .last-node .ensures)) in let w = namer-lower t n
+    (omega arith) in (
+      record {
+        framed = c .before .before .before .before .before .before .before .before .before .pre .0;
+        start =
+            c .before .before .before .before .before .before .before .base .ensures;
+        low = omega arith;
+        high = omega
+            (arith, c .before .before .before .before .before .before .last-node .ensures);
+      },
+      omega (
+        arith,
+        parent-below t (c .before .before .before .before .before .loop .owner)
+            (c .before .before .before .before .before .loop .parent) (c .before .before .before .before .before .loop .tail)
+            (c .before .before .before .before .before .loop .n) (c .before .before .before .before .before .loop .inv .1)
+            (omega (
+              arith,
+              c .before .before .before .before .before .before .last-node .ensures,
+              c .before .before .before .before .before .before .before .before .before .pre .0 .N-high,
+            )) _ _ (c .before .owner-of .result)
+            (c .parent-of .result) q (c .before .before .before .before .before .before .before .before .before .pre .1 .tops n (
+              omega arith,
+              omega (arith, c .before .before .before .before .before .before .last-node .ensures),
+            )) (c .before .owner-of .ensures)
+            (c .parent-of .ensures),
+      ),
+    )
 
 -- src/kin.rt:81:9
 array-write-tail : tie.Need-array-write-tail Inv-loop μ-loop
-array-write-tail c = omega (arith, c .before .before .before .before .before .before .before .last-node .ensures, c .before .before .before .before .before .before .before .before .before .before .pre .0 .N-high)
+array-write-tail c = omega (
+  arith,
+  c .before .before .before .before .before .before .before .last-node .ensures,
+  c .before .before .before .before .before .before .before .before .before .before .pre .0 .N-high,
+)
 
 -- src/kin.rt:74:5
 loop-less : tie.Need-loop-less Inv-loop μ-loop
@@ -132,11 +250,31 @@ loop-less c = omega arith
 
 -- src/kin.rt:74:5
 loop-again : tie.Need-loop-again Inv-loop μ-loop
-loop-again c = let t = c .before .before .before .before .before .before .before .before .before .before .args .table .now in let n = c .before .before .before .before .before .before .loop .n + 1 in let q = c .before .before .before .before .before .before .before .before .before .before .pre .1 .holders n (omega arith, omega (arith, c .before .before .before .before .before .before .before .last-node .ensures)) in let w = namer-lower t n (omega arith) in (omega arith, kin-more t (c .before .before .before .before .before .before .loop .owner) (c .before .before .before .before .before .before .loop .parent) (c .before .before .before .before .before .before .loop .tail) (c .before .before .before .before .before .before .loop .n) (c .before .before .before .before .before .before .loop .inv .1) (omega (arith, c .before .before .before .before .before .before .before .last-node .ensures, c .before .before .before .before .before .before .before .before .before .before .pre .0 .N-high)) _ _ (c .before .before .owner-of .result) (c .before .parent-of .result) q (c .before .before .before .before .before .before .before .before .before .before .pre .1 .tops n (omega arith, omega (arith, c .before .before .before .before .before .before .before .last-node .ensures))) (c .before .before .owner-of .ensures) (c .before .parent-of .ensures) (c .tail-of .result) (c .tail-of .ensures))
+loop-again c = let t = c .before .before .before .before .before .before .before .before .before .before .args .table .now in let n =
+    c .before .before .before .before .before .before .loop .n + 1 in let q =
+    c .before .before .before .before .before .before .before .before .before .before .pre .1 .holders n
+    (omega arith, omega (arith, c .before .before .before .before .before .before .before .last-node .ensures)) in let w = namer-lower t
+    n (omega arith) in (
+      omega arith,
+      kin-more t (c .before .before .before .before .before .before .loop .owner)
+          (c .before .before .before .before .before .before .loop .parent) (c .before .before .before .before .before .before .loop .tail)
+          (c .before .before .before .before .before .before .loop .n) (c .before .before .before .before .before .before .loop .inv .1)
+          (omega (
+            arith,
+            c .before .before .before .before .before .before .before .last-node .ensures,
+            c .before .before .before .before .before .before .before .before .before .before .pre .0 .N-high,
+          )) _ _
+          (c .before .before .owner-of .result) (c .before .parent-of .result) q
+          (c .before .before .before .before .before .before .before .before .before .before .pre .1 .tops n
+          (omega arith, omega (arith, c .before .before .before .before .before .before .before .last-node .ensures)))
+          (c .before .before .owner-of .ensures) (c .before .parent-of .ensures) (c .tail-of .result) (c .tail-of .ensures),
+    )
 
 -- src/kin.rt:64:1
 returns : tie.Need-returns Inv-loop μ-loop
-returns c = let t = c .before .before .before .before .before .args .table .now in let e : c .before .loop .n ≡ nodes t = omega (arith, c .before .before .last-node .ensures) in kin-all t (c .before .loop .owner) (c .before .loop .parent) (c .before .loop .tail) (c .before .before .before .before .before .pre .0) (rw e at (c .before .loop .inv .1))
+returns c = let t = c .before .before .before .before .before .args .table .now in let e : c .before .loop .n ≡ nodes t = omega
+    (arith, c .before .before .last-node .ensures) in kin-all t (c .before .loop .owner) (c .before .loop .parent)
+    (c .before .loop .tail) (c .before .before .before .before .before .pre .0) (rw e at (c .before .loop .inv .1))
 
 pub collect-spec : {M : Type 1} → statement M
 collect-spec =

@@ -51,11 +51,21 @@ loop-less c = omega arith
 
 -- src/kin.rt:99:5
 loop-again : tie.Need-loop-again Inv-loop μ-loop
-loop-again c = let a = c .before .before .args .t1 in let n : length a ≡ 513 = search needs in let m = length-map a asNode in let i = c .before .loop .i in let inv = c .before .loop .inv in let z = length-replicate 513 (asNode 0) in (omega arith, (length-set (c .before .loop .r) i (asNode (getD a i 0)) ∙ inv .1 .0, copied-more (asNode 0) _ i (map asNode a) _ (c .before .loop .r) (omega arith) (omega arith) (inv .1 .1) (sym (List·getD-map asNode a i 0))))
+loop-again c = let a = c .before .before .args .t1 in let n : length a ≡ 513 = search needs in let m = length-map a asNode in let i =
+    c .before .loop .i in let inv = c .before .loop .inv in let z = length-replicate 513 (asNode 0) in (
+      omega arith,
+      (
+        length-set (c .before .loop .r) i (asNode (getD a i 0)) ∙ inv .1 .0,
+        copied-more (asNode 0) _ i (map asNode a) _
+            (c .before .loop .r) (omega arith) (omega arith) (inv .1 .1) (sym (List·getD-map asNode a i 0)),
+      ),
+    )
 
 -- src/kin.rt:94:1
 returns : tie.Need-returns Inv-loop μ-loop
-returns c = let a = c .before .before .args .t1 in let n : length a ≡ 513 = search needs in let m = length-map a asNode in let z = length-replicate 513 (asNode 0) in copied-all (map asNode a) _ (c .before .loop .r) (c .before .loop .i) (z ∙ sym n ∙ sym m) (omega arith) (c .before .loop .inv .1 .1)
+returns c = let a = c .before .before .args .t1 in let n : length a ≡ 513 = search needs in let m = length-map a asNode in let z =
+    length-replicate 513 (asNode 0) in copied-all (map asNode a) _ (c .before .loop .r) (c .before .loop .i) (z ∙ sym n ∙ sym m)
+    (omega arith) (c .before .loop .inv .1 .1)
 
 pub nodes-spec : {M : Type 1} → statement M
 nodes-spec =

@@ -16,7 +16,8 @@ returns c = simp (eq-eqb _ _ (c .if1 .taken))
 
 -- src/kin.rt:39:9
 first-at-requires : tie.Need-first-at-requires
-first-at-requires c κs = let p = c .before .before .pre in record { framed = p .0 .framed; start = p .0 .start; low = omega arith; high = omega (arith, p .0 .high) }
+first-at-requires c κs = let p = c .before .before .pre in record
+    { framed = p .0 .framed; start = p .0 .start; low = omega arith; high = omega (arith, p .0 .high) }
 
 -- src/kin.rt:40:9
 cast-if2 : tie.Need-cast-if2

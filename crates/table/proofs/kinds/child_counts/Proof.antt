@@ -37,7 +37,12 @@ returns-4 c = rw (c .match .keys4)
 -- src/kinds.rt:24:1
 returns-5 : tie.Need-returns-5
 unfolding countsOf
-returns-5 c = let k = c .before .args .kind in simp (ne-eqb k 3 (c .match .rest .0 .0 .0 .1), ne-eqb k 4 (c .match .rest .0 .0 .1), ne-eqb k 5 (c .match .rest .0 .1), ne-eqb k 6 (c .match .rest .1))
+returns-5 c = let k = c .before .args .kind in simp (
+  ne-eqb k 3 (c .match .rest .0 .0 .0 .1),
+  ne-eqb k 4 (c .match .rest .0 .0 .1),
+  ne-eqb k 5 (c .match .rest .0 .1),
+  ne-eqb k 6 (c .match .rest .1),
+)
 
 pub child-counts-spec : {M : Type 1} → statement M
 child-counts-spec =

@@ -14,12 +14,20 @@ returns c = rw (c .match .keys1)
 -- src/kinds.rt:12:1
 returns-2 : tie.Need-returns-2
 unfolding operationCounts
-returns-2 c = let o = c .before .before .before .args .op in simp (lt-leb o 4 (omega arith), lt-leb 8 o (omega arith), le-leb 5 o (omega arith), le-leb o 7 (omega arith))
+returns-2 c = let o = c .before .before .before .args .op in simp
+    (lt-leb o 4 (omega arith), lt-leb 8 o (omega arith), le-leb 5 o (omega arith), le-leb o 7 (omega arith))
 
 -- src/kinds.rt:12:1
 returns-3 : tie.Need-returns-3
 unfolding operationCounts
-returns-3 c = let o = c .before .before .before .before .args .op in simp (lt-leb o 4 (omega arith), le-leb 8 o (omega arith), lt-leb o 9 (omega arith), le-leb 5 o (omega arith), lt-leb o 7 (omega arith), ne-eqb o 10 (c .before .before .before .match .rest .1))
+returns-3 c = let o = c .before .before .before .before .args .op in simp (
+  lt-leb o 4 (omega arith),
+  le-leb 8 o (omega arith),
+  lt-leb o 9 (omega arith),
+  le-leb 5 o (omega arith),
+  lt-leb o 7 (omega arith),
+  ne-eqb o 10 (c .before .before .before .match .rest .1),
+)
 
 -- src/kinds.rt:12:1
 returns-4 : tie.Need-returns-4
@@ -29,7 +37,8 @@ returns-4 c = let o = c .before .before .args .op in simp (le-leb o 4 (omega ari
 -- src/kinds.rt:12:1
 returns-5 : tie.Need-returns-5
 unfolding operationCounts
-returns-5 c = let o = c .before .before .before .before .args .op in simp (lt-leb o 4 (omega arith), le-leb 8 o (omega arith), le-leb o 9 (omega arith))
+returns-5 c = let o = c .before .before .before .before .args .op in simp
+    (lt-leb o 4 (omega arith), le-leb 8 o (omega arith), le-leb o 9 (omega arith))
 
 pub operation-counts-spec : {M : Type 1} → statement M
 operation-counts-spec = tie.close (tie.spec returns returns-2 returns-3 returns-4 returns-5)

@@ -24,19 +24,25 @@ forward-requires-2 c κs = search needs
 
 -- src/names.rt:108:9
 returns-2 : tie.Need-returns-2
-returns-2 c = let d = sym (c .before .before .before .forward .ensures) ∙ not-false _ (c .before .before .if1 .left) in let e = sym (c .before .forward2 .ensures) ∙ not-true _ (c .if2 .taken) in simp (d, e)
+returns-2 c = let d = sym (c .before .before .before .forward .ensures) ∙ not-false _ (c .before .before .if1 .left) in let e = sym
+    (c .before .forward2 .ensures) ∙ not-true _ (c .if2 .taken) in simp (d, e)
 
 -- src/names.rt:111:9
 returns-3 : tie.Need-returns-3
-returns-3 c = let d = sym (c .before .before .before .before .forward .ensures) ∙ not-false _ (c .before .before .before .if1 .left) in let e = sym (c .before .before .forward2 .ensures) ∙ not-false _ (c .before .if2 .left) in simp (d, e, ne-eqb _ _ (c .if3 .taken))
+returns-3 c = let d = sym (c .before .before .before .before .forward .ensures) ∙ not-false _ (c .before .before .before .if1 .left) in
+    let e = sym (c .before .before .forward2 .ensures) ∙ not-false _ (c .before .if2 .left) in simp (d, e, ne-eqb _ _ (c .if3 .taken))
 
 -- src/names.rt:101:1
 returns-4 : tie.Need-returns-4
-returns-4 c = let d = sym (c .before .before .before .before .before .forward .ensures) ∙ not-false _ (c .before .before .before .before .if1 .left) in let e = sym (c .before .before .before .forward2 .ensures) ∙ not-false _ (c .before .before .if2 .left) in simp (d, e, eq-eqb _ _ (c .before .if3 .left), eq-eqb _ _ (c .if4 .taken))
+returns-4 c = let d = sym (c .before .before .before .before .before .forward .ensures) ∙ not-false _
+    (c .before .before .before .before .if1 .left) in let e = sym (c .before .before .before .forward2 .ensures) ∙ not-false _
+    (c .before .before .if2 .left) in simp (d, e, eq-eqb _ _ (c .before .if3 .left), eq-eqb _ _ (c .if4 .taken))
 
 -- src/names.rt:101:1
 returns-5 : tie.Need-returns-5
-returns-5 c = let d = sym (c .before .before .before .before .before .forward .ensures) ∙ not-false _ (c .before .before .before .before .if1 .left) in let e = sym (c .before .before .before .forward2 .ensures) ∙ not-false _ (c .before .before .if2 .left) in simp (d, e, eq-eqb _ _ (c .before .if3 .left), ne-eqb _ _ (c .if4 .left))
+returns-5 c = let d = sym (c .before .before .before .before .before .forward .ensures) ∙ not-false _
+    (c .before .before .before .before .if1 .left) in let e = sym (c .before .before .before .forward2 .ensures) ∙ not-false _
+    (c .before .before .if2 .left) in simp (d, e, eq-eqb _ _ (c .before .if3 .left), ne-eqb _ _ (c .if4 .left))
 
 pub linked-at-spec : {M : Type 1} → statement M
 linked-at-spec =

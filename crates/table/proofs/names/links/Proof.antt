@@ -45,7 +45,12 @@ last-node-requires c κs = c .before .before .pre .0
 
 -- src/names.rt:72:5
 loop-holds : tie.Need-loop-holds Inv-loop μ-loop
-loop-holds c = (omega arith, links-none (c .before .before .before .before .before .args .table .now) (c .before .before .before .before .before .args .tops) (search needs) (search needs) (c .before .before .before .before .before .pre .1))
+loop-holds c = (
+  omega arith,
+  links-none (c .before .before .before .before .before .args .table .now)
+      (c .before .before .before .before .before .args .tops) (search needs) (search needs)
+      (c .before .before .before .before .before .pre .1),
+)
 
 -- src/names.rt:73:9
 add-n : tie.Need-add-n Inv-loop μ-loop
@@ -53,11 +58,25 @@ add-n c = omega arith
 
 -- src/names.rt:74:13
 first-at-requires : tie.Need-first-at-requires Inv-loop μ-loop
-first-at-requires c κs = record { framed = c .before .before .before .before .before .before .before .pre .0; start = c .before .before .before .before .before .base .ensures; low = omega arith; high = omega (arith, c .before .before .before .before .last-node .ensures) }
+first-at-requires c κs = record {
+  framed = c .before .before .before .before .before .before .before .pre .0;
+  start =
+      c .before .before .before .before .before .base .ensures;
+  low = omega arith;
+  high = omega
+      (arith, c .before .before .before .before .last-node .ensures);
+}
 
 -- src/names.rt:75:13
 next-at-requires : tie.Need-next-at-requires Inv-loop μ-loop
-next-at-requires c κs = record { framed = c .before .before .before .before .before .before .before .before .pre .0; start = c .before .before .before .before .before .before .base .ensures; low = omega arith; high = omega (arith, c .before .before .before .before .before .last-node .ensures) }
+next-at-requires c κs = record {
+  framed = c .before .before .before .before .before .before .before .before .pre .0;
+  start =
+      c .before .before .before .before .before .before .base .ensures;
+  low = omega arith;
+  high = omega
+      (arith, c .before .before .before .before .before .last-node .ensures);
+}
 
 -- src/names.rt:76:13
 slot-requires : tie.Need-slot-requires Inv-loop μ-loop
@@ -73,7 +92,13 @@ array-read-mentions c = omega arith
 
 -- src/names.rt:77:23
 add-mentions : tie.Need-add-mentions Inv-loop μ-loop
-add-mentions c = omega (arith, c .before .before .before .before .loop .inv .1 .few (c .slot .result), c .before .before .before .before .before .before .before .last-node .ensures, c .before .before .before .before .before .before .before .before .before .before .pre .0 .N-high, c .before .before .before .before .before .before .before .before .before .before .pre .0 .F-high)
+add-mentions c = omega (
+  arith,
+  c .before .before .before .before .loop .inv .1 .few (c .slot .result),
+  c .before .before .before .before .before .before .before .last-node .ensures,
+  c .before .before .before .before .before .before .before .before .before .before .pre .0 .N-high,
+  c .before .before .before .before .before .before .before .before .before .before .pre .0 .F-high,
+)
 
 -- src/names.rt:77:9
 mul-mentions-2 : tie.Need-mul-mentions-2 Inv-loop μ-loop
@@ -97,7 +122,16 @@ array-read-mentions-2 c = omega arith
 
 -- src/names.rt:79:23
 add-mentions-2 : tie.Need-add-mentions-2 Inv-loop μ-loop
-add-mentions-2 c = let t = c .before .before .before .before .before .before .before .before .before .before .before .args .table .now in omega (arith, bumped-few (c .before .before .before .before .before .loop .mentions) (c .before .slot .result) (functions t + 2 * c .before .before .before .before .before .loop .n) (c .before .before .before .before .before .loop .inv .1 .few) (c .slot2 .result), c .before .before .before .before .before .before .before .before .last-node .ensures, c .before .before .before .before .before .before .before .before .before .before .before .pre .0 .N-high, c .before .before .before .before .before .before .before .before .before .before .before .pre .0 .F-high)
+add-mentions-2 c = let t = c .before .before .before .before .before .before .before .before .before .before .before .args .table .now
+    in omega (
+      arith,
+      bumped-few (c .before .before .before .before .before .loop .mentions) (c .before .slot .result)
+          (functions t + 2 * c .before .before .before .before .before .loop .n)
+          (c .before .before .before .before .before .loop .inv .1 .few) (c .slot2 .result),
+      c .before .before .before .before .before .before .before .before .last-node .ensures,
+      c .before .before .before .before .before .before .before .before .before .before .before .pre .0 .N-high,
+      c .before .before .before .before .before .before .before .before .before .before .before .pre .0 .F-high,
+    )
 
 -- src/names.rt:79:9
 mul-mentions-4 : tie.Need-mul-mentions-4 Inv-loop μ-loop
@@ -113,7 +147,11 @@ ahead-requires c κs = search needs
 
 -- src/names.rt:81:21
 cast-namers : tie.Need-cast-namers Inv-loop μ-loop
-cast-namers c = omega (arith, c .before .before .before .before .before .before .before .before .before .last-node .ensures, c .before .before .before .before .before .before .before .before .before .before .before .before .pre .0 .N-high)
+cast-namers c = omega (
+  arith,
+  c .before .before .before .before .before .before .before .before .before .last-node .ensures,
+  c .before .before .before .before .before .before .before .before .before .before .before .before .pre .0 .N-high,
+)
 
 -- src/names.rt:81:9
 mul-namers : tie.Need-mul-namers Inv-loop μ-loop
@@ -129,7 +167,11 @@ ahead-requires-2 c κs = search needs
 
 -- src/names.rt:83:21
 cast-namers-2 : tie.Need-cast-namers-2 Inv-loop μ-loop
-cast-namers-2 c = omega (arith, c .before .before .before .before .before .before .before .before .before .before .last-node .ensures, c .before .before .before .before .before .before .before .before .before .before .before .before .before .pre .0 .N-high)
+cast-namers-2 c = omega (
+  arith,
+  c .before .before .before .before .before .before .before .before .before .before .last-node .ensures,
+  c .before .before .before .before .before .before .before .before .before .before .before .before .before .pre .0 .N-high,
+)
 
 -- src/names.rt:83:9
 mul-namers-2 : tie.Need-mul-namers-2 Inv-loop μ-loop
@@ -145,11 +187,29 @@ loop-less c = omega arith
 
 -- src/names.rt:72:5
 loop-again : tie.Need-loop-again Inv-loop μ-loop
-loop-again c = (omega arith, links-more (c .before .before .before .before .before .before .before .before .before .before .before .before .before .args .table .now) (c .before .before .before .before .before .before .before .before .before .before .before .before .before .args .tops .mentions) (c .before .before .before .before .before .before .before .loop .mentions) (c .before .before .before .before .before .before .before .loop .namers) (c .before .before .before .before .before .before .before .loop .n) (c .before .before .before .before .before .before .before .loop .inv .1) (c .before .before .before .before .before .first-at .result) (c .before .before .before .before .next-at .result) (c .before .before .before .slot .result) (c .before .before .slot2 .result) (c .before .ahead .result) (c .ahead2 .result) (c .before .before .before .before .before .first-at .ensures) (c .before .before .before .before .next-at .ensures) (c .before .before .before .slot .ensures .0) (c .before .before .slot2 .ensures .0) (c .before .ahead .ensures .0) (c .ahead2 .ensures .0))
+loop-again c = (
+  omega arith,
+  links-more
+      (c .before .before .before .before .before .before .before .before .before .before .before .before .before .args .table .now)
+      (c .before .before .before .before .before .before .before .before .before .before .before .before .before .args .tops .mentions)
+      (c .before .before .before .before .before .before .before .loop .mentions)
+      (c .before .before .before .before .before .before .before .loop .namers)
+      (c .before .before .before .before .before .before .before .loop .n)
+      (c .before .before .before .before .before .before .before .loop .inv .1)
+      (c .before .before .before .before .before .first-at .result) (c .before .before .before .before .next-at .result)
+      (c .before .before .before .slot .result) (c .before .before .slot2 .result) (c .before .ahead .result) (c .ahead2 .result)
+      (c .before .before .before .before .before .first-at .ensures) (c .before .before .before .before .next-at .ensures)
+      (c .before .before .before .slot .ensures .0) (c .before .before .slot2 .ensures .0) (c .before .ahead .ensures .0)
+      (c .ahead2 .ensures .0),
+)
 
 -- src/names.rt:63:1
 returns : tie.Need-returns Inv-loop μ-loop
-returns c = let t = c .before .before .before .before .before .before .before .before .args .table .now in let e : c .before .before .loop .n ≡ nodes t = omega (arith, c .before .before .before .before .before .last-node .ensures) in links-all t (c .before .before .before .before .before .before .before .before .args .tops) (c .before .before .loop .mentions) (c .before .before .loop .namers) (c .before .before .before .before .before .before .before .before .pre .0) (c .before .before .before .before .before .before .before .before .pre .1) (rw e at (c .before .before .loop .inv .1))
+returns c = let t = c .before .before .before .before .before .before .before .before .args .table .now in let e :
+    c .before .before .loop .n ≡ nodes t = omega (arith, c .before .before .before .before .before .last-node .ensures) in links-all t
+    (c .before .before .before .before .before .before .before .before .args .tops) (c .before .before .loop .mentions)
+    (c .before .before .loop .namers) (c .before .before .before .before .before .before .before .before .pre .0)
+    (c .before .before .before .before .before .before .before .before .pre .1) (rw e at (c .before .before .loop .inv .1))
 
 pub links-spec : {M : Type 1} → statement M
 links-spec =

@@ -12,7 +12,8 @@ use Rattle.table.proofs.Loops.{all-more, all-fails, lowest-more, lowest
 use mathlib.Core.Bool.{true, false, _&&_}
 use lib.Dec.{leb, eqb}
 use mathlib.Core.Path.{ap₂}
-use Rattle.table.proofs.NameLoops.{RootsTo, LinksTo, roots-none, roots-more, roots-all, links-none, links-more, links-all, told-linked}
+use Rattle.table.proofs.NameLoops.{RootsTo, LinksTo, roots-none, roots-more, roots-all, links-none, links-more, links-all}
+use Rattle.table.proofs.NameLoops.{told-linked}
 use Rattle.table.specs.Working.{Rooted, Named, linkedBy}
 use Rattle.table.specs.Naming.{mentions, rootOf, namer}
 use lib.ListN.{length}
@@ -51,11 +52,24 @@ add-n c = omega arith
 
 -- src/names.rt:126:13
 first-at-requires : tie.Need-first-at-requires Inv-loop μ-loop
-first-at-requires c κs = record { framed = c .before .before .before .before .before .pre .0; start = c .before .before .before .base .ensures; low = omega arith; high = omega (arith, c .before .before .last-node .ensures) }
+first-at-requires c κs = record {
+  framed = c .before .before .before .before .before .pre .0;
+  start =
+      c .before .before .before .base .ensures;
+  low = omega arith;
+  high = omega (arith, c .before .before .last-node .ensures);
+}
 
 -- src/names.rt:127:13
 next-at-requires : tie.Need-next-at-requires Inv-loop μ-loop
-next-at-requires c κs = record { framed = c .before .before .before .before .before .before .pre .0; start = c .before .before .before .before .base .ensures; low = omega arith; high = omega (arith, c .before .before .before .last-node .ensures) }
+next-at-requires c κs = record {
+  framed = c .before .before .before .before .before .before .pre .0;
+  start =
+      c .before .before .before .before .base .ensures;
+  low = omega arith;
+  high = omega
+      (arith, c .before .before .before .last-node .ensures);
+}
 
 -- src/names.rt:128:24
 mul-mentions : tie.Need-mul-mentions Inv-loop μ-loop
@@ -63,7 +77,11 @@ mul-mentions c = search needs
 
 -- src/names.rt:128:24
 element-copy-out-mentions : tie.Need-element-copy-out-mentions Inv-loop μ-loop
-element-copy-out-mentions c = omega (arith, c .before .before .before .before .last-node .ensures, c .before .before .before .before .before .before .before .pre .0 .N-high)
+element-copy-out-mentions c = omega (
+  arith,
+  c .before .before .before .before .last-node .ensures,
+  c .before .before .before .before .before .before .before .pre .0 .N-high,
+)
 
 -- src/names.rt:129:20
 mul-root : tie.Need-mul-root Inv-loop μ-loop
@@ -71,7 +89,11 @@ mul-root c = search needs
 
 -- src/names.rt:129:20
 element-copy-out-root : tie.Need-element-copy-out-root Inv-loop μ-loop
-element-copy-out-root c = omega (arith, c .before .before .before .before .before .last-node .ensures, c .before .before .before .before .before .before .before .before .pre .0 .N-high)
+element-copy-out-root c = omega (
+  arith,
+  c .before .before .before .before .before .last-node .ensures,
+  c .before .before .before .before .before .before .before .before .pre .0 .N-high,
+)
 
 -- src/names.rt:130:13
 linked-at-requires : tie.Need-linked-at-requires Inv-loop μ-loop
@@ -79,11 +101,24 @@ linked-at-requires c κs = search needs
 
 -- src/names.rt:131:20
 cast-result : tie.Need-cast-result Inv-loop μ-loop
-cast-result c = omega (arith, c .before .before .before .before .before .before .before .before .last-node .ensures, c .before .before .before .before .before .before .before .before .before .before .before .pre .0 .N-high)
+cast-result c = omega (
+  arith,
+  c .before .before .before .before .before .before .before .before .last-node .ensures,
+  c .before .before .before .before .before .before .before .before .before .before .before .pre .0 .N-high,
+)
 
 -- src/names.rt:131:13
 returns : tie.Need-returns Inv-loop μ-loop
-returns c = let t = c .before .before .before .before .before .before .before .before .before .before .before .args .table .now in let nm = c .before .before .before .before .before .before .before .before .before .before .before .pre .1 in let n = c .before .before .before .before .before .before .before .loop .n + 1 in let e = c .before .linked-at .ensures ∙ told-linked t n _ _ _ _ _ (c .before .before .before .before .before .first-at .ensures) (c .before .before .before .before .next-at .ensures) (nm .counts n (omega arith, omega (arith, c .before .before .before .before .before .before .before .before .last-node .ensures))) (nm .tops n (omega arith, omega (arith, c .before .before .before .before .before .before .before .before .last-node .ensures))) (c .before .before .before .before .before .before .before .before .last-node .ensures) in sym (lowest-found (linked t) (c .before .before .before .before .before .before .before .loop .n) (nodes t) (c .before .before .before .before .before .before .before .loop .inv .1) (sym e ∙ not-true _ (c .if1 .taken)) (omega (arith, c .before .before .before .before .before .before .before .before .last-node .ensures)))
+returns c = let t = c .before .before .before .before .before .before .before .before .before .before .before .args .table .now in let
+    nm = c .before .before .before .before .before .before .before .before .before .before .before .pre .1 in let n =
+    c .before .before .before .before .before .before .before .loop .n + 1 in let e = c .before .linked-at .ensures ∙ told-linked t n _
+    _ _ _ _ (c .before .before .before .before .before .first-at .ensures) (c .before .before .before .before .next-at .ensures)
+    (nm .counts n (omega arith, omega (arith, c .before .before .before .before .before .before .before .before .last-node .ensures)))
+    (nm .tops n (omega arith, omega (arith, c .before .before .before .before .before .before .before .before .last-node .ensures)))
+    (c .before .before .before .before .before .before .before .before .last-node .ensures) in sym
+    (lowest-found (linked t) (c .before .before .before .before .before .before .before .loop .n) (nodes t)
+    (c .before .before .before .before .before .before .before .loop .inv .1) (sym e ∙ not-true _ (c .if1 .taken))
+    (omega (arith, c .before .before .before .before .before .before .before .before .last-node .ensures)))
 
 -- src/names.rt:124:5
 loop-less : tie.Need-loop-less Inv-loop μ-loop
@@ -91,11 +126,22 @@ loop-less c = omega arith
 
 -- src/names.rt:124:5
 loop-again : tie.Need-loop-again Inv-loop μ-loop
-loop-again c = let t = c .before .before .before .before .before .before .before .before .before .before .before .args .table .now in let nm = c .before .before .before .before .before .before .before .before .before .before .before .pre .1 in let n = c .before .before .before .before .before .before .before .loop .n + 1 in let e = c .before .linked-at .ensures ∙ told-linked t n _ _ _ _ _ (c .before .before .before .before .before .first-at .ensures) (c .before .before .before .before .next-at .ensures) (nm .counts n (omega arith, omega (arith, c .before .before .before .before .before .before .before .before .last-node .ensures))) (nm .tops n (omega arith, omega (arith, c .before .before .before .before .before .before .before .before .last-node .ensures))) (c .before .before .before .before .before .before .before .before .last-node .ensures) in (omega arith, lowest-more (linked t) (c .before .before .before .before .before .before .before .loop .n) (c .before .before .before .before .before .before .before .loop .inv .1) (sym e ∙ not-false _ (c .if1 .left)))
+loop-again c = let t = c .before .before .before .before .before .before .before .before .before .before .before .args .table .now in
+    let nm = c .before .before .before .before .before .before .before .before .before .before .before .pre .1 in let n =
+    c .before .before .before .before .before .before .before .loop .n + 1 in let e = c .before .linked-at .ensures ∙ told-linked t n _
+    _ _ _ _ (c .before .before .before .before .before .first-at .ensures) (c .before .before .before .before .next-at .ensures)
+    (nm .counts n (omega arith, omega (arith, c .before .before .before .before .before .before .before .before .last-node .ensures)))
+    (nm .tops n (omega arith, omega (arith, c .before .before .before .before .before .before .before .before .last-node .ensures)))
+    (c .before .before .before .before .before .before .before .before .last-node .ensures) in (
+      omega arith,
+      lowest-more (linked t) (c .before .before .before .before .before .before .before .loop .n)
+          (c .before .before .before .before .before .before .before .loop .inv .1) (sym e ∙ not-false _ (c .if1 .left)),
+    )
 
 -- src/names.rt:117:1
 returns-2 : tie.Need-returns-2 Inv-loop μ-loop
-returns-2 c = let t = c .before .before .before .before .before .args .table .now in let e : c .before .loop .n ≡ nodes t = omega (arith, c .before .before .last-node .ensures) in sym (rw e at (c .before .loop .inv .1))
+returns-2 c = let t = c .before .before .before .before .before .args .table .now in let e : c .before .loop .n ≡ nodes t = omega
+    (arith, c .before .before .last-node .ensures) in sym (rw e at (c .before .loop .inv .1))
 
 pub lowest-unlinked-spec : {M : Type 1} → statement M
 lowest-unlinked-spec =

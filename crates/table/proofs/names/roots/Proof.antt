@@ -62,7 +62,12 @@ array-read-mentions c = omega arith
 
 -- src/names.rt:56:24
 add-mentions : tie.Need-add-mentions Inv-loop μ-loop
-add-mentions c = omega (arith, c .before .before .before .loop .inv .1 .few (c .slot .result), c .before .before .before .before .last-function .ensures, c .before .before .before .before .before .before .pre .F-high)
+add-mentions c = omega (
+  arith,
+  c .before .before .before .loop .inv .1 .few (c .slot .result),
+  c .before .before .before .before .last-function .ensures,
+  c .before .before .before .before .before .before .pre .F-high,
+)
 
 -- src/names.rt:56:9
 mul-mentions-2 : tie.Need-mul-mentions-2 Inv-loop μ-loop
@@ -74,7 +79,11 @@ array-write-mentions c = omega arith
 
 -- src/names.rt:57:21
 cast-roots : tie.Need-cast-roots Inv-loop μ-loop
-cast-roots c = omega (arith, c .before .before .before .before .last-function .ensures, c .before .before .before .before .before .before .pre .F-high)
+cast-roots c = omega (
+  arith,
+  c .before .before .before .before .last-function .ensures,
+  c .before .before .before .before .before .before .pre .F-high,
+)
 
 -- src/names.rt:57:9
 mul-roots : tie.Need-mul-roots Inv-loop μ-loop
@@ -90,11 +99,19 @@ loop-less c = omega arith
 
 -- src/names.rt:52:5
 loop-again : tie.Need-loop-again Inv-loop μ-loop
-loop-again c = (omega arith, roots-more (c .before .before .before .before .before .before .args .table .now) (c .before .before .before .loop .mentions) (c .before .before .before .loop .roots) (c .before .before .before .loop .f) (c .before .root-at .result) (c .slot .result) (c .before .before .before .loop .inv .1) (c .before .root-at .ensures) (c .slot .ensures .0))
+loop-again c = (
+  omega arith,
+  roots-more (c .before .before .before .before .before .before .args .table .now)
+      (c .before .before .before .loop .mentions) (c .before .before .before .loop .roots) (c .before .before .before .loop .f)
+      (c .before .root-at .result) (c .slot .result) (c .before .before .before .loop .inv .1) (c .before .root-at .ensures)
+      (c .slot .ensures .0),
+)
 
 -- src/names.rt:44:1
 returns : tie.Need-returns Inv-loop μ-loop
-returns c = let t = c .before .before .before .before .args .table .now in let e : c .before .loop .f ≡ functions t = omega (arith, c .before .before .last-function .ensures) in roots-all t (c .before .loop .mentions) (c .before .loop .roots) (c .before .before .before .before .pre) (rw e at (c .before .loop .inv .1))
+returns c = let t = c .before .before .before .before .args .table .now in let e : c .before .loop .f ≡ functions t = omega
+    (arith, c .before .before .last-function .ensures) in roots-all t (c .before .loop .mentions) (c .before .loop .roots)
+    (c .before .before .before .before .pre) (rw e at (c .before .loop .inv .1))
 
 pub roots-spec : {M : Type 1} → statement M
 roots-spec =

@@ -1,0 +1,60 @@
+use Prim.Native.Nat.{ℕ, _-_, _≤_}
+use native.Mathlib.Omega.{arith}
+use Rattle.arbiters.proofs.arbiters.Statement.{statement}
+use Rattle.arbiters.proofs.arbiters.Tie as tie
+use Rattle.arbiters.proofs.arbiters.Reads as reads
+use Rattle.arbiters.proofs.arbiters.Lts as lts
+use Rattle.arbiters.proofs.arbiter.Reads as arbiter-reads
+
+abbrev Inv-loop : tie.InvT-loop
+Inv-loop found count i₀ i = i ≤ count
+
+abbrev μ-loop : tie.MeasureT-loop
+μ-loop found count i₀ i = count - i
+
+-- src/main.rt:43:5
+loop-holds : tie.Need-loop-holds Inv-loop μ-loop
+loop-holds c = omega arith
+
+-- src/main.rt:44:17
+mul-r : tie.Need-mul-r Inv-loop μ-loop
+mul-r c = record { fits = omega arith }
+
+-- src/main.rt:44:17
+element-copy-out-r : tie.Need-element-copy-out-r Inv-loop μ-loop
+element-copy-out-r c = omega arith
+
+-- src/main.rt:45:9
+arbiter-requires : tie.Need-arbiter-requires Inv-loop μ-loop
+arbiter-requires c κs = tt
+
+-- src/main.rt:46:9
+add-i : tie.Need-add-i Inv-loop μ-loop
+add-i c = omega arith
+
+-- src/main.rt:43:5
+loop-less : tie.Need-loop-less Inv-loop μ-loop
+loop-less c = omega arith
+
+-- src/main.rt:43:5
+loop-again : tie.Need-loop-again Inv-loop μ-loop
+loop-again c = omega arith
+
+-- src/main.rt:38:1
+returns : tie.Need-returns Inv-loop μ-loop
+returns c = tt
+
+pub arbiters-spec : {M : Type 1} → statement M
+arbiters-spec =
+    tie.close
+    (tie.spec
+    Inv-loop
+    μ-loop
+    loop-holds
+    mul-r
+    element-copy-out-r
+    arbiter-requires
+    add-i
+    loop-less
+    loop-again
+    returns)

@@ -1,0 +1,145 @@
+-- the conflicts found once every body is walked are the list, and its bytes are the tag bytes
+use Prim.Native.Nat.{ℕ, zero, suc, _+_, _-_, _*_, _/_, _%_, _^_, _≤_, _<_}
+use mathlib.Core.Path.{_≡_, refl, sym, subst, ap, ap₂, _∙_}
+use mathlib.Core.Bool.{Bool, true, false, _&&_, _||_, true≢false}
+use mathlib.Core.List.{List, []}
+use native.Mathlib.Omega.{arith}
+use native.Mathlib.Nat.{pow-suc, mul-comm, div-div-eq-div-mul, div-one}
+use native.Mathlib.Decide.{decLe, ℕ-discrete}
+use lib.Dec.{eqb, leb}
+use lib.ListN.{length, getD, take, replicate}
+use lib.Seq.{ext-getD, getD-take, length-take-le}
+use borrow.Author.Tests.{le-leb, lt-leb}
+use Rattle.table.specs.Pick.{Range}
+use Rattle.table.specs.Bytes.{functions, nodes}
+use Rattle.table.specs.Find.{one}
+use Rattle.table.specs.Expressions.{bodyOf}
+use Rattle.table.specs.Working.{IsFunction}
+use Rattle.table.proofs.Passed.{passed}
+use Rattle.list.specs.Arbiters.{Test, conflicts, listedIn}
+use Rattle.list.specs.Tags.{tagged, calleeOf, listed, bitsFrom, bytesFrom, tagLength, tagsOf}
+use Rattle.list.specs.Working.{bitAt, Bit, Taken, callsBy, conflictsAt, Seen, Memo, Grown}
+use Rattle.list.proofs.BitLaws.{none-tagged, tagged-bit}
+use Rattle.list.proofs.ArbiterFacts.{any-out}
+use Rattle.list.proofs.ParallelLaws.{by-true}
+use Rattle.list.proofs.TagFacts.{byte-is, bytes-length, listed-call}
+
+module _ (t : List ℕ) where
+  zeros-at : (n i : ℕ) → _≡_ {A = ℕ} (getD (replicate n 0) i 0) 0
+  zeros-at zero i = refl
+  zeros-at (suc n) zero = refl
+  zeros-at (suc n) (suc i) = zeros-at n i
+
+  -- before the first walk
+  pub memo-none : Memo t (replicate 2112 0) (replicate 33 0) (replicate 64 0)
+  memo-none = record {
+    size-bodies = refl;
+    size-called = refl;
+    size-found = refl;
+    sets = λ g m i s b. absurd (s (zeros-at 33 g));
+    masks = λ g h i s b. absurd (s (zeros-at 33 g));
+    whole = λ g m i s b e. absurd (s (zeros-at 33 g));
+    sound = λ m b e. absurd (true≢false (sym e ∙ none-tagged 64 m));
+  }
+
+  -- after the last
+  pub found-list : (bodies called found : List ℕ) → Memo t bodies called found → ((g : ℕ) → IsFunction t g → Seen called g) → (m : ℕ) → Bit m
+      → tagged found m ≡ listed t m
+  unfolding listed listedIn conflictsAt callsBy
+  found-list bodies called found k all m b = by-true (tagged found m) (listed t m) (k .sound m b)
+      (λ e. let r = any-out (functions t) (λ f. conflictsAt t (bodyOf t f) m) e in
+      k .whole (r .0) m (r .1, r .2) (all (r .0) (r .1, r .2)) b (r .3))
+
+-- one more body walked
+pub all-seen : (F : ℕ) (called called′ : List ℕ) (f : ℕ) → ((g : ℕ) → f < g → g ≤ F → Seen called g)
+    → ((g : ℕ) → Seen called g → Seen called′ g) → Seen called′ f → (g : ℕ) → f - 1 < g → g ≤ F → Seen called′ g
+all-seen F called called′ f old kept here g a b = go (ℕ-discrete g f)
+  where
+    go : Dec (g ≡ f) → Seen called′ g
+    go (yes e) z = here (ap (λ k. getD called′ k 0) (sym e) ∙ z)
+    go (no e) z = kept g (old g (omega arith) b) z
+
+-- a number of k bits is what its bits are
+number-is : (s : Test) (k n x : ℕ) → x < 2 ^ k → ((j : ℕ) → j < k → bitAt x j ≡ s (n + j)) → x ≡ bitsFrom s k n
+unfolding bitsFrom
+number-is s zero n x h f = small x h
+  where
+    small : (x : ℕ) → x < 1 → x ≡ 0
+    small x h = omega arith
+number-is s (suc k) n x h f =
+    parts x ∙ ap₂ (λ a b. a + 2 * b) low (number-is s k (suc n) (x / 2) (half x (2 ^ k) h (pow-suc 2 k))
+    (λ j l. ap (λ y. eqb (y % 2) 1) (sym (halved x j)) ∙ f (suc j) (omega (arith, l)) ∙ ap s (moved n j)))
+  where
+    parts : (x : ℕ) → x ≡ x % 2 + 2 * (x / 2)
+    parts x = omega arith
+
+    bit : (y : ℕ) → y < 2 → y ≡ one (eqb y 1)
+    bit zero l = refl
+    bit (suc zero) l = refl
+    bit (suc (suc y)) l = absurd (omega arith)
+
+    less : (x : ℕ) → x % 2 < 2
+    less x = omega arith
+
+    plus-zero : (n : ℕ) → n + 0 ≡ n
+    plus-zero n = omega arith
+
+    low : x % 2 ≡ one (s n)
+    low = bit (x % 2) (less x) ∙ ap one (ap (λ y. eqb (y % 2) 1) (sym (div-one x)) ∙ f 0 (omega arith) ∙ ap s (plus-zero n))
+
+    half : (x p : ℕ) → x < 2 ^ suc k → 2 ^ suc k ≡ p * 2 → x / 2 < p
+    half x p a b = omega arith
+
+    halved : (x j : ℕ) → x / 2 ^ suc j ≡ x / 2 / 2 ^ j
+    halved x j = ap (λ y. x / y) (pow-suc 2 j ∙ mul-comm (2 ^ j) 2) ∙ sym (div-div-eq-div-mul x 2 (2 ^ j))
+
+    moved : (n j : ℕ) → n + suc j ≡ suc n + j
+    moved n j = omega arith
+
+-- the first bytes of the set are the tag bytes
+module _ (t : List ℕ) (ok : Taken t) (found : List ℕ) (size : length found ≡ 64) (fits : (i : ℕ) → i < tagLength t → getD found i 0 < 256)
+    (is : (m : ℕ) → Bit m → tagged found m ≡ listed t m) where
+  s : Test
+  s n = leb n (nodes t) && listed t n
+
+  abbrev few-nodes : nodes t ≤ 512
+  few-nodes = passed t (functions t) (nodes t) ok .0 .N-high
+
+  short : tagLength t ≤ 64
+  unfolding tagLength
+  short = omega (arith, few-nodes)
+
+  within : (n : ℕ) → listed t n ≡ s n
+  unfolding s
+  within n = go (listed t n) refl
+    where
+      go : (b : Bool) → listed t n ≡ b → listed t n ≡ leb n (nodes t) && listed t n
+      go true e = sym (ap (λ p. p && listed t n) (le-leb n (nodes t) (listed-call t (functions t) (nodes t) ok n e .0 .1)))
+      go false e = e ∙ sym (ap (λ p. leb n (nodes t) && p) e ∙ and-no (leb n (nodes t)))
+        where
+          and-no : (b : Bool) → b && false ≡ false
+          and-no true = refl
+          and-no false = refl
+
+  bits-at : (i j : ℕ) → i < 64 → j < 8 → bitAt (getD found i 0) j ≡ s (1 + 8 * i + j)
+  bits-at i j p q =
+      ap₂ (λ a b. bitAt (getD found a 0) b) (byte i j q) (bit i j q) ∙ sym (tagged-bit found (1 + 8 * i + j))
+      ∙ is (1 + 8 * i + j) (omega arith, omega arith) ∙ within (1 + 8 * i + j)
+    where
+      byte : (i j : ℕ) → j < 8 → i ≡ (1 + 8 * i + j - 1) / 8
+      byte i j q = omega arith
+
+      bit : (i j : ℕ) → j < 8 → j ≡ (1 + 8 * i + j - 1) % 8
+      bit i j q = omega arith
+
+  pub tags-are : take (tagLength t) found ≡ tagsOf t
+  unfolding tagsOf s
+  tags-are =
+      ext-getD 0 (take (tagLength t) found) (bytesFrom s (tagLength t) 1) (cut ∙ sym (bytes-length s (tagLength t) 1))
+      (λ i h. let l : i < tagLength t = omega (arith, h, cut) in
+      getD-take (tagLength t) found i 0 l
+      ∙ number-is s 8 (1 + 8 * i) (getD found i 0) (fits i l) (λ j q. bits-at i j (omega (arith, l, short)) q)
+      ∙ sym (byte-is s (tagLength t) 1 i l))
+    where
+      cut : length (take (tagLength t) found) ≡ tagLength t
+      cut = length-take-le (tagLength t) found (omega (arith, size, short))

@@ -1,0 +1,96 @@
+use mathlib.Core.Path.{_≡_, sym, subst, _∙_}
+use mathlib.Core.Logic.{⊎-elim}
+use Prim.Native.Nat.{ℕ, _+_, _-_, _≤_}
+use native.Mathlib.Omega.{arith}
+use borrow.Author.Needs.{needs}
+use lib.ListN.{length}
+use Rattle.list.specs.Working.{Adds, meetOf}
+use Rattle.list.proofs.Meets.{adds-none, meet-small, meet-zero, meet-more, meet-skip}
+use Rattle.list.proofs.bits.meet.Statement.{statement}
+use Rattle.list.proofs.bits.meet.Tie as tie
+use Rattle.list.proofs.bits.meet.Reads as reads
+use Rattle.list.proofs.bits.meet.Lts as lts
+use Rattle.list.proofs.bits.has.Reads as has-reads
+use Rattle.list.proofs.bits.meet_at.Reads as meet-at-reads
+
+abbrev Inv-loop : tie.InvT-loop
+Inv-loop found₀ set row mask h₀ found h = (h ≤ 31) × Adds (meetOf set row mask h) found₀ found
+
+abbrev μ-loop : tie.MeasureT-loop
+μ-loop found₀ set row mask h₀ found h = 31 - h
+
+-- src/bits.rt:106:9
+returns : tie.Need-returns Inv-loop μ-loop
+returns c =
+    let a = c .before .args in
+    adds-none _ (a .found .now) (c .before .pre) (λ m b. meet-small (a .set .now) (a .row .now) (a .mask) 31 m (omega arith))
+
+-- src/bits.rt:109:5
+loop-holds : tie.Need-loop-holds Inv-loop μ-loop
+loop-holds c =
+    let a = c .before .args in
+    (omega arith, adds-none _ (a .found .now) (c .before .pre) (λ m b. meet-zero (a .set .now) (a .row .now) (a .mask) m))
+
+-- src/bits.rt:110:9
+add-h : tie.Need-add-h Inv-loop μ-loop
+add-h c = omega arith
+
+-- src/bits.rt:111:12
+has-requires : tie.Need-has-requires Inv-loop μ-loop
+has-requires c κs = omega arith
+
+-- src/bits.rt:112:13
+meet-at-requires : tie.Need-meet-at-requires Inv-loop μ-loop
+meet-at-requires c κs = (c .before .before .before .before .loop .inv .1 .size, omega arith)
+
+-- src/bits.rt:109:5
+loop-less : tie.Need-loop-less Inv-loop μ-loop
+loop-less c = omega arith
+
+-- src/bits.rt:109:5
+loop-again : tie.Need-loop-again Inv-loop μ-loop
+loop-again c =
+    let a = c .before .before .before .before .before .before .before .args in
+    let l = c .before .before .before .before .before .loop in (
+      omega arith,
+      meet-more (a .set .now) (a .row .now) (a .mask) (l .h) (a .found .now) (l .found) _ (l .inv .1)
+          (sym (c .before .before .before .has .ensures) ∙ c .before .before .if2 .taken) (c .meet-at .ensures),
+    )
+
+-- src/bits.rt:109:5
+loop-less-2 : tie.Need-loop-less-2 Inv-loop μ-loop
+loop-less-2 c = omega arith
+
+-- src/bits.rt:109:5
+loop-again-2 : tie.Need-loop-again-2 Inv-loop μ-loop
+loop-again-2 c =
+    let a = c .before .before .before .before .before .args in
+    let l = c .before .before .before .loop in (
+      omega arith,
+      meet-skip (a .set .now) (a .row .now) (a .mask) (l .h) (a .found .now) (l .found) (l .inv .1) (sym (c .before .has .ensures) ∙ c .if2 .left),
+    )
+
+-- src/bits.rt:101:1
+returns-2 : tie.Need-returns-2 Inv-loop μ-loop
+returns-2 c =
+    let a = c .before .before .before .args in
+    let l = c .before .loop in
+    let e : l .h ≡ 31 = omega arith in
+    subst (λ k. Adds (meetOf (a .set .now) (a .row .now) (a .mask) k) (a .found .now) (l .found)) e (l .inv .1)
+
+pub meet-spec : {M : Type 1} → statement M
+meet-spec =
+    tie.close
+    (tie.spec
+    Inv-loop
+    μ-loop
+    returns
+    loop-holds
+    add-h
+    has-requires
+    meet-at-requires
+    loop-less
+    loop-again
+    loop-less-2
+    loop-again-2
+    returns-2)

@@ -1,0 +1,95 @@
+use mathlib.Core.Path.{_≡_, sym, ap, ap₂, _∙_}
+use Prim.Native.Nat.{ℕ, _+_, _-_, _*_, _≤_, _/_, _%_}
+use native.Mathlib.Omega.{arith}
+use borrow.Author.Needs.{needs}
+use lib.ListN.{length, getD, length-set}
+use lib.Bits.{bitOr, bitAnd}
+use mathlib.Core.Bool.{_&&_}
+use Rattle.list.proofs.BitLaws.{and-bit, adds-by, tagged-bit, tagged-row}
+use Rattle.list.proofs.Bytewise.{Upto, upto-none, upto-more}
+use Rattle.list.proofs.bits.meet_at.Statement.{statement}
+use Rattle.list.proofs.bits.meet_at.Tie as tie
+use Rattle.list.proofs.bits.meet_at.Reads as reads
+use Rattle.list.proofs.bits.meet_at.Lts as lts
+
+abbrev Inv-loop : tie.InvT-loop
+Inv-loop found₀ set row h base i₀ found i =
+    (i ≤ 64) × (length found ≡ 64) × Upto (λ j. bitOr (getD found₀ j 0) (bitAnd (getD set j 0) (getD row (base + j) 0))) found₀ found i
+
+abbrev μ-loop : tie.MeasureT-loop
+μ-loop found₀ set row h base i₀ found i = 64 - i
+
+-- src/bits.rt:79:16
+mul-base : tie.Need-mul-base Inv-loop μ-loop
+mul-base c = omega arith
+
+-- src/bits.rt:81:5
+loop-holds : tie.Need-loop-holds Inv-loop μ-loop
+loop-holds c = (omega arith, search needs, upto-none _ _)
+
+-- src/bits.rt:82:17
+element-copy-out-x : tie.Need-element-copy-out-x Inv-loop μ-loop
+element-copy-out-x c = omega arith
+
+-- src/bits.rt:83:17
+element-copy-out-y : tie.Need-element-copy-out-y Inv-loop μ-loop
+element-copy-out-y c = omega arith
+
+-- src/bits.rt:84:21
+add-z : tie.Need-add-z Inv-loop μ-loop
+add-z c = omega arith
+
+-- src/bits.rt:84:17
+element-copy-out-z : tie.Need-element-copy-out-z Inv-loop μ-loop
+element-copy-out-z c = omega arith
+
+-- src/bits.rt:85:9
+element-write-found : tie.Need-element-write-found Inv-loop μ-loop
+element-write-found c = omega arith
+
+-- src/bits.rt:86:9
+add-i : tie.Need-add-i Inv-loop μ-loop
+add-i c = omega arith
+
+-- src/bits.rt:81:5
+loop-less : tie.Need-loop-less Inv-loop μ-loop
+loop-less c = omega arith
+
+-- src/bits.rt:81:5
+loop-again : tie.Need-loop-again Inv-loop μ-loop
+loop-again c =
+    let a = c .before .before .before .before .before .args in
+    let i = c .before .before .before .before .loop .i in
+    let inv = c .before .before .before .before .loop .inv in (
+      omega arith,
+      simp length-set (inv .1),
+      upto-more _ (a .found .now) _ i _ (omega (arith, inv .1)) (inv .2)
+          (ap (λ x. bitOr x (bitAnd (getD (a .set .now) i 0) (getD (a .row .now) (64 * a .h + i) 0))) (inv .2 .left i (omega arith))),
+    )
+
+-- src/bits.rt:74:1
+returns : tie.Need-returns Inv-loop μ-loop
+returns c =
+    let a = c .before .before .args in
+    let inv = c .before .loop .inv in
+    adds-by (λ j. bitAnd (getD (a .set .now) j 0) (getD (a .row .now) (64 * a .h + j) 0)) _ _ _ (inv .1) (λ j h. inv .2 .done j (omega arith))
+    (λ m b. and-bit (getD (a .set .now) ((m - 1) / 8) 0) (getD (a .row .now) (64 * a .h + (m - 1) / 8) 0) ((m - 1) % 8)
+    ∙ ap₂ (λ p q. p && q) (sym (tagged-bit (a .set .now) m)) (sym (tagged-row (a .row .now) (a .h) m (b .0))))
+
+pub meet-at-spec : {M : Type 1} → statement M
+meet-at-spec =
+    tie.close
+    (tie.spec
+    Inv-loop
+    μ-loop
+    mul-base
+    loop-holds
+    element-copy-out-x
+    element-copy-out-y
+    add-z
+    element-copy-out-z
+    element-write-found
+    add-i
+    loop-less
+    loop-again
+    returns)

@@ -1,0 +1,65 @@
+use mathlib.Core.Path.{_≡_, sym, ap, _∙_}
+use Rattle.table.specs.Survey.{verdictOf}
+use Rattle.list.proofs.TagVerdicts.{taken-by}
+use Rattle.list.proofs.RecordVerdicts.{arrange-none, arrange-all}
+use borrow.Author.Needs.{needs}
+use Rattle.list.proofs.list_records.Statement.{statement}
+use Rattle.list.proofs.list_records.Tie as tie
+use Rattle.list.proofs.list_records.Reads as reads
+use Rattle.list.proofs.list_records.Lts as lts
+use Rattle.list.proofs.arbiters.arbiters.Reads as arbiters-reads
+use Rattle.list.proofs.records.blank.Reads as blank-reads
+use Rattle.list.proofs.records.collect.Reads as collect-reads
+use Rattle.table.proofs.survey.Reads as survey-reads
+
+-- src/lib.rt:36:9
+survey-requires : tie.Need-survey-requires
+survey-requires c κs = search needs
+
+-- src/lib.rt:40:26
+enum-known-checked : tie.Need-enum-known-checked
+enum-known-checked c = search needs
+
+-- src/lib.rt:40:44
+blank-requires : tie.Need-blank-requires
+blank-requires c κs = search needs
+
+-- src/lib.rt:41:27
+enum-known-checked-2 : tie.Need-enum-known-checked-2
+enum-known-checked-2 c = search needs
+
+-- src/lib.rt:42:17
+arbiters-requires : tie.Need-arbiters-requires
+arbiters-requires c κs = taken-by _ _ _ (sym (ap verdictOf (c .before .checked2 .given .1)) ∙ c .before .before .before .before .survey .ensures .checked) .0
+
+-- src/lib.rt:43:13
+collect-requires : tie.Need-collect-requires
+collect-requires c κs =
+    let s = c .before .before .before .before .before .survey .ensures in
+    let k = taken-by _ _ _ (sym (ap verdictOf (c .before .before .checked2 .given .1)) ∙ s .checked) in
+    ((k .0, s .owners, k .1, k .2), c .arbiters .ensures)
+
+-- src/lib.rt:33:1
+returns : tie.Need-returns
+returns c =
+    let r = c .blank .ensures in
+    arrange-none _ _ _ _ (r .0) (r .1) (ap verdictOf (r .2)) (sym (ap verdictOf (c .before .before .checked .given .1)) ∙ c .before .before .before .before .before .survey .ensures .checked)
+
+-- src/lib.rt:33:1
+returns-2 : tie.Need-returns-2
+returns-2 c =
+    let k = taken-by _ _ _ (sym (ap verdictOf (c .before .before .before .checked2 .given .1)) ∙ c .before .before .before .before .before .before .survey .ensures .checked) in
+    arrange-all _ (k .0) _ (c .collect .ensures)
+
+pub list-records-spec : {M : Type 1} → statement M
+list-records-spec =
+    tie.close
+    (tie.spec
+    survey-requires
+    enum-known-checked
+    blank-requires
+    enum-known-checked-2
+    arbiters-requires
+    collect-requires
+    returns
+    returns-2)

@@ -1,0 +1,68 @@
+use mathlib.Core.Path.{_≡_, sym, ap₂, _∙_}
+use native.Mathlib.Omega.{arith}
+use Rattle.table.specs.Check.{accepted}
+use Rattle.list.proofs.NodeLaws.{few}
+use Rattle.list.proofs.TagVerdicts.{not-yes, not-no, wrong-length, past-is, past-last, unfit, held-fit}
+use borrow.Author.Needs.{needs}
+use Rattle.list.proofs.tags.held.Statement.{statement}
+use Rattle.list.proofs.tags.held.Tie as tie
+use Rattle.list.proofs.tags.held.Reads as reads
+use Rattle.list.proofs.tags.held.Lts as lts
+use Rattle.list.proofs.tags.lowest_unfit.Reads as lowest-unfit-reads
+use Rattle.list.proofs.tags.none_past.Reads as none-past-reads
+
+-- src/tags.rt:76:17
+cast-count : tie.Need-cast-count
+cast-count c = search needs
+
+-- src/tags.rt:77:23
+add-if1 : tie.Need-add-if1
+add-if1 c = search needs
+
+-- src/tags.rt:78:9
+returns : tie.Need-returns
+returns c = wrong-length _ _ _ (c .before .before .before .before .pre .3) (c .if1 .taken)
+
+-- src/tags.rt:80:9
+none-past-requires : tie.Need-none-past-requires
+none-past-requires c κs =
+    let p = c .before .before .before .before .pre in
+    let n = few _ (p .0) .1 in
+    (omega (arith, n, p .3), omega (arith, n, p .3, c .if1 .left))
+
+-- src/tags.rt:81:9
+returns-2 : tie.Need-returns-2
+returns-2 c =
+    let e = c .before .before .before .before .before .before .pre .3 in
+    past-last _ _ _ e (c .before .before .if1 .left) (sym (past-is _ _ _ e) ∙ sym (c .before .none-past .ensures) ∙ not-yes _ (c .if2 .taken))
+
+-- src/tags.rt:83:9
+lowest-unfit-requires : tie.Need-lowest-unfit-requires
+lowest-unfit-requires c κs = let p = c .before .before .before .before .before .before .pre in (p .0, p .1, p .3)
+
+-- src/tags.rt:85:9
+returns-3 : tie.Need-returns-3
+returns-3 c =
+    let e = c .before .before .before .before .before .before .before .before .pre .3 in
+    unfit _ _ _ _ e (c .before .before .before .before .if1 .left) (sym (past-is _ _ _ e) ∙ sym (c .before .before .before .none-past .ensures) ∙ not-no _ (c .before .before .if2 .left)) (c .before .lowest-unfit .ensures)
+    (c .if3 .taken)
+
+-- src/tags.rt:72:1
+returns-4 : tie.Need-returns-4
+returns-4 c =
+    let p = c .before .before .before .before .before .before .before .before .pre in
+    ap₂ accepted (p .2) (p .3) ∙ held-fit _ _ _ (p .3) (c .before .before .before .before .if1 .left)
+    (sym (past-is _ _ _ (p .3)) ∙ sym (c .before .before .before .none-past .ensures) ∙ not-no _ (c .before .before .if2 .left)) (sym (c .before .lowest-unfit .ensures) ∙ c .if3 .left)
+
+pub held-spec : {M : Type 1} → statement M
+held-spec =
+    tie.close
+    (tie.spec
+    cast-count
+    add-if1
+    returns
+    none-past-requires
+    returns-2
+    lowest-unfit-requires
+    returns-3
+    returns-4)

@@ -1,0 +1,148 @@
+use mathlib.Core.Path.{_≡_, refl, sym, ap, _∙_}
+use Prim.Native.Nat.{ℕ, _+_, _-_, _≤_}
+use native.Mathlib.Omega.{arith}
+use borrow.Author.Needs.{needs}
+use Rattle.table.specs.Bytes.{nodes}
+use Rattle.table.specs.Find.{lowest}
+use Rattle.list.specs.Tags.{tagFits}
+use Rattle.list.proofs.NodeLaws.{few}
+use Rattle.list.proofs.TagLoops.{lowest-none, lowest-next, lowest-found}
+use Rattle.list.proofs.Owners.{owner-of, untagged, tag-other, tag-again, tag-call}
+use Rattle.list.proofs.tags.lowest_unfit.Statement.{statement}
+use Rattle.list.proofs.tags.lowest_unfit.Tie as tie
+use Rattle.list.proofs.tags.lowest_unfit.Reads as reads
+use Rattle.list.proofs.tags.lowest_unfit.Lts as lts
+use Rattle.list.proofs.tags.marks.Reads as marks-reads
+use Rattle.table.proofs.read.kind.Reads as kind-reads
+use Rattle.table.proofs.read.word.Reads as word-reads
+
+abbrev Inv-loop : tie.InvT-loop
+Inv-loop table tags last owner n₀ n = (n ≤ nodes table) × (lowest (tagFits table tags) n ≡ 0)
+
+abbrev μ-loop : tie.MeasureT-loop
+μ-loop table tags last owner n₀ n = nodes table - n
+
+-- src/tags.rt:54:5
+loop-holds : tie.Need-loop-holds Inv-loop μ-loop
+loop-holds c = (omega arith, lowest-none _)
+
+-- src/tags.rt:55:9
+add-n : tie.Need-add-n Inv-loop μ-loop
+add-n c = omega (arith, c .before .before .loop .inv .0, c .before .before .before .before .before .pre .2, few _ (c .before .before .before .before .before .pre .0) .1)
+
+-- src/tags.rt:56:24
+cast-marks : tie.Need-cast-marks Inv-loop μ-loop
+cast-marks c = search needs
+
+-- src/tags.rt:56:12
+marks-requires : tie.Need-marks-requires Inv-loop μ-loop
+marks-requires c κs = omega arith
+
+-- src/tags.rt:57:17
+kind-requires : tie.Need-kind-requires Inv-loop μ-loop
+kind-requires c κs = tt
+
+-- src/tags.rt:59:17
+returns : tie.Need-returns Inv-loop μ-loop
+returns c =
+    let a = c .before .before .before .before .before .before .before .before .before .args in
+    let p = c .before .before .before .before .before .before .before .before .before .pre in
+    let n = c .before .before .before .before .before .before .loop .n in
+    sym (lowest-found (tagFits (a .table .now) (a .tags .now)) (nodes (a .table .now)) n (c .before .before .before .before .before .before .loop .inv .1)
+    (tag-other (a .table .now) (a .tags .now) (n + 1) (sym (c .before .before .before .marks .ensures) ∙ c .before .before .if2 .taken)
+    (λ q. c .if3 .taken (c .before .kind .ensures ∙ q))) (omega (arith, p .2)))
+
+-- src/tags.rt:61:17
+word-requires : tie.Need-word-requires Inv-loop μ-loop
+word-requires c κs = tt
+
+-- src/tags.rt:62:29
+cast-own : tie.Need-cast-own Inv-loop μ-loop
+cast-own c = search needs
+
+-- src/tags.rt:62:23
+mul-own : tie.Need-mul-own Inv-loop μ-loop
+mul-own c = record { fits = omega (arith, c .before .before .before .before .before .before .before .loop .inv .0, c .before .before .before .before .before .before .before .before .before .before .pre .2, few _ (c .before .before .before .before .before .before .before .before .before .before .pre .0) .1) }
+
+-- src/tags.rt:62:23
+array-copy-out-own : tie.Need-array-copy-out-own Inv-loop μ-loop
+array-copy-out-own c = omega (arith, c .before .before .before .before .before .before .before .loop .inv .0, c .before .before .before .before .before .before .before .before .before .before .pre .2, few _ (c .before .before .before .before .before .before .before .before .before .before .pre .0) .1)
+
+-- src/tags.rt:63:25
+cast-if4 : tie.Need-cast-if4 Inv-loop μ-loop
+cast-if4 c = search needs
+
+-- src/tags.rt:64:17
+returns-2 : tie.Need-returns-2 Inv-loop μ-loop
+returns-2 c =
+    let a = c .before .before .before .before .before .before .before .before .before .before .before .before .before .args in
+    let t = a .table .now in
+    let p = c .before .before .before .before .before .before .before .before .before .before .before .before .before .pre in
+    let n = c .before .before .before .before .before .before .before .before .before .before .loop .n in
+    sym (lowest-found (tagFits t (a .tags .now)) (nodes t) n (c .before .before .before .before .before .before .before .before .before .before .loop .inv .1)
+    (tag-again t (a .tags .now) (n + 1) (sym (c .before .before .before .before .before .before .before .marks .ensures) ∙ c .before .before .before .before .before .before .if2 .taken)
+    (sym (c .before .before .before .word .ensures) ∙ c .if4 .taken ∙ owner-of t (p .0) _ (p .1) (n + 1) _ (omega (arith, p .2)) (omega (arith, p .2, few t (p .0) .1)))) (omega (arith, p .2)))
+
+-- src/tags.rt:54:5
+loop-less : tie.Need-loop-less Inv-loop μ-loop
+loop-less c = let p = c .before .before .before .before .before .before .before .before .before .before .before .before .before .pre in omega (arith, p .2)
+
+-- src/tags.rt:54:5
+loop-again : tie.Need-loop-again Inv-loop μ-loop
+loop-again c =
+    let a = c .before .before .before .before .before .before .before .before .before .before .before .before .before .args in
+    let t = a .table .now in
+    let p = c .before .before .before .before .before .before .before .before .before .before .before .before .before .pre in
+    let n = c .before .before .before .before .before .before .before .before .before .before .loop .n in (
+      omega (arith, p .2),
+      lowest-next (tagFits t (a .tags .now)) n (c .before .before .before .before .before .before .before .before .before .before .loop .inv .1)
+          (tag-call t (a .tags .now) (n + 1) (sym (c .before .before .before .before .before .kind .ensures) ∙ c .before .before .before .before .if3 .left)
+          (λ q. c .if4 .left (c .before .before .before .word .ensures ∙ q ∙ sym (owner-of t (p .0) _ (p .1) (n + 1) _ (omega (arith, p .2)) (omega (arith, p .2, few t (p .0) .1)))))),
+    )
+
+-- src/tags.rt:54:5
+loop-less-2 : tie.Need-loop-less-2 Inv-loop μ-loop
+loop-less-2 c = let p = c .before .before .before .before .before .before .before .pre in omega (arith, p .2)
+
+-- src/tags.rt:54:5
+loop-again-2 : tie.Need-loop-again-2 Inv-loop μ-loop
+loop-again-2 c =
+    let a = c .before .before .before .before .before .before .before .args in
+    let p = c .before .before .before .before .before .before .before .pre in
+    let n = c .before .before .before .before .loop .n in (
+      omega (arith, p .2),
+      lowest-next (tagFits (a .table .now) (a .tags .now)) n (c .before .before .before .before .loop .inv .1)
+          (untagged (a .table .now) (a .tags .now) (n + 1) (sym (c .before .marks .ensures) ∙ c .if2 .left)),
+    )
+
+-- src/tags.rt:49:1
+returns-3 : tie.Need-returns-3 Inv-loop μ-loop
+returns-3 c =
+    let a = c .before .before .before .before .before .args in
+    let p = c .before .before .before .before .before .pre in
+    let e : c .before .before .loop .n ≡ nodes (a .table .now) = omega (arith, p .2, c .before .before .loop .inv .0) in
+    sym (sym (ap (lowest (tagFits (a .table .now) (a .tags .now))) e) ∙ c .before .before .loop .inv .1)
+
+pub lowest-unfit-spec : {M : Type 1} → statement M
+lowest-unfit-spec =
+    tie.close
+    (tie.spec
+    Inv-loop
+    μ-loop
+    loop-holds
+    add-n
+    cast-marks
+    marks-requires
+    kind-requires
+    returns
+    word-requires
+    cast-own
+    mul-own
+    array-copy-out-own
+    cast-if4
+    returns-2
+    loop-less
+    loop-again
+    loop-less-2
+    loop-again-2
+    returns-3)

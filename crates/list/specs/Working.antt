@@ -1,0 +1,174 @@
+-- what the parts of the walk ask of each other: packed sets, the sites of each function, and what the walk keeps
+use Prim.Native.Nat.{ℕ, _+_, _-_, _*_, _/_, _%_, _^_, _≤_, _<_}
+use mathlib.Core.Bool.{Bool, true, false, _&&_, _||_}
+use mathlib.Core.Path.{_≡_}
+use mathlib.Core.List.{List, []}
+use lib.Dec.{eqb, leb}
+use lib.ListN.{length, getD, take, drop, replicate}
+use Rattle.table.specs.Pick.{pick, Range}
+use Rattle.table.specs.Syntax.{Expr, Exprs, none, some}
+use Rattle.table.specs.Bytes.{functions, nodes, kind, word, first}
+use Rattle.table.specs.Naming.{owner}
+use Rattle.table.specs.Check.{accepted, checkOf}
+use Rattle.table.specs.Expressions.{exprsAt, exprAt, bodyOf, defsAt, finalAt}
+use Rattle.table.specs.Working.{IsNode, IsFunction}
+use Rattle.table.specs.Survey.{verdictOf, ifAccepted}
+use Rattle.list.specs.declared.Listing.{Listing}
+use Rattle.list.specs.declared.walk.Siblings.{Siblings}
+use Rattle.list.specs.Arbiters.{Test, nothing, joined, anyUpTo, callsIn, callsIn*, parallel, conflicts, conflicts*, callsOf}
+use Rattle.list.specs.Tags.{tagged, calleeOf, listed}
+use Rattle.list.specs.Records.{noRecord, recordsOf, recordsVerdict}
+
+-- bit k of a number
+abbrev pub bitAt : ℕ → ℕ → Bool
+bitAt x k = eqb (x / 2 ^ k % 2) 1
+
+-- a node that a set of 64 bytes has a bit for; a function that a mask of 32 bits has a bit for: no call is of main
+abbrev pub Bit : ℕ → Type 0
+Bit m = Range 512 m
+
+abbrev pub Callee : ℕ → Type 0
+Callee h = Range 31 h
+
+abbrev pub Taken : List ℕ → Type 0
+Taken t = checkOf t ≡ accepted (functions t) (nodes t)
+
+-- C of a body, C and A of an expression and of a chain, in a table
+unfoldable pub callsBy : List ℕ → ℕ → Test
+callsBy t = callsOf (nodes t) (calleeOf t) (bodyOf t) (functions t)
+
+unfoldable pub callsAt : List ℕ → Expr → Test
+callsAt t = callsIn (nodes t) (calleeOf t) (callsBy t)
+
+unfoldable pub callsAt* : List ℕ → Exprs → Test
+callsAt* t = callsIn* (nodes t) (calleeOf t) (callsBy t)
+
+unfoldable pub conflictsAt : List ℕ → Expr → Test
+conflictsAt t = conflicts (nodes t) (calleeOf t) (callsBy t)
+
+unfoldable pub conflictsAt* : List ℕ → Exprs → Test
+conflictsAt* t = conflicts* (nodes t) (calleeOf t) (callsBy t)
+
+unfoldable pub parallelAt : List ℕ → Exprs → Test
+parallelAt t = parallel (nodes t) (calleeOf t) (callsBy t) nothing
+
+-- h is called in s
+unfoldable pub calledIn : List ℕ → Test → Test
+calledIn t s h = anyUpTo (nodes t) (λ β. s β && eqb h (calleeOf t β))
+
+-- h is called in two of the expressions
+unfoldable pub twiceIn : List ℕ → Exprs → Test
+unfolding callsAt callsAt* calledIn
+twiceIn t none h = false
+twiceIn t (some e es) h = twiceIn t es h || (calledIn t (callsAt t e) h && calledIn t (callsAt* t es) h)
+
+-- the siblings from c on; of a let the definientia alone
+abbrev pub siblings : List ℕ → Bool → ℕ → Exprs
+siblings t defs c = pick defs (defsAt t c) (exprsAt t c)
+
+-- the children of n, or of a let the definientia
+abbrev pub kidsAt : List ℕ → Bool → ℕ → Exprs
+kidsAt t defs n = siblings t defs (first t n)
+
+-- node m calls function h, its own maybe
+abbrev pub site : List ℕ → ℕ → ℕ → Bool
+site t h m = eqb (kind t m) 4 && eqb h (word t m)
+
+-- set h of a row of sets begins at bit 512 h: of function h the nodes, up to k, that call it
+pub record SitedTo (t : List ℕ) (k : ℕ) (sites : List ℕ) : Type 0 where
+  pub size : length sites ≡ 2112
+  pub bits : (h m : ℕ) → Range 32 h → Bit m → tagged sites (512 * h + m) ≡ leb m k && site t h m
+
+abbrev pub Sited : List ℕ → List ℕ → Type 0
+Sited t sites = SitedTo t (nodes t) sites
+
+-- what a set has in common with those of the sets 1 to k of a row that a mask names
+unfoldable pub meetOf : (set row : List ℕ) (mask k : ℕ) → Test
+unfolding anyUpTo
+meetOf set row mask k m = tagged set m && anyUpTo k (λ h. bitAt mask h && tagged row (512 * h + m))
+
+-- a set of 64 bytes with the members of another added
+pub record Adds (s : Test) (set set′ : List ℕ) : Type 0 where
+  pub size : length set′ ≡ 64
+  pub bits : (m : ℕ) → Bit m → tagged set′ m ≡ tagged set m || s m
+
+-- set g of a row is a set, and the row's others are as they were
+pub record Kept (g : ℕ) (set row row′ : List ℕ) : Type 0 where
+  pub size : length row′ ≡ 2112
+  pub same : (m : ℕ) → Bit m → tagged row′ (512 * g + m) ≡ tagged set m
+  pub other : (h m : ℕ) → (h ≡ g → ⊥) → Bit m → tagged row′ (512 * h + m) ≡ tagged row (512 * h + m)
+
+-- a row to whose set g node n was added
+pub record PutAt (g n : ℕ) (row row′ : List ℕ) : Type 0 where
+  pub size : length row′ ≡ 2112
+  pub bits : (h m : ℕ) → Range 32 h → Bit m → tagged row′ (512 * h + m) ≡ tagged row (512 * h + m) || (eqb g h && eqb n m)
+
+-- a function whose body has been walked
+abbrev pub Seen : List ℕ → ℕ → Type 0
+Seen called g = getD called g 0 ≡ 0 → ⊥
+
+-- of each body that has been walked: its set, the functions called in it, and its conflicts among those found, which are listed
+pub record Memo (t bodies called found : List ℕ) : Type 0 where
+  pub size-bodies : length bodies ≡ 2112
+  pub size-called : length called ≡ 33
+  pub size-found : length found ≡ 64
+  pub sets : (g m : ℕ) → IsFunction t g → Seen called g → Bit m → tagged bodies (512 * g + m) ≡ callsBy t g m
+  pub masks : (g h : ℕ) → IsFunction t g → Seen called g → Callee h → bitAt (getD called g 0) h ≡ calledIn t (callsBy t g) h
+  pub whole : (g m : ℕ) → IsFunction t g → Seen called g → Bit m → conflictsAt t (bodyOf t g) m ≡ true → tagged found m ≡ true
+  pub sound : (m : ℕ) → Bit m → tagged found m ≡ true → listed t m ≡ true
+
+-- what stays: bodies walked, and conflicts found
+pub record Grown (called called′ found found′ : List ℕ) : Type 0 where
+  pub seen : (g : ℕ) → Seen called g → Seen called′ g
+  pub stays : (m : ℕ) → Bit m → tagged found m ≡ true → tagged found′ m ≡ true
+
+-- a walk over what has the calls s and the conflicts x: set gets the calls, mask is of the functions called
+pub record Walk (t : List ℕ) (s x : Test) (mask : ℕ) (set set′ bodies′ called called′ found found′ : List ℕ) : Type 0 where
+  pub memo : Memo t bodies′ called′ found′
+  pub grown : Grown called called′ found found′
+  pub added : Adds s set set′
+  pub functions : (h : ℕ) → Callee h → bitAt mask h ≡ calledIn t s h
+  pub finds : (m : ℕ) → Bit m → x m ≡ true → tagged found′ m ≡ true
+
+-- a node of function f in an accepted table
+pub record Within (t : List ℕ) (f n : ℕ) : Type 0 where
+  pub taken : Taken t
+  pub node : IsNode t n
+  pub own : owner t n ≡ f
+
+-- a walk along siblings; of a let it names the body
+pub record Chained (t : List ℕ) (f c : ℕ) (defs : Bool) (r : Siblings) (set set′ bodies′ called called′ found found′ : List ℕ)
+    : Type 0 where
+  pub walk : Walk t (callsAt* t (siblings t defs c)) (conflictsAt* t (siblings t defs c)) (r .once) set set′ bodies′ called called′ found found′
+  pub twice : (h : ℕ) → Callee h → bitAt (r .twice) h ≡ twiceIn t (siblings t defs c) h
+  pub last : defs ≡ true → IsNode t (r .last .0) × (owner t (r .last .0) ≡ f) × (c ≤ r .last .0) × (finalAt t c ≡ exprAt t (r .last .0))
+
+-- node n's children are evaluated side by side; of a let (defs) all but the last
+pub record Beside (t : List ℕ) (n : ℕ) (defs : Bool) : Type 0 where
+  pub some : defs ≡ true → first t n ≡ 0 → ⊥
+  pub calls : (m : ℕ) → callsAt* t (kidsAt t defs n) m ≡ true → Range (nodes t) m × Callee (calleeOf t m)
+  pub conflicts : (m : ℕ) → parallelAt t (kidsAt t defs n) m ≡ true → listed t m ≡ true
+
+-- a walk over node n's children, with their conflicts
+pub record Sided (t : List ℕ) (f n : ℕ) (defs : Bool) (r : Siblings) (set set′ bodies′ called called′ found found′ : List ℕ)
+    : Type 0 where
+  pub walk : Walk t (callsAt* t (kidsAt t defs n)) (joined (parallelAt t (kidsAt t defs n)) (conflictsAt* t (kidsAt t defs n))) (r .once) set
+      set′ bodies′ called called′ found found′
+  pub last : defs ≡ true → IsNode t (r .last .0) × (owner t (r .last .0) ≡ f) × (first t n ≤ r .last .0)
+      × (finalAt t (first t n) ≡ exprAt t (r .last .0))
+
+-- the records of an accepted table, or none, beside what the lent list of len records is told
+pub record Finds (t : List ℕ) (len : ℕ) (r : Listing) : Type 0 where
+  pub told : verdictOf (r .checked) ≡ recordsVerdict t len
+  pub size : length (r .items) ≡ 512
+  pub fits : r .count ≤ len
+  pub few : r .count ≤ 512
+  pub records : take (r .count) (r .items) ≡ ifAccepted (recordsVerdict t len) (recordsOf t) []
+
+-- the whole list, whatever is lent
+pub record Lists (t : List ℕ) (r : Listing) : Type 0 where
+  pub told : verdictOf (r .checked) ≡ accepted (functions t) (nodes t)
+  pub size : length (r .items) ≡ 512
+  pub few : r .count ≤ 512
+  pub records : take (r .count) (r .items) ≡ recordsOf t
+  pub past : drop (r .count) (r .items) ≡ replicate (512 - r .count) noRecord

@@ -1,0 +1,54 @@
+// The arbiter list of an accepted table as a packed set: every body is walked, main's first, and each once.
+use crate::bits;
+use crate::walk;
+use table::Function;
+use table::Node;
+use table::read;
+ghost use mathlib.Core.Path.{_≡_};
+ghost use Prim.Native.Nat.{ℕ};
+ghost use Rattle.list.specs.Tags.{tagged, listed};
+ghost use Rattle.list.specs.Working.{Bit, Taken, Sited};
+
+// The calls of each function, self calls too.
+fn sites(table: &[u8]) -> [u8; 2112]
+    requires { ⌜ Taken (now table) ⌝ }
+    ensures { λ r. ⌜ Sited (now (table .entry)) r ⌝ }
+{
+    let mut row = [0u8; 2112];
+    let last = read::nodes(table);
+    let mut n: u16 = 0;
+    while n < last.0 {
+        n += 1;
+        let node = Node(n);
+        if read::kind(table, node) == 4 {
+            let word = read::word(table, node);
+            bits::put_at(&mut row, Function(word as u16), node);
+        }
+    }
+    row
+}
+
+// The calls that are in conflict in one of the bodies.
+pub(crate) fn arbiters(table: &[u8]) -> [u8; 64]
+    requires { ⌜ Taken (now table) ⌝ }
+    ensures { λ r. ⌜ ((m : ℕ) → Bit m → tagged r m ≡ listed (now (table .entry)) m) ⌝ }
+{
+    let row = sites(table);
+    let mut bodies = [0u8; 2112];
+    let mut called = [0u32; 33];
+    let mut found = [0u8; 64];
+    let main = read::functions(table);
+    let mut f: u16 = main.0;
+    while 0 < f {
+        walk::body_walk(
+            table,
+            &row,
+            Function(f),
+            &mut bodies,
+            &mut called,
+            &mut found,
+        );
+        f -= 1;
+    }
+    found
+}

@@ -1,0 +1,105 @@
+// Tag lists: node n is bit (n - 1) mod 8 of byte (n - 1) / 8.
+use table::Checked;
+use table::Function;
+use table::Node;
+use table::read;
+ghost use mathlib.Core.Path.{_≡_};
+ghost use mathlib.Core.Bool.{not};
+ghost use Prim.Native.Nat.{_+_, _-_, _*_, _≤_};
+ghost use lib.ListN.{length, take};
+ghost use Rattle.table.specs.Bytes.{functions, nodes};
+ghost use Rattle.table.specs.Find.{lowest, all};
+ghost use Rattle.table.specs.Survey.{verdictOf, ownersOf};
+ghost use Rattle.list.specs.Tags.{tagged, tagFits, tagsRefusal};
+ghost use Rattle.list.specs.Working.{Taken};
+
+// Whether a tag list marks node n; past its end it marks nothing.
+pub(crate) fn marks(tags: &[u8], n: usize) -> bool
+    requires { ⌜ 1 ≤ n ⌝ }
+    ensures { λ r. ⌜ r ≡ tagged (now (tags .entry)) n ⌝ }
+{
+    let at = (n - 1) / 8;
+    let k = (n - 1) % 8;
+    if at < tags.len() {
+        let x = tags[at];
+        let y = x >> k;
+        return y & 1 == 1;
+    }
+    false
+}
+
+// Whether no bit past the last node is set.
+fn none_past(tags: &[u8], last: usize) -> bool
+    requires { ⌜ (last ≤ 512) × (length (now tags) ≤ 64) ⌝ }
+    ensures { λ r. ⌜ r ≡ all (λ i. not (tagged (now (tags .entry)) (last + i))) (8 * length (now (tags .entry)) - last) ⌝ }
+{
+    let end = 8 * tags.len();
+    let mut i: usize = 0;
+    while last + i < end {
+        i += 1;
+        if marks(tags, last + i) {
+            return false;
+        }
+    }
+    true
+}
+
+// The lowest node that is tagged and is no call, or is a self call; 0 where there is none.
+fn lowest_unfit(table: &[u8], tags: &[u8], owner: [Function; 513], last: Node) -> u16
+    requires { ⌜ Taken (now table) × (owner ≡ ownersOf (now table)) × (last .0 ≡ nodes (now table)) ⌝ }
+    ensures { λ r. ⌜ r ≡ lowest (tagFits (now (table .entry)) (now (tags .entry))) (nodes (now (table .entry))) ⌝ }
+{
+    let mut n: u16 = 0;
+    while n < last.0 {
+        n += 1;
+        if marks(tags, n as usize) {
+            let kind = read::kind(table, Node(n));
+            if kind != 4 {
+                return n;
+            }
+            let word = read::word(table, Node(n));
+            let own = owner[n as usize];
+            if word == (own.0 as u32) {
+                return n;
+            }
+        }
+    }
+    0
+}
+
+// A tag list beside an accepted table: 10, all its cases.
+pub(crate) fn held(
+    table: &[u8],
+    tags: &[u8],
+    owner: [Function; 513],
+    main: Function,
+    last: Node,
+) -> Checked
+    requires { ⌜ Taken (now table) × (owner ≡ ownersOf (now table)) × (main .0 ≡ functions (now table)) × (last .0 ≡ nodes (now table)) ⌝ }
+    ensures { λ r. ⌜ verdictOf r ≡ tagsRefusal (now (table .entry)) (now (tags .entry)) ⌝ }
+{
+    let count = last.0 as usize;
+    if tags.len() != (count + 7) / 8 {
+        return Checked::Refused(10, Node(0));
+    }
+    if !none_past(tags, count) {
+        return Checked::Refused(10, Node(0));
+    }
+    let place = lowest_unfit(table, tags, owner, last);
+    if place != 0 {
+        return Checked::Refused(10, Node(place));
+    }
+    Checked::Accepted(main, last)
+}
+
+// The first bytes of a set.
+pub(crate) fn copy(tags: &mut [u8], set: [u8; 64])
+    requires { ⌜ length (now tags) ≤ 64 ⌝ }
+    ensures { λ _. ⌜ now (tags .exit) ≡ take (length (now (tags .entry))) set ⌝ }
+{
+    let mut i: usize = 0;
+    while i < tags.len() {
+        tags[i] = set[i];
+        i += 1;
+    }
+}

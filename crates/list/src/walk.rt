@@ -1,0 +1,190 @@
+// The walk over expressions: C of section 4.2 as packed sets, and PC wherever expressions are evaluated side by side.
+// Node walk and chain walk call each other, into the bodies of callees too; each body is walked once, and what it came to is kept.
+use crate::bits;
+use table::Function;
+use table::Node;
+use table::read;
+ghost use mathlib.Core.Path.{_≡_};
+ghost use mathlib.Core.Bool.{false};
+ghost use Prim.Native.Nat.{ℕ, _≤_};
+ghost use lib.ListN.{length};
+ghost use Rattle.table.specs.Expressions.{exprAt};
+ghost use Rattle.table.specs.Working.{IsFunction};
+ghost use Rattle.list.specs.Arbiters.{joined};
+ghost use Rattle.list.specs.Working.{Taken, callsAt, callsAt*, conflictsAt, conflictsAt*, parallelAt, siblings, Sited, Seen, Memo};
+ghost use Rattle.list.specs.Working.{Grown, Walk, Within, Beside, Sided, Chained};
+
+// Of a chain of siblings: the functions called in one of them, and in two of them; the body of a let.
+pub struct Siblings {
+    pub once: u32,
+    pub twice: u32,
+    pub last: Node,
+}
+
+// The calls at and below node n of function f go to `set`, its conflicts to `found`; the functions called there come back.
+fn node_walk(
+    table: &[u8],
+    sites: &[u8; 2112],
+    f: Function,
+    n: Node,
+    bodies: &mut [u8; 2112],
+    called: &mut [u32; 33],
+    found: &mut [u8; 64],
+    set: &mut [u8; 64],
+) -> u32
+    requires { ⌜ length (now set) ≡ 64 ⌝ }
+    requires { ⌜ Within (now table) (f .0) (n .0) ⌝ }
+    requires { ⌜ Sited (now table) (now sites) ⌝ }
+    requires { ⌜ Memo (now table) (now bodies) (now called) (now found) ⌝ }
+    ensures { λ r. ⌜ Walk (now (table .entry)) (callsAt (now (table .entry)) (exprAt (now (table .entry)) (n .0)))
+        (conflictsAt (now (table .entry)) (exprAt (now (table .entry)) (n .0))) r (now (set .entry)) (now (set .exit))
+        (now (bodies .exit)) (now (called .entry)) (now (called .exit)) (now (found .entry)) (now (found .exit)) ⌝ }
+{
+    let kind = read::kind(table, n);
+    if kind == 5 {
+        let first = read::first(table, n);
+        let r = chain_walk(table, sites, f, first, false, bodies, called, found, set);
+        return r.once;
+    }
+    if kind == 3 {
+        let r = side_walk(table, sites, f, n, false, bodies, called, found, set);
+        return r.once;
+    }
+    if kind == 6 {
+        let r = side_walk(table, sites, f, n, true, bodies, called, found, set);
+        let last = r.last;
+        let mask = node_walk(table, sites, f, last, bodies, called, found, set);
+        return r.once | mask;
+    }
+    if kind == 4 {
+        let r = side_walk(table, sites, f, n, false, bodies, called, found, set);
+        let word = read::word(table, n);
+        if word == (f.0 as u32) {
+            return r.once;
+        }
+        let g = Function(word as u16);
+        body_walk(table, sites, g, bodies, called, found);
+        bits::put(set, n);
+        bits::join_at(set, bodies, g);
+        let at = word as usize;
+        let below = called[at];
+        return r.once | (below | (1u32 << word));
+    }
+    0
+}
+
+// The children of node n, side by side: their sets are held against each other. Of a let (defs) the definientia alone.
+fn side_walk(
+    table: &[u8],
+    sites: &[u8; 2112],
+    f: Function,
+    n: Node,
+    defs: bool,
+    bodies: &mut [u8; 2112],
+    called: &mut [u32; 33],
+    found: &mut [u8; 64],
+    set: &mut [u8; 64],
+) -> Siblings
+    requires { ⌜ length (now set) ≡ 64 ⌝ }
+    requires { ⌜ Within (now table) (f .0) (n .0) ⌝ }
+    requires { ⌜ Beside (now table) (n .0) defs ⌝ }
+    requires { ⌜ Sited (now table) (now sites) ⌝ }
+    requires { ⌜ Memo (now table) (now bodies) (now called) (now found) ⌝ }
+    ensures { λ r. ⌜ Sided (now (table .entry)) (f .0) (n .0) defs r (now (set .entry)) (now (set .exit))
+        (now (bodies .exit)) (now (called .entry)) (now (called .exit)) (now (found .entry)) (now (found .exit)) ⌝ }
+{
+    let first = read::first(table, n);
+    if first.0 == 0 {
+        return Siblings {
+            once: 0,
+            twice: 0,
+            last: first,
+        };
+    }
+    let mut own = [0u8; 64];
+    let r = chain_walk(
+        table,
+        sites,
+        f,
+        first,
+        defs,
+        bodies,
+        called,
+        found,
+        &mut own,
+    );
+    bits::meet(found, &own, sites, r.twice);
+    bits::join(set, &own);
+    r
+}
+
+// Node c and the siblings after it; of a let (defs) the last one, its body, is left out and named.
+fn chain_walk(
+    table: &[u8],
+    sites: &[u8; 2112],
+    f: Function,
+    c: Node,
+    defs: bool,
+    bodies: &mut [u8; 2112],
+    called: &mut [u32; 33],
+    found: &mut [u8; 64],
+    set: &mut [u8; 64],
+) -> Siblings
+    requires { ⌜ length (now set) ≡ 64 ⌝ }
+    requires { ⌜ Within (now table) (f .0) (c .0) ⌝ }
+    requires { ⌜ Sited (now table) (now sites) ⌝ }
+    requires { ⌜ Memo (now table) (now bodies) (now called) (now found) ⌝ }
+    ensures { λ r. ⌜ Chained (now (table .entry)) (f .0) (c .0) defs r (now (set .entry)) (now (set .exit))
+        (now (bodies .exit)) (now (called .entry)) (now (called .exit)) (now (found .entry)) (now (found .exit)) ⌝ }
+{
+    let next = read::next(table, c);
+    if next.0 == 0 {
+        if defs {
+            return Siblings {
+                once: 0,
+                twice: 0,
+                last: c,
+            };
+        }
+        let mask = node_walk(table, sites, f, c, bodies, called, found, set);
+        return Siblings {
+            once: mask,
+            twice: 0,
+            last: c,
+        };
+    }
+    let mask = node_walk(table, sites, f, c, bodies, called, found, set);
+    let rest = chain_walk(table, sites, f, next, defs, bodies, called, found, set);
+    let last = rest.last;
+    Siblings {
+        once: mask | rest.once,
+        twice: rest.twice | (mask & rest.once),
+        last,
+    }
+}
+
+// Walks the body of g, unless that was done before, and keeps its set and the functions called in it.
+pub(crate) fn body_walk(
+    table: &[u8],
+    sites: &[u8; 2112],
+    g: Function,
+    bodies: &mut [u8; 2112],
+    called: &mut [u32; 33],
+    found: &mut [u8; 64],
+)
+    requires { ⌜ Taken (now table) × IsFunction (now table) (g .0) ⌝ }
+    requires { ⌜ Sited (now table) (now sites) ⌝ }
+    requires { ⌜ Memo (now table) (now bodies) (now called) (now found) ⌝ }
+    ensures { λ _. ⌜ Memo (now (table .entry)) (now (bodies .exit)) (now (called .exit)) (now (found .exit))
+        × Grown (now (called .entry)) (now (called .exit)) (now (found .entry)) (now (found .exit)) × Seen (now (called .exit)) (g .0) ⌝ }
+{
+    let at = g.0 as usize;
+    if called[at] != 0 {
+        return;
+    }
+    let root = read::root(table, g);
+    let mut set = [0u8; 64];
+    let mask = node_walk(table, sites, g, root, bodies, called, found, &mut set);
+    bits::keep(bodies, g, &set);
+    called[at] = mask | 1;
+}
