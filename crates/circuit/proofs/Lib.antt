@@ -16,6 +16,8 @@ pub mod PlanLaws
 pub mod GroupLaws
 pub mod GiveLaws
 pub mod TakeLaws
+pub mod StandsLaws
+pub mod TurnLaws
 pub mod RunFacts
 pub mod Fits
 pub mod ReadingFits

@@ -149,3 +149,14 @@ abbrev pub Took : (t : List ℕ) → State512 → ℕ → Act → (code : ℕ) �
 Took t s n stuck code s′ = (code ≡ 0) × (s′ ≡ s)
 Took t s n blocked code s′ = (code ≡ 1) × (s′ ≡ s)
 Took t s n (does m) code s′ = (code ≡ 2) × (s′ ≡ perform (nodes t) (owner t) (bodyOf t) s n m)
+
+-- the node has a move
+abbrev pub goes : Act → Bool
+goes stuck = false
+goes blocked = false
+goes (does m) = true
+
+-- 24 isn't met: every status up to N is at most 3, every occupant up to F at most N
+pub record Stands (t : List ℕ) (s : State512) : Type 0 where
+  pub statuses : over 3 (nodes t) (s .status) ≡ false
+  pub occupants : over (nodes t) (functions t) (s .occupant) ≡ false
