@@ -18,6 +18,7 @@ pub mod GiveLaws
 pub mod TakeLaws
 pub mod StandsLaws
 pub mod TurnLaws
+pub mod EntryLaws
 pub mod RunFacts
 pub mod Fits
 pub mod ReadingFits

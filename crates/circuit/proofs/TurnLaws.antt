@@ -114,7 +114,7 @@ module _ (t tags : List ℕ) (fair : Fair t) (s : State512) (n : ℕ) where
     out-moved (does m) h p q top et r er =
         let e : top ≡ id (bodyOf t (functions t)) = et ∙ sym (main-root t fair) in
         let f : r ≡ told (id (bodyOf t (functions t))) (view s′) =
-            er ∙ ap (λ x. pick (eqb (entry (s′ .status) 0 x) 3) (answered (entry (s′ .value) 0 x)) taken) e in
+        er ∙ ap (λ x. pick (eqb (entry (s′ .status) 0 x) 3) (answered (entry (s′ .value) 0 x)) taken) e in
         (λ i. record { answer = f i; state = s′ }) ∙ ap (λ u. record { answer = told (id (bodyOf t (functions t))) (view u); state = u }) (h .1)
 
   told-accepted : (b : Bool) (v : ℕ) → Accepted (pick b (answered v) taken)

@@ -1,6 +1,6 @@
 -- what the parts of a step ask of each other: the step of a node read off its record, and the nodes of each function in a chain
 use Prim.Native.Nat.{ℕ, zero, suc, _+_, _-_, _*_, _/_, _%_, _^_, _≤_}
-use mathlib.Core.Bool.{Bool, true, false, _&&_}
+use mathlib.Core.Bool.{Bool, true, false, _&&_, _||_}
 use mathlib.Core.Path.{_≡_}
 use mathlib.Core.List.{List, [], _∷_, map}
 use lib.Bits.{bitAnd, bitOr, bitXor}
@@ -12,6 +12,8 @@ use Rattle.table.specs.Naming.{owner, chain, children}
 use Rattle.table.specs.Check.{accepted, checkOf}
 use Rattle.table.specs.Expressions.{bodyOf, thenAt, elseAt}
 use Rattle.table.specs.declared.Function.{Function}
+use Rattle.table.specs.declared.Node.{Node}
+use Rattle.list.specs.Tags.{checkWith}
 use Rattle.circuit.specs.State.{State512, entry, register}
 use Rattle.circuit.specs.Step.{Act, stuck, blocked, does, Move, begins, turns, finishes, enters, leaves, restarts, by-status, over, perform}
 use Rattle.circuit.specs.Operations.{operate}
@@ -38,6 +40,9 @@ pub record Grouped (t heads links : List ℕ) : Type 0 where
 
 abbrev pub ofFunction : Function → ℕ
 ofFunction f = f .0
+
+abbrev pub asNode : ℕ → Node
+asNode n = record { 0 = n }
 
 abbrev pub stateAs : List ℕ → List Bool → List ℕ → List ℕ → List ℕ → State512
 stateAs a b c d e = record { status = a; second = b; value = c; registers = d; occupant = e }
@@ -160,3 +165,12 @@ goes (does m) = true
 pub record Stands (t : List ℕ) (s : State512) : Type 0 where
   pub statuses : over 3 (nodes t) (s .status) ≡ false
   pub occupants : over (nodes t) (functions t) (s .occupant) ≡ false
+
+-- 24 is met
+abbrev pub strayIn : List ℕ → State512 → Bool
+strayIn t s = over 3 (nodes t) (s .status) || over (nodes t) (functions t) (s .occupant)
+
+-- a table and tags that are taken
+pub record Agreed (t tags : List ℕ) : Type 0 where
+  pub fair : Fair t
+  pub tagging : checkWith t tags ≡ accepted (functions t) (nodes t)

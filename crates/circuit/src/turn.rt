@@ -77,8 +77,11 @@ pub(crate) fn turn(
 ) -> Answer
     requires { ⌜ Fair (now table) × Owners (now table) (now own) × Grouped (now table) (now heads) (now links)
         × Stands (now table) (stateAs (now status) (now second) (now value) (now registers) (now occupant)) ⌝ }
-    ensures { λ r. ⌜ _≡_ {A = Stepped} (record { answer = replyOf r; state = stateAs (now (status .exit)) (now (second .exit)) (now (value .exit))
-        (now (registers .exit)) (now (occupant .exit)) })
+    ensures { λ r. ⌜ _≡_ {A = Stepped} (record {
+      answer = replyOf r;
+      state = stateAs (now (status .exit)) (now (second .exit)) (now (value .exit))
+          (now (registers .exit)) (now (occupant .exit));
+    })
         (circuitOf (now (table .entry)) (now (tags .entry)) (stateAs (now (status .entry)) (now (second .entry)) (now (value .entry))
         (now (registers .entry)) (now (occupant .entry))) (n .0)) ⌝ }
 {
