@@ -32,7 +32,7 @@ use Rattle.table.specs.Check as TableCheck
 use Rattle.table.specs.Pick.{pick}
 
 -- the definiens of a bound node is a node
-bound-node : (t : List ℕ) → Passed t → (n m d : ℕ) → IsNode t n → exprAt t n ≡ bound m d → IsNode t d
+pub bound-node : (t : List ℕ) → Passed t → (n m d : ℕ) → IsNode t n → exprAt t n ≡ bound m d → IsNode t d
 unfolding inScope definiens
 bound-node t ok n m d i e = go (node-view t ok n i)
   where

@@ -8,6 +8,18 @@ pub mod MeaningFacts
 pub mod Demands
 pub mod OwnList
 pub mod AnyState
+-- the code: entries, chains, plans
+pub mod CellLaws
+pub mod ChainLaws
+pub mod OperationLaws
+pub mod ActBy
+pub mod PlanLaws
+pub mod GroupLaws
+pub mod GiveLaws
+pub mod TakeLaws
+pub mod StandsLaws
+pub mod TurnLaws
+pub mod EntryLaws
 pub mod RunFacts
 pub mod Fits
 pub mod ReadingFits

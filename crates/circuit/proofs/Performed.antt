@@ -98,10 +98,10 @@ module _ (F N : ℕ) (home : ℕ → ℕ) (body : ℕ → Expr) where
   FairAct n (does m) = Fair n m
 
 module _ (N : ℕ) (home : ℕ → ℕ) (g m : ℕ) where
-  mine-own : Owns N home g m → mine N home g m ≡ true
+  pub mine-own : Owns N home g m → mine N home g m ≡ true
   mine-own o = ap (λ b. b && eqb (home m) g) (ltb-yes m (suc N) (omega (arith, o .1))) ∙ eqb-yes (home m) g (o .2)
 
-  mine-not : (Owns N home g m → ⊥) → 1 ≤ m → mine N home g m ≡ false
+  pub mine-not : (Owns N home g m → ⊥) → 1 ≤ m → mine N home g m ≡ false
   mine-not o p = go (ltb m (suc N)) refl
     where
       go : (b : Bool) → ltb m (suc N) ≡ b → (b && eqb (home m) g) ≡ false

@@ -8,3 +8,4 @@ pub mod Reading
 pub mod Demand
 pub mod Companions
 pub mod Meaning
+pub mod Plan

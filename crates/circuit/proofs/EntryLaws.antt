@@ -1,0 +1,175 @@
+-- the entries: occupants as numbers, the owners that a survey tells, 24, and the steps of a run
+use Prim.Native.Nat.{ℕ, zero, suc, _+_, _-_, _≤_, _<_}
+use mathlib.Core.Bool.{Bool, true, false, _&&_, _||_, not}
+use mathlib.Core.Path.{_≡_, refl, subst, sym, ap, _∙_}
+use mathlib.Core.List.{List, [], _∷_, map}
+use native.Mathlib.Omega.{arith}
+use native.Mathlib.Numerals.{add-one}
+use lib.Dec.{eqb}
+use lib.ListN.{length, getD, drop, drop-of-length-le, List·getD-map}
+use lib.Seq.{drop-cons}
+use Rattle.table.specs.Bytes.{functions, nodes}
+use Rattle.table.specs.Check.{Verdict, accepted, stage, checkOf}
+use Rattle.table.specs.Survey.{ownersOf}
+use Rattle.table.specs.declared.Function.{Function}
+use Rattle.table.specs.declared.Node.{Node}
+use Rattle.table.proofs.Passed.{passes}
+use Rattle.list.specs.Tags.{after, tagLength, nonePast, tagsRefusal, checkWith}
+use Rattle.list.proofs.Owners.{owner-of}
+use Rattle.circuit.specs.State.{State512}
+use Rattle.circuit.specs.Step.{Reply, taken, answered, refused, Stepped, refusal, over}
+use Rattle.circuit.specs.Circuit.{circuitOf, stepOf}
+use Rattle.circuit.specs.Runs.{standing, Ran, Halt, whole, stopped, andThen, runFrom, runAfter, runOf}
+use Rattle.circuit.specs.Meaning.{numbers}
+use Rattle.circuit.specs.Plan.{Fair, Owners, Stands, Agreed, strayIn, ofFunction, asNode, stateAs}
+use Rattle.circuit.proofs.ChainLaws.{ok}
+use Rattle.circuit.proofs.TurnLaws.{fair-from, step-is, turn-stands, turn-stray, turn-stray′}
+use Rattle.circuit.proofs.Demands.{after-both}
+use Rattle.table.specs.Check as TableCheck
+
+pub numbered : (l : List ℕ) → numbers (map asNode l) ≡ l
+numbered [] = refl
+numbered (x ∷ l) = ap (λ r. x ∷ r) (numbered l)
+
+pub owners-told : (t : List ℕ) → Fair t → (raw : List Function) → raw ≡ ownersOf t → (own : List ℕ) → own ≡ map ofFunction raw → Owners t own
+owners-told t fair raw e own f n i =
+    ap (λ l. getD l n 0) f ∙ List·getD-map ofFunction raw n (record { 0 = 0 })
+    ∙ owner-of t fair raw e n (record { 0 = 0 }) i (omega (arith, ok t fair .N-high))
+
+-- 24
+either-true : (a b : Bool) → (a || b) ≡ true → (a ≡ true → ⊥) → (a ≡ false) × (b ≡ true)
+either-true true b e d = absurd (d refl)
+either-true false b e d = (refl, e)
+
+neither : (a b : Bool) → (a || b) ≡ false → (a ≡ false) × (b ≡ false)
+neither true b e = let z : _≡_ {A = ℕ} 0 1 = cc in absurd (omega arith)
+neither false b e = (refl, e)
+
+pub stands-from : (t : List ℕ) (s : State512) (b : Bool) → b ≡ strayIn t s → b ≡ false → Stands t s
+stands-from t s b e h =
+    let x = neither (over 3 (nodes t) (s .status)) (over (nodes t) (functions t) (s .occupant)) (sym e ∙ h) in
+    record { statuses = x .0; occupants = x .1 }
+
+pub step-stray : (t tags : List ℕ) → Fair t → (s : State512) (n : ℕ) → (n ≡ 0 → ⊥) → n ≤ nodes t → (b : Bool) → b ≡ strayIn t s → b ≡ true
+    → refusal s 24 0 ≡ circuitOf t tags s n
+step-stray t tags fair s n d i b e h = go (over 3 (nodes t) (s .status)) refl
+  where
+    go : (x : Bool) → over 3 (nodes t) (s .status) ≡ x → refusal s 24 0 ≡ circuitOf t tags s n
+    go true q = turn-stray t tags fair s n d i q
+    go false q = turn-stray′ t tags fair s n d i q (sym (ap (λ y. y || over (nodes t) (functions t) (s .occupant)) q) ∙ sym e ∙ h)
+
+pub agreed-from : (t tags : List ℕ) (F N : ℕ) → checkWith t tags ≡ accepted F N → Agreed t tags
+agreed-from t tags F N e = record { fair = fair-from t tags F N e; tagging = own e }
+  where
+    own : checkWith t tags ≡ accepted F N → checkWith t tags ≡ accepted (functions t) (nodes t)
+    own = unfold checkWith tagsRefusal in (λ q.
+        let x = after-both (checkOf t) _ F N q in
+        let f = passes 10 (eqb (length tags) (tagLength t) && nonePast t tags) _ _ F N (x .1) in
+        q ∙ sym (f .2))
+
+-- 24 where query and runs look at it
+module _ (t tags : List ℕ) (ag : Agreed t tags) (s : State512) where
+  pub stray-standing : (b : Bool) → b ≡ strayIn t s → b ≡ true → standing t tags s ≡ TableCheck.refused 24 0
+  unfolding standing after stage
+  stray-standing b e h = rw (ag .tagging) (go (over 3 (nodes t) (s .status)) refl)
+    where
+      go : (x : Bool) → over 3 (nodes t) (s .status) ≡ x
+          → stage 24 (not x) 0 (λ _. stage 24 (not (over (nodes t) (functions t) (s .occupant))) 0 (λ _. accepted (functions t) (nodes t)))
+          ≡ TableCheck.refused 24 0
+      go true q = refl
+      go false q = rw (sym (ap (λ y. y || over (nodes t) (functions t) (s .occupant)) q) ∙ sym e ∙ h) refl
+
+  pub stand-standing : Stands t s → standing t tags s ≡ accepted (functions t) (nodes t)
+  unfolding standing after stage
+  stand-standing st = rw (ag .tagging, st .statuses, st .occupants) refl
+
+pub refused-standing : (t tags : List ℕ) (s : State512) (k p : ℕ) → checkWith t tags ≡ TableCheck.refused k p → standing t tags s ≡ TableCheck.refused k p
+unfolding standing after
+refused-standing t tags s k p e = rw e refl
+
+-- a run over a list
+abbrev pub plus : ℕ → Ran → Ran
+plus i r = record { taken = i + r .taken; halt = r .halt; state = r .state }
+
+pub run-turned : (t tags : List ℕ) (s : State512) (ns : List ℕ) (k p : ℕ) → standing t tags s ≡ TableCheck.refused k p
+    → _≡_ {A = Ran} (record { taken = 0; halt = stopped k p; state = s }) (runOf t tags s ns)
+unfolding runOf
+run-turned t tags s ns k p e = sym (rw e refl)
+
+pub run-goes : (t tags : List ℕ) (s : State512) (ns : List ℕ) (F N : ℕ) → standing t tags s ≡ accepted F N → runFrom t tags s ns ≡ runOf t tags s ns
+unfolding runOf
+run-goes t tags s ns F N e = sym (rw e refl)
+
+one-more : (x : Stepped) (l : Ran) → andThen x taken l ≡ plus 1 l
+one-more x l = λ j. record { taken = sum (l .taken) j; halt = l .halt; state = l .state }
+  where
+    sum : (k : ℕ) → suc k ≡ 1 + k
+    sum k = omega arith
+
+module _ (t tags : List ℕ) (ag : Agreed t tags) (s : State512) (ns : List ℕ) (i : ℕ) where
+  module _ (h : i < length ns) (r : Reply) (s′ : State512)
+      (e : _≡_ {A = Stepped} (record { answer = r; state = s′ }) (circuitOf t tags s (getD ns i 0))) where
+    step-now : _≡_ {A = Stepped} (record { answer = r; state = s′ }) (stepOf t tags s (getD ns i 0))
+    step-now = e ∙ sym (step-is t tags (functions t) (nodes t) (ag .tagging) s (getD ns i 0))
+
+    next-run : runFrom t tags s (drop i ns) ≡ andThen (record { answer = r; state = s′ }) r (runFrom t tags s′ (drop (suc i) ns))
+    unfolding runFrom
+    next-run = ap (runFrom t tags s) (drop-cons ns i 0 h)
+        ∙ sym (ap (λ x. andThen x (x .answer) (runFrom t tags (x .state) (drop (suc i) ns))) step-now)
+
+    pub run-stops : (k p : ℕ) → r ≡ refused k p → (u : State512) → u ≡ s′
+        → _≡_ {A = Ran} (record { taken = i; halt = stopped k p; state = u }) (plus i (runFrom t tags s (drop i ns)))
+    run-stops k p q u w =
+        (λ j. record { taken = plain j; halt = stopped k p; state = w j })
+        ∙ sym (ap (plus i) (next-run ∙ ap (λ x. andThen (record { answer = x; state = s′ }) x (runFrom t tags s′ (drop (suc i) ns))) q))
+      where
+        plain : i ≡ i + 0
+        plain = omega arith
+
+    run-on : (b : Reply) → r ≡ b → ((x : Stepped) (l : Ran) → andThen x b l ≡ plus 1 l)
+        → plus i (runFrom t tags s (drop i ns)) ≡ plus (i + 1) (runFrom t tags s′ (drop (i + 1) ns))
+    run-on b q f =
+        ap (plus i) (next-run ∙ ap (λ x. andThen (record { answer = x; state = s′ }) x (runFrom t tags s′ (drop (suc i) ns))) q
+        ∙ f (record { answer = b; state = s′ }) (runFrom t tags s′ (drop (suc i) ns)))
+        ∙ (λ j. record {
+          taken = sum (runFrom t tags s′ (drop (suc i) ns) .taken) j;
+          halt = runFrom t tags s′ (drop (suc i) ns) .halt;
+          state = runFrom t tags s′ (drop (suc i) ns) .state;
+        })
+        ∙ ap (λ k. plus (i + 1) (runFrom t tags s′ (drop k ns))) (sym (add-one i))
+      where
+        sum : (x : ℕ) → i + (1 + x) ≡ i + 1 + x
+        sum x = omega arith
+
+    pub run-takes : r ≡ taken → plus i (runFrom t tags s (drop i ns)) ≡ plus (i + 1) (runFrom t tags s′ (drop (i + 1) ns))
+    run-takes q = run-on taken q one-more
+
+    pub run-answers : {v : ℕ} → r ≡ answered v → plus i (runFrom t tags s (drop i ns)) ≡ plus (i + 1) (runFrom t tags s′ (drop (i + 1) ns))
+    run-answers {v} q = run-on (answered v) q one-more
+
+    pub run-stands : Stands t s → Stands t s′
+    run-stands st = subst (λ x. Stands t (x .state)) (sym e) (turn-stands t tags (ag .fair) s st (getD ns i 0))
+
+  pub run-ends : length ns ≤ i → (u : State512) → u ≡ s
+      → _≡_ {A = Ran} (record { taken = i; halt = whole; state = u }) (plus i (runFrom t tags s (drop i ns)))
+  unfolding runFrom
+  run-ends h u w = (λ j. record { taken = plain j; halt = whole; state = w j })
+      ∙ sym (ap (λ l. plus i (runFrom t tags s l)) (drop-of-length-le ns {i = i} h))
+    where
+      plain : i ≡ i + 0
+      plain = omega arith
+
+pub run-begins : (r : Ran) → r ≡ plus 0 r
+run-begins r = λ j. record { taken = plain (r .taken) j; halt = r .halt; state = r .state }
+  where
+    plain : (k : ℕ) → k ≡ 0 + k
+    plain k = omega arith
+
+-- occupants with their names
+module _ (a : List ℕ) (b : List Bool) (c d : List ℕ) (l : List Node) (e : List ℕ) (n : numbers l ≡ e) where
+  pub named-state : stateAs a b c d (numbers l) ≡ stateAs a b c d e
+  named-state = λ i. stateAs a b c d (n i)
+
+  pub told-stepped : (r : Reply) (x : Stepped) → _≡_ {A = Stepped} (record { answer = r; state = stateAs a b c d e }) x
+      → _≡_ {A = Stepped} (record { answer = r; state = stateAs a b c d (numbers l) }) x
+  told-stepped r x h = (λ i. record { answer = r; state = stateAs a b c d (n i) }) ∙ h

@@ -1,0 +1,121 @@
+-- the registers of a function, filled from a chain's values
+use Prim.Native.Nat.{ℕ, zero, suc, _+_, _-_, _*_, _/_, _%_, _≤_, _<_}
+use mathlib.Core.Bool.{Bool, true, false, _&&_}
+use mathlib.Core.Path.{_≡_, refl, subst, sym, ap, _∙_}
+use mathlib.Core.List.{List, [], _∷_, map}
+use native.Mathlib.Omega.{arith}
+use native.Mathlib.Numerals.{add-one}
+use native.Mathlib.Decide.{ℕ-discrete, decLt}
+use lib.Dec.{eqb, ltb}
+use lib.ListN.{length, getD, set, drop, length-set}
+use lib.Seq.{getD-set-same, getD-set-other, ext-getD, getD-drop, drop-drop, drop-nil}
+use Rattle.table.specs.Pick.{pick}
+use Rattle.table.specs.Bytes.{nodes, next}
+use Rattle.table.specs.Naming.{chain}
+use Rattle.table.proofs.Tests.{eqb-yes, eqb-no, ltb-yes, ltb-no}
+use Rattle.circuit.specs.State.{entry, fill}
+use Rattle.circuit.specs.Plan.{Fair}
+use Rattle.circuit.proofs.ChainLaws.{chain-end, chain-here, next-in}
+use Rattle.circuit.proofs.StateLaws.{length-fill, getD-alter}
+
+-- place k is a register of g before i
+abbrev filledBy : ℕ → ℕ → ℕ → Bool
+filledBy g i k = eqb (k / 8 + 1) g && ltb (k % 8) i
+
+-- the first i registers of g are filled; those after the last value with 0
+pub record GivenTo (t value vs l₀ l : List ℕ) (g i at : ℕ) : Type 0 where
+  pub inside : at ≤ nodes t
+  pub tail : drop i vs ≡ map (entry value 0) (chain t at)
+  pub sized : length l ≡ length l₀
+  pub each : (k : ℕ) → k < length l₀ → getD l k 0 ≡ pick (filledBy g i k) (getD vs (k % 8) 0) (getD l₀ k 0)
+
+both-no : (b : Bool) → (b && false) ≡ false
+both-no true = refl
+both-no false = refl
+
+module _ (t : List ℕ) (fair : Fair t) (value : List ℕ) (c : ℕ) (low : c ≤ nodes t) (l₀ : List ℕ) (g : ℕ) where
+  abbrev vs : List ℕ
+  vs = map (entry value 0) (chain t c)
+
+  pub given-start : GivenTo t value vs l₀ l₀ g 0 c
+  given-start = record {
+    inside = low;
+    tail = refl;
+    sized = refl;
+    each = λ k h. sym (ap (λ b. pick b (getD vs (k % 8) 0) (getD l₀ k 0))
+        (ap (λ b. eqb (k / 8 + 1) g && b) (ltb-no (k % 8) 0 (λ x. omega arith)) ∙ both-no (eqb (k / 8 + 1) g)));
+  }
+
+  module _ (l : List ℕ) (i at : ℕ) (h : GivenTo t value vs l₀ l g i at) (few : i < 8) (some : 1 ≤ g) (base x on : ℕ) (eb : base ≡ 8 * (g - 1))
+      (ex : x ≡ entry value 0 at) (eo : on ≡ pick (eqb at 0) 0 (next t at)) where
+    head-is : getD (map (entry value 0) (chain t at)) 0 0 ≡ entry value 0 at
+    unfolding entry
+    head-is = go (ℕ-discrete at 0)
+      where
+        go : Dec (at ≡ 0) → getD (map (entry value 0) (chain t at)) 0 0 ≡ entry value 0 at
+        go (yes z) = ap (λ m. getD (map (entry value 0) m) 0 0) (chain-end t fair at z) ∙ sym (ap (entry value 0) z)
+        go (no z) = ap (λ m. getD (map (entry value 0) m) 0 0) (chain-here t fair at z (h .inside) (next t at) refl)
+
+    value-is : x ≡ getD vs i 0
+    value-is = ex ∙ sym head-is ∙ ap (λ m. getD m 0 0) (sym (h .tail)) ∙ getD-drop i vs 0 0 ∙ ap (λ j. getD vs j 0) plain
+      where
+        plain : i + 0 ≡ i
+        plain = omega arith
+
+    on-is : (on ≤ nodes t) × (drop 1 (map (entry value 0) (chain t at)) ≡ map (entry value 0) (chain t on))
+    on-is = go (ℕ-discrete at 0)
+      where
+        go : Dec (at ≡ 0) → (on ≤ nodes t) × (drop 1 (map (entry value 0) (chain t at)) ≡ map (entry value 0) (chain t on))
+        go (yes z) =
+            let o : on ≡ 0 = eo ∙ ap (λ b. pick b 0 (next t at)) (eqb-yes at 0 z) in
+            (omega arith, ap (λ m. drop 1 (map (entry value 0) m)) (chain-end t fair at z) ∙ sym (ap (map (entry value 0)) (chain-end t fair on o)))
+        go (no z) =
+            let o : on ≡ next t at = eo ∙ ap (λ b. pick b 0 (next t at)) (eqb-no at 0 z) in
+            (next-in t fair at z (h .inside) on o, ap (λ m. drop 1 (map (entry value 0) m)) (chain-here t fair at z (h .inside) on o))
+
+    each-next : (k : ℕ) → k < length l₀ → Dec (k ≡ base + i)
+        → getD (set l (base + i) x) k 0 ≡ pick (filledBy g (i + 1) k) (getD vs (k % 8) 0) (getD l₀ k 0)
+    each-next k q (yes e) =
+        let a : k / 8 + 1 ≡ g = omega arith in
+        let b : k % 8 ≡ i = omega arith in
+        rw (eqb-yes (k / 8 + 1) g a, ltb-yes (k % 8) (i + 1) (omega arith))
+        (subst (λ j. getD (set l (base + i) x) j 0 ≡ getD vs (k % 8) 0) (sym e)
+        (getD-set-same l (base + i) x 0 (omega (arith, h .sized)) ∙ value-is ∙ ap (λ j. getD vs j 0) (sym b)))
+    each-next k q (no e) = getD-set-other l (base + i) k x 0 e ∙ h .each k q ∙ ap (λ b. pick b (getD vs (k % 8) 0) (getD l₀ k 0)) (go (ℕ-discrete (k / 8 + 1) g))
+      where
+        near : k / 8 + 1 ≡ g → ltb (k % 8) i ≡ ltb (k % 8) (i + 1)
+        near a = go′ (decLt (k % 8) i)
+          where
+            go′ : Dec (k % 8 < i) → ltb (k % 8) i ≡ ltb (k % 8) (i + 1)
+            go′ (yes y) = ltb-yes (k % 8) i y ∙ sym (ltb-yes (k % 8) (i + 1) (omega arith))
+            go′ (no y) = ltb-no (k % 8) i y ∙ sym (ltb-no (k % 8) (i + 1) (λ z. e (omega arith)))
+
+        go : Dec (k / 8 + 1 ≡ g) → filledBy g i k ≡ filledBy g (i + 1) k
+        go (yes a) = ap (λ b. eqb (k / 8 + 1) g && b) (near a)
+        go (no a) = ap (λ b. b && ltb (k % 8) i) (eqb-no (k / 8 + 1) g a) ∙ sym (ap (λ b. b && ltb (k % 8) (i + 1)) (eqb-no (k / 8 + 1) g a))
+
+    pub given-next : GivenTo t value vs l₀ (set l (base + i) x) g (i + 1) on
+    given-next = record {
+      inside = on-is .0;
+      tail = sym (drop-drop 1 i vs) ∙ ap (drop 1) (h .tail) ∙ on-is .1;
+      sized = length-set l (base + i) x ∙ h .sized;
+      each = λ k q. each-next k q (ℕ-discrete k (base + i));
+    }
+
+  pub given-end : (l : List ℕ) (i at : ℕ) → GivenTo t value vs l₀ l g i at → 8 ≤ i → l ≡ fill g vs l₀
+  unfolding fill
+  given-end l i at h q = ext-getD 0 l (fill g vs l₀) (h .sized ∙ sym (length-fill g vs l₀)) (λ k r. each k (omega (arith, h .sized)))
+    where
+      and-true : (b : Bool) → (b && true) ≡ b
+      and-true true = refl
+      and-true false = refl
+
+      plain : (k : ℕ) → 0 + k ≡ k
+      plain k = omega arith
+
+      each : (k : ℕ) → k < length l₀ → getD l k 0 ≡ getD (fill g vs l₀) k 0
+      each k r = h .each k r
+          ∙ ap (λ b. pick b (getD vs (k % 8) 0) (getD l₀ k 0))
+          (ap (λ b. eqb (k / 8 + 1) g && b) (ltb-yes (k % 8) i (omega arith)) ∙ and-true (eqb (k / 8 + 1) g))
+          ∙ sym (getD-alter (λ j x. pick (eqb (j / 8 + 1) g) (getD vs (j % 8) 0) x) 0 l₀ k 0 r
+          ∙ ap (λ j. pick (eqb (j / 8 + 1) g) (getD vs (j % 8) 0) (getD l₀ k 0)) (plain k))

@@ -1,0 +1,155 @@
+-- a step asked at a number, test by test; when it is possible, and what it keeps
+use Prim.Native.Nat.{ℕ, _≤_, _<_}
+use mathlib.Core.Bool.{Bool, true, false}
+use mathlib.Core.Path.{_≡_, refl, subst, sym, ap, _∙_}
+use mathlib.Core.List.{List}
+use native.Mathlib.Omega.{arith}
+use native.Mathlib.Decide.{ℕ-discrete, decLe}
+use lib.Dec.{eqb, ltb}
+use Rattle.table.specs.Pick.{pick}
+use Rattle.table.specs.Syntax.{id}
+use Rattle.table.specs.Bytes.{functions, nodes, root}
+use Rattle.table.specs.Naming.{owner}
+use Rattle.table.specs.Check.{Verdict, accepted, checkOf}
+use Rattle.table.specs.Expressions.{bodyOf, exprAt}
+use Rattle.table.specs.Working.{IsNode, IsFunction}
+use Rattle.table.proofs.Tests.{eqb-yes, eqb-no, eqb-true, ltb-yes, ltb-no}
+use Rattle.table.proofs.Accepted.{id-body}
+use Rattle.table.proofs.Passed.{passed}
+use Rattle.list.specs.Tags.{tagged, checkWith}
+use Rattle.circuit.specs.State.{State512, view, entry}
+use Rattle.circuit.specs.Step.{Act, stuck, blocked, does, Reply, taken, answered, refused, Stepped, refusal, done, told, outcome, perform}
+use Rattle.circuit.specs.Step.{circuitStep, over}
+use Rattle.circuit.specs.Operations.{operate}
+use Rattle.circuit.specs.Play.{Accepted}
+use Rattle.circuit.specs.Circuit.{actOf, circuitOf, stepAfter, stepOf, Possible}
+use Rattle.circuit.specs.Runs.{MainDone, mainValue}
+use Rattle.circuit.specs.Plan.{Fair, Took, Stands, goes}
+use Rattle.circuit.proofs.Demands.{after-both}
+use Rattle.circuit.proofs.StandsLaws.{kept}
+use Rattle.circuit.proofs.ChainLaws.{ok}
+use Rattle.table.specs.Check as TableCheck
+
+-- a table whose tags are taken is taken
+pub fair-from : (t tags : List ℕ) (F N : ℕ) → checkWith t tags ≡ accepted F N → Fair t
+unfolding checkWith
+fair-from t tags F N e =
+    let x = after-both (checkOf t) _ F N e in
+    let p = passed t (x .0 .0) (x .0 .1) (x .0 .2) in
+    x .0 .2 ∙ sym (λ i. accepted (p .1 i) (p .2 i))
+
+-- and a step there is the circuit's
+pub step-is : (t tags : List ℕ) (F N : ℕ) → checkWith t tags ≡ accepted F N → (s : State512) (n : ℕ) → stepOf t tags s n ≡ circuitOf t tags s n
+unfolding stepOf stepAfter
+step-is t tags F N e s n = rw e refl
+
+pub step-turned : (t tags : List ℕ) (k p : ℕ) → checkWith t tags ≡ TableCheck.refused k p → (s : State512) (n : ℕ)
+    → refusal s k p ≡ stepOf t tags s n
+unfolding stepOf stepAfter
+step-turned t tags k p e s n = sym (rw e refl)
+
+pub main-root : (t : List ℕ) → Fair t → id (bodyOf t (functions t)) ≡ root t (functions t)
+main-root t fair = id-body t (ok t fair) (functions t) (ok t fair .F-low, omega arith)
+
+module _ (t tags : List ℕ) (fair : Fair t) (s : State512) (n : ℕ) where
+  pub turn-zero : n ≡ 0 → refusal s 12 0 ≡ circuitOf t tags s n
+  unfolding circuitOf circuitStep
+  turn-zero e = sym (rw (eqb-yes n 0 e) refl)
+
+  pub turn-past : (n ≡ 0 → ⊥) → nodes t < n → refusal s 12 0 ≡ circuitOf t tags s n
+  unfolding circuitOf circuitStep
+  turn-past d h = sym (rw (eqb-no n 0 d, ltb-yes (nodes t) n h) refl)
+
+  module _ (d : n ≡ 0 → ⊥) (h : n ≤ nodes t) where
+    pub turn-stray : over 3 (nodes t) (s .status) ≡ true → refusal s 24 0 ≡ circuitOf t tags s n
+    unfolding circuitOf circuitStep
+    turn-stray e = sym (rw (eqb-no n 0 d, ltb-no (nodes t) n (λ q. omega arith), e) refl)
+
+    pub turn-stray′ : over 3 (nodes t) (s .status) ≡ false → over (nodes t) (functions t) (s .occupant) ≡ true → refusal s 24 0 ≡ circuitOf t tags s n
+    unfolding circuitOf circuitStep
+    turn-stray′ e f = sym (rw (eqb-no n 0 d, ltb-no (nodes t) n (λ q. omega arith), e, f) refl)
+
+    module _ (st : Stands t s) where
+      abbrev main : ℕ
+      main = id (bodyOf t (functions t))
+
+      by-main : (b : Bool) → done (view s) main ≡ b
+          → circuitOf t tags s n ≡ pick b (refusal s 20 n)
+          (outcome operate (functions t) (nodes t) (bodyOf t) (exprAt t) (owner t) (tagged tags) s n (actOf t s n))
+      unfolding circuitOf circuitStep
+      by-main b e = rw (eqb-no n 0 d, ltb-no (nodes t) n (λ q. omega arith), st .statuses, st .occupants, e) refl
+
+      module _ (top x : ℕ) (et : top ≡ root t (functions t)) (ex : x ≡ entry (s .status) 0 top) where
+        main-is : x ≡ entry (s .status) 0 main
+        main-is = ex ∙ ap (entry (s .status) 0) (et ∙ sym (main-root t fair))
+
+        pub turn-over : x ≡ 3 → refusal s 20 n ≡ circuitOf t tags s n
+        turn-over e = sym (by-main true (eqb-yes (entry (s .status) 0 main) 3 (sym main-is ∙ e)))
+
+        pub turn-on : (x ≡ 3 → ⊥) → circuitOf t tags s n
+            ≡ outcome operate (functions t) (nodes t) (bodyOf t) (exprAt t) (owner t) (tagged tags) s n (actOf t s n)
+        turn-on e = by-main false (eqb-no (entry (s .status) 0 main) 3 (λ q. e (main-is ∙ q)))
+
+  -- what the code says of a step
+  abbrev Out : Act → Stepped
+  Out a = outcome operate (functions t) (nodes t) (bodyOf t) (exprAt t) (owner t) (tagged tags) s n a
+
+  module _ (s′ : State512) (code : ℕ) where
+    pub out-stuck : (a : Act) → Took t s n a code s′ → code ≡ 0 → _≡_ {A = Stepped} (record { answer = refused 21 n; state = s′ }) (Out a)
+    out-stuck stuck h e = λ i. record { answer = refused 21 n; state = h .1 i }
+    out-stuck blocked h e = absurd (omega (arith, h .0))
+    out-stuck (does m) h e = absurd (omega (arith, h .0))
+
+    pub out-held : (a : Act) → Took t s n a code s′ → code ≡ 1 → (k : ℕ) → k ≡ pick (tagged tags n) 22 23
+        → _≡_ {A = Stepped} (record { answer = refused k n; state = s′ }) (Out a)
+    out-held stuck h e k ek = absurd (omega (arith, h .0))
+    out-held blocked h e k ek = λ i. record { answer = refused (ek i) n; state = h .1 i }
+    out-held (does m) h e k ek = absurd (omega (arith, h .0))
+
+    pub out-moved : (a : Act) → Took t s n a code s′ → (code ≡ 0 → ⊥) → (code ≡ 1 → ⊥) → (top : ℕ) → top ≡ root t (functions t)
+        → (r : Reply) → r ≡ pick (eqb (entry (s′ .status) 0 top) 3) (answered (entry (s′ .value) 0 top)) taken
+        → _≡_ {A = Stepped} (record { answer = r; state = s′ }) (Out a)
+    out-moved stuck h p q top et r er = absurd (p (h .0))
+    out-moved blocked h p q top et r er = absurd (q (h .0))
+    out-moved (does m) h p q top et r er =
+        let e : top ≡ id (bodyOf t (functions t)) = et ∙ sym (main-root t fair) in
+        let f : r ≡ told (id (bodyOf t (functions t))) (view s′) =
+        er ∙ ap (λ x. pick (eqb (entry (s′ .status) 0 x) 3) (answered (entry (s′ .value) 0 x)) taken) e in
+        (λ i. record { answer = f i; state = s′ }) ∙ ap (λ u. record { answer = told (id (bodyOf t (functions t))) (view u); state = u }) (h .1)
+
+  told-accepted : (b : Bool) (v : ℕ) → Accepted (pick b (answered v) taken)
+  told-accepted true v = tt
+  told-accepted false v = tt
+
+  out-goes : (a : Act) → Accepted (Out a .answer) → goes a ≡ true
+  out-goes stuck h = absurd h
+  out-goes blocked h = absurd h
+  out-goes (does m) h = refl
+
+  goes-out : (a : Act) → goes a ≡ true → Accepted (Out a .answer)
+  goes-out stuck e = let z : _≡_ {A = ℕ} 0 1 = cc in absurd (omega arith)
+  goes-out blocked e = let z : _≡_ {A = ℕ} 0 1 = cc in absurd (omega arith)
+  goes-out (does m) e = told-accepted (done (view (perform (nodes t) (owner t) (bodyOf t) s n m)) (id (bodyOf t (functions t)))) _
+
+  out-stands : n ≤ nodes t → Stands t s → (a : Act) → Stands t (Out a .state)
+  out-stands h st stuck = st
+  out-stands h st blocked = st
+  out-stands h st (does m) = kept t s st n h m
+
+-- a step that isn't refused keeps 24's tests passed; in any state
+module _ (t tags : List ℕ) (fair : Fair t) (s : State512) (st : Stands t s) where
+  by-number : (P : Stepped → Type 0) (n : ℕ) → P (refusal s 12 0) → (IsNode t n → P (refusal s 20 n)) → (IsNode t n → P (Out t tags fair s n (actOf t s n)))
+      → P (circuitOf t tags s n)
+  by-number P n p q r = go (ℕ-discrete n 0) (decLe n (nodes t))
+    where
+      go : Dec (n ≡ 0) → Dec (n ≤ nodes t) → P (circuitOf t tags s n)
+      go (yes z) d = subst P (turn-zero t tags fair s n z) p
+      go (no z) (no d) = subst P (turn-past t tags fair s n z (omega arith)) p
+      go (no z) (yes d) = main (done (view s) (id (bodyOf t (functions t)))) refl
+        where
+          main : (b : Bool) → done (view s) (id (bodyOf t (functions t))) ≡ b → P (circuitOf t tags s n)
+          main true e = subst P (sym (by-main t tags fair s n z d st true e)) (q (omega arith, d))
+          main false e = subst P (sym (by-main t tags fair s n z d st false e)) (r (omega arith, d))
+
+  pub turn-stands : (n : ℕ) → Stands t (circuitOf t tags s n .state)
+  turn-stands n = by-number (λ r. Stands t (r .state)) n st (λ i. st) (λ i. out-stands t tags fair s n (i .1) st (actOf t s n))

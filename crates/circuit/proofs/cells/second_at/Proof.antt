@@ -1,0 +1,35 @@
+use borrow.Author.Tests.{eq-eqb, ne-eqb, le-leb, lt-leb, lt-ltb, le-ltb, not-true, not-false}
+use native.Mathlib.Omega.{arith}
+use mathlib.Core.Path.{_≡_, refl, sym, ap, subst, _∙_}
+use Prim.Native.Nat.{ℕ, _+_, _-_, _*_, _≤_, _<_}
+use lib.ListN.{length, getD}
+use Rattle.circuit.proofs.CellLaws.{entry-none, write-none, register-none, register-high}
+use Rattle.circuit.proofs.StateLaws.{entry-at, write-at, register-at}
+use borrow.Author.Needs.{needs}
+use Rattle.circuit.proofs.cells.second_at.Statement.{statement}
+use Rattle.circuit.proofs.cells.second_at.Tie as tie
+use Rattle.circuit.proofs.cells.second_at.Reads as reads
+use Rattle.circuit.proofs.cells.second_at.Lts as lts
+
+-- src/cells.rt:24:13
+cast-k : tie.Need-cast-k
+cast-k c = search needs
+
+-- src/cells.rt:26:9
+returns : tie.Need-returns
+returns c = entry-none (c .before .before .args .second .now) _ _ (c .if1 .taken)
+
+-- src/cells.rt:28:12
+sub-result : tie.Need-sub-result
+sub-result c = search needs
+
+-- src/cells.rt:28:5
+element-copy-out-result : tie.Need-element-copy-out-result
+element-copy-out-result c = search needs
+
+-- src/cells.rt:20:1
+returns-2 : tie.Need-returns-2
+returns-2 c = sym (entry-at (c .before .before .before .args .second .now) _ _ (omega arith))
+
+pub second-at-spec : {M : Type 1} → statement M
+second-at-spec = tie.close (tie.spec cast-k returns sub-result element-copy-out-result returns-2)

@@ -1,0 +1,36 @@
+use borrow.Author.Tests.{eq-eqb, ne-eqb, le-leb, lt-leb, lt-ltb, le-ltb, not-true, not-false}
+use native.Mathlib.Omega.{arith}
+use mathlib.Core.Path.{_≡_, refl, sym, ap, subst, _∙_}
+use Prim.Native.Nat.{ℕ, _+_, _-_, _*_, _≤_, _<_}
+use lib.ListN.{length, getD}
+use Rattle.circuit.proofs.CellLaws.{entry-none, write-none, register-none, register-high}
+use Rattle.circuit.proofs.StateLaws.{entry-at, write-at, register-at}
+use borrow.Author.Needs.{needs}
+use Rattle.circuit.proofs.cells.value_of.Statement.{statement}
+use Rattle.circuit.proofs.cells.value_of.Tie as tie
+use Rattle.circuit.proofs.cells.value_of.Reads as reads
+use Rattle.circuit.proofs.cells.value_of.Lts as lts
+
+-- src/cells.rt:45:9
+returns : tie.Need-returns
+returns c = entry-none (c .before .args .value .now) _ _ (c .if1 .taken)
+
+-- src/cells.rt:47:11
+sub-result : tie.Need-sub-result
+sub-result c = search needs
+
+-- src/cells.rt:47:5
+mul-result : tie.Need-mul-result
+mul-result c = search needs
+
+-- src/cells.rt:47:5
+element-copy-out-result : tie.Need-element-copy-out-result
+element-copy-out-result c = search needs
+
+-- src/cells.rt:39:1
+returns-2 : tie.Need-returns-2
+returns-2 c = sym (entry-at (c .before .before .args .value .now) _ _ (omega arith))
+
+pub value-of-spec : {M : Type 1} → statement M
+value-of-spec =
+    tie.close (tie.spec returns sub-result mul-result element-copy-out-result returns-2)

@@ -1,0 +1,56 @@
+use borrow.Author.Tests.{eq-eqb, ne-eqb, le-leb, lt-leb, lt-ltb, le-ltb, not-true, not-false}
+use native.Mathlib.Omega.{arith}
+use borrow.Author.Needs.{needs}
+use mathlib.Core.Path.{_≡_, refl, sym, ap, subst, _∙_}
+use Prim.Native.Nat.{ℕ, _+_, _-_, _*_, _≤_, _<_}
+use lib.ListN.{length, getD}
+use mathlib.Core.Bool.{true, false}
+use mathlib.Core.Logic.{⊎-elim}
+use lib.ListN.{drop}
+use Rattle.table.specs.Bytes.{functions, nodes}
+use Rattle.table.specs.Survey.{verdictOf}
+use Rattle.circuit.specs.Step.{Stepped}
+use Rattle.circuit.specs.Circuit.{circuitOf}
+use Rattle.circuit.specs.Runs.{runFrom}
+use Rattle.circuit.specs.Meaning.{numbers, listsOf, replyOf}
+use Rattle.circuit.specs.Plan.{stateAs, Stands, Agreed}
+use Rattle.circuit.proofs.EntryLaws.{stands-from, agreed-from, stray-standing, stand-standing, refused-standing, plus, run-turned, run-goes, run-stops, run-takes, run-answers, run-stands, run-ends, run-begins, named-state, told-stepped}
+use Rattle.circuit.proofs.TurnLaws.{fair-from, step-is, step-turned}
+use Rattle.circuit.proofs.entries.step_standing.Statement.{statement}
+use Rattle.circuit.proofs.entries.step_standing.Tie as tie
+use Rattle.circuit.proofs.entries.step_standing.Reads as reads
+use Rattle.circuit.proofs.entries.step_standing.Lts as lts
+use Rattle.circuit.proofs.arrays.named.Reads as named-reads
+use Rattle.circuit.proofs.arrays.owners.Reads as owners-reads
+use Rattle.circuit.proofs.arrays.plain.Reads as plain-reads
+use Rattle.circuit.proofs.groups.group.Reads as group-reads
+use Rattle.circuit.proofs.turn.turn.Reads as turn-reads
+
+-- src/entries.rt:66:15
+owners-requires : tie.Need-owners-requires
+owners-requires c κs = c .before .before .pre .0
+
+-- src/entries.rt:67:9
+group-requires : tie.Need-group-requires
+group-requires c κs = (c .before .before .before .before .pre .0, c .before .owners .ensures)
+
+-- src/entries.rt:75:21
+plain-requires : tie.Need-plain-requires
+plain-requires c κs = search needs
+
+-- src/entries.rt:76:9
+turn-requires : tie.Need-turn-requires
+turn-requires c κs = (c .before .before .before .before .before .before .before .before .before .before .before .before .before .before .before .before .before .before .before .before .before .pre .0, c .before .before .before .before .before .before .before .before .before .before .before .before .before .before .before .before .before .before .owners .ensures, c .before .before .before .before .before .before .before .before .before .before .before .before .before .before .before .before .group .ensures, subst (Stands (c .before .before .before .before .before .before .before .before .before .before .before .before .before .before .before .before .before .before .before .before .before .args .table .now)) (sym (λ i. stateAs (c .before .before .before .before .before .before .before .before .before .before .before .before .before .before .before .before .before .before .before .before .before .args .s .status) (c .before .before .before .before .before .before .before .before .before .before .before .before .before .before .before .before .before .before .before .before .before .args .s .second) (c .before .before .before .before .before .before .before .before .before .before .before .before .before .before .before .before .before .before .before .before .before .args .s .value) (c .before .before .before .before .before .before .before .before .before .before .before .before .before .before .before .before .before .before .before .before .before .args .s .registers) (c .before .before .before .before .before .before .before .before .plain .ensures i))) (c .before .before .before .before .before .before .before .before .before .before .before .before .before .before .before .before .before .before .before .before .before .pre .1))
+
+-- src/entries.rt:89:9
+named-requires : tie.Need-named-requires
+named-requires c κs = search needs
+
+-- src/entries.rt:62:1
+returns : tie.Need-returns
+returns c = told-stepped _ _ _ _ (c .named .result) _ (c .named .ensures) (replyOf (c .before .turn .result)) _ (c .before .turn .ensures ∙ ap (λ s. circuitOf (c .before .before .before .before .before .before .before .before .before .before .before .before .before .before .before .before .before .before .before .before .before .before .before .args .table .now) (c .before .before .before .before .before .before .before .before .before .before .before .before .before .before .before .before .before .before .before .before .before .before .before .args .tags .now) s (c .before .before .before .before .before .before .before .before .before .before .before .before .before .before .before .before .before .before .before .before .before .before .before .args .n .0)) (λ i. stateAs (c .before .before .before .before .before .before .before .before .before .before .before .before .before .before .before .before .before .before .before .before .before .before .before .args .s .status) (c .before .before .before .before .before .before .before .before .before .before .before .before .before .before .before .before .before .before .before .before .before .before .before .args .s .second) (c .before .before .before .before .before .before .before .before .before .before .before .before .before .before .before .before .before .before .before .before .before .before .before .args .s .value) (c .before .before .before .before .before .before .before .before .before .before .before .before .before .before .before .before .before .before .before .before .before .before .before .args .s .registers) (c .before .before .before .before .before .before .before .before .before .before .plain .ensures i)))
+
+pub step-standing-spec : {M : Type 1} → statement M
+step-standing-spec =
+    tie.close
+    (tie.spec owners-requires group-requires plain-requires turn-requires named-requires returns)

@@ -1,0 +1,122 @@
+use Rattle.circuit.proofs.PlanLaws.{pass-yes, pass-no, self-yes, self-no, prim-yes, prim-no, leave-yes, leave-no, enter-not, enter-held, enter-yes, branch-else, branch-then, branch-small, taken-branch, cond-pass, cond-turn, cond-wait, bind-pass, bind-turn, bind-wait, open-const, open-param, open-bound, open-other, busy-prim, busy-call, busy-if, busy-let, busy-other, at-open, at-busy, at-rest, of-none, of-last, of-two, of-other}
+use Rattle.table.specs.Bytes.{nodes, kind, word, first, next, root}
+use Rattle.table.specs.Naming.{owner, chain}
+use Rattle.table.specs.Pick.{pick}
+use lib.Dec.{eqb}
+use Rattle.circuit.specs.State.{entry}
+use Rattle.circuit.specs.Plan.{planned, stateAs, openBy, busyBy, selfBy, callBy, actBy}
+use Rattle.circuit.proofs.ChainLaws.{ok, first-in, next-in}
+use Rattle.table.proofs.Tests.{eqb-yes, eqb-no}
+use Rattle.circuit.proofs.ActBy.{own-in, callee-in, three-in, let-in, bound-in, act-is}
+use Rattle.circuit.proofs.PlanLaws.{pass-yes, pass-no, self-yes, self-no, prim-yes, prim-no, leave-yes, leave-no, enter-not, enter-held, enter-yes, branch-else, branch-then, taken-branch, cond-pass, cond-turn, cond-wait, bind-pass, bind-turn, bind-wait, open-const, open-param, open-bound, open-other, busy-prim, busy-call, busy-if, busy-let, busy-other, at-open, at-busy, at-rest, of-none, of-last, of-two, of-other}
+use borrow.Author.Tests.{eq-eqb, ne-eqb, le-leb, lt-leb, lt-ltb, le-ltb, not-true, not-false}
+use native.Mathlib.Omega.{arith}
+use mathlib.Core.Path.{_≡_, refl, sym, ap, subst, _∙_}
+use Prim.Native.Nat.{ℕ, _+_, _-_, _*_, _≤_, _<_}
+use lib.ListN.{length, getD}
+use Rattle.circuit.specs.Plan.{operateBy}
+use Prim.Native.Nat.{_%_, _^_}
+use Rattle.circuit.proofs.OperationLaws.{doubled, subtracted}
+use borrow.Author.Needs.{needs}
+use Rattle.circuit.proofs.operations.of_two.Statement.{statement}
+use Rattle.circuit.proofs.operations.of_two.Tie as tie
+use Rattle.circuit.proofs.operations.of_two.Reads as reads
+use Rattle.circuit.proofs.operations.of_two.Lts as lts
+use Rattle.circuit.proofs.operations.number.Reads as number-reads
+use Rattle.std.proofs.num.wrapping_add_u32.Reads as wrapping-add-u32-reads
+use Rattle.std.proofs.num.wrapping_sub_u32.Reads as wrapping-sub-u32-reads
+
+-- src/operations.rt:11:14
+wrapping-add-u32-requires : tie.Need-wrapping-add-u32-requires
+wrapping-add-u32-requires c κs = search needs
+
+-- src/operations.rt:12:14
+wrapping-sub-u32-requires : tie.Need-wrapping-sub-u32-requires
+wrapping-sub-u32-requires c κs = search needs
+
+-- src/operations.rt:16:14
+wrapping-add-u32-requires-2 : tie.Need-wrapping-add-u32-requires-2
+wrapping-add-u32-requires-2 c κs = search needs
+
+-- src/operations.rt:19:14
+number-requires : tie.Need-number-requires
+number-requires c κs = search needs
+
+-- src/operations.rt:20:14
+number-requires-2 : tie.Need-number-requires-2
+number-requires-2 c κs = search needs
+
+-- src/operations.rt:7:1
+returns : tie.Need-returns
+unfolding operateBy
+returns c = c .wrapping-add-u32 .ensures ∙ sym (rw (c .before .match .keys1))
+
+-- src/operations.rt:7:1
+returns-2 : tie.Need-returns-2
+unfolding operateBy
+returns-2 c = subtracted (c .before .before .args .x) (c .before .before .args .y) _ (omega arith) (omega arith) (omega arith) (c .wrapping-sub-u32 .ensures) ∙ sym (rw (c .before .match .keys2))
+
+-- src/operations.rt:7:1
+returns-3 : tie.Need-returns-3
+unfolding operateBy
+returns-3 c = sym (rw (c .match .keys3))
+
+-- src/operations.rt:7:1
+returns-4 : tie.Need-returns-4
+unfolding operateBy
+returns-4 c = sym (rw (c .match .keys4))
+
+-- src/operations.rt:7:1
+returns-5 : tie.Need-returns-5
+unfolding operateBy
+returns-5 c = sym (rw (c .match .keys5))
+
+-- src/operations.rt:7:1
+returns-6 : tie.Need-returns-6
+unfolding operateBy
+returns-6 c = c .wrapping-add-u322 .ensures ∙ doubled (c .before .before .args .x) ∙ sym (rw (c .before .match .keys6))
+
+-- src/operations.rt:7:1
+returns-7 : tie.Need-returns-7
+unfolding operateBy
+returns-7 c = sym (rw (c .match .keys7))
+
+-- src/operations.rt:7:1
+returns-8 : tie.Need-returns-8
+unfolding operateBy
+returns-8 c = sym (rw (c .match .keys8))
+
+-- src/operations.rt:7:1
+returns-9 : tie.Need-returns-9
+unfolding operateBy
+returns-9 c = c .number .ensures ∙ sym (rw (c .before .match .keys9))
+
+-- src/operations.rt:7:1
+returns-10 : tie.Need-returns-10
+unfolding operateBy
+returns-10 c = c .number2 .ensures ∙ sym (rw (c .before .match .keys10))
+
+-- src/operations.rt:7:1
+returns-11 : tie.Need-returns-11
+returns-11 c = let m = c .match .rest in of-other (c .before .args .op) (c .before .args .x) (c .before .args .y) (c .before .args .last) (m .0 .0 .0 .0 .0 .0 .0 .0 .0 .1) (m .0 .0 .0 .0 .0 .0 .0 .0 .1) (m .0 .0 .0 .0 .0 .0 .0 .1) (m .0 .0 .0 .0 .0 .0 .1) (m .0 .0 .0 .0 .0 .1) (m .0 .0 .0 .0 .1) (m .0 .0 .0 .1) (m .0 .0 .1) (m .0 .1) (m .1)
+
+pub of-two-spec : {M : Type 1} → statement M
+of-two-spec =
+    tie.close
+    (tie.spec
+    wrapping-add-u32-requires
+    wrapping-sub-u32-requires
+    wrapping-add-u32-requires-2
+    number-requires
+    number-requires-2
+    returns
+    returns-2
+    returns-3
+    returns-4
+    returns-5
+    returns-6
+    returns-7
+    returns-8
+    returns-9
+    returns-10
+    returns-11)

@@ -1,0 +1,42 @@
+// Occupants as plain numbers, to be lent, and back; the owners of a checked table.
+use crate::groups;
+use table::Node;
+ghost use mathlib.Core.Path.{_≡_};
+ghost use mathlib.Core.List.{map};
+ghost use Rattle.circuit.specs.Meaning.{numbers};
+ghost use Rattle.circuit.specs.Plan.{Fair, Owners, asNode};
+
+pub(crate) fn plain(raw: [Node; 32]) -> [u16; 32]
+    ensures { λ r. ⌜ r ≡ numbers raw ⌝ }
+{
+    let mut r = [0u16; 32];
+    let mut i: usize = 0;
+    while i < 32 {
+        let n = raw[i];
+        r[i] = n.0;
+        i += 1;
+    }
+    r
+}
+
+pub(crate) fn named(raw: [u16; 32]) -> [Node; 32]
+    ensures { λ r. ⌜ numbers r ≡ raw ⌝ }
+{
+    let mut r = [Node(0); 32];
+    let mut i: usize = 0;
+    while i < 32 {
+        r[i] = Node(raw[i]);
+        i += 1;
+    }
+    r
+}
+
+// Each node's function.
+pub(crate) fn owners(table: &[u8]) -> [u16; 513]
+    requires { ⌜ Fair (now table) ⌝ }
+    ensures { λ r. ⌜ Owners (now (table .entry)) r ⌝ }
+{
+    let found = table::survey(table);
+    let raw = found.owner;
+    groups::owners(raw)
+}

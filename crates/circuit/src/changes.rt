@@ -1,0 +1,176 @@
+// What a step changes.
+use crate::cells;
+use crate::chain;
+use crate::groups;
+use crate::plan;
+use crate::plan::Plan;
+use table::Function;
+use table::Node;
+use table::read;
+ghost use mathlib.Core.Path.{_≡_};
+ghost use mathlib.Core.Bool.{false};
+ghost use mathlib.Core.List.{map};
+ghost use lib.Dec.{eqb};
+ghost use Prim.Native.Nat.{_≤_, _<_};
+ghost use Rattle.table.specs.Pick.{pick};
+ghost use Rattle.table.specs.Bytes.{nodes, root, next};
+ghost use Rattle.table.specs.Naming.{owner, chain};
+ghost use Rattle.table.specs.Working.{IsNode, IsFunction};
+ghost use Rattle.circuit.specs.State.{entry, write, opened, clear, fill};
+ghost use Rattle.circuit.specs.Step.{mine};
+ghost use Rattle.circuit.specs.Circuit.{actOf};
+ghost use Rattle.circuit.specs.Plan.{Fair, Grouped, stateAs, opens, Took};
+
+// The next sibling; of none, none.
+fn following(table: &[u8], n: Node) -> Node
+    ensures { λ r. ⌜ r .0 ≡ pick (eqb (n .0) 0) 0 (next (now (table .entry)) (n .0)) ⌝ }
+{
+    if n.0 == 0 {
+        return n;
+    }
+    read::next(table, n)
+}
+
+// The registers of g: the values of the nodes from c on, then zeros.
+fn give(table: &[u8], value: &[u32; 512], registers: &mut [u32; 256], g: Function, c: Node)
+    requires { ⌜ Fair (now table) × IsFunction (now table) (g .0) × (c .0 ≤ nodes (now table)) ⌝ }
+    ensures { λ _. ⌜ now (registers .exit)
+        ≡ fill (g .0) (map (entry (now (value .entry)) 0) (chain (now (table .entry)) (c .0))) (now (registers .entry)) ⌝ }
+{
+    let f = g.0 as usize;
+    let base = 8 * (f - 1);
+    let mut at = c.0;
+    let mut i: usize = 0;
+    while i < 8 {
+        registers[base + i] = cells::value_at(value, Node(at));
+        let on = following(table, Node(at));
+        at = on.0;
+        i += 1;
+    }
+}
+
+// Busy, and the children that its kind opens are open.
+fn begin(table: &[u8], status: &mut [u8; 512], n: Node)
+    requires { ⌜ Fair (now table) × IsNode (now table) (n .0) ⌝ }
+    ensures { λ _. ⌜ now (status .exit) ≡ opened (write (now (status .entry)) (n .0) 2) (opens (now (table .entry)) (n .0)) ⌝ }
+{
+    let kind = read::kind(table, n);
+    let c = read::first(table, n);
+    cells::set_status(status, n, 2);
+    if kind == 5 {
+        cells::set_status(status, c, 1);
+        return;
+    }
+    if kind == 6 {
+        chain::open_defs(table, status, c);
+        return;
+    }
+    chain::open_all(table, status, c);
+}
+
+// Done with a value.
+fn finish(status: &mut [u8; 512], second: &mut [bool; 512], value: &mut [u32; 512], n: Node, v: u32)
+    requires { ⌜ n .0 ≤ 512 ⌝ }
+    ensures { λ _. ⌜ (now (status .exit) ≡ write (now (status .entry)) (n .0) 3)
+        × (now (second .exit) ≡ write (now (second .entry)) (n .0) false)
+        × (now (value .exit) ≡ write (now (value .entry)) (n .0) v) ⌝ }
+{
+    cells::set_status(status, n, 3);
+    cells::set_second(second, n, false);
+    cells::set_value(value, n, v);
+}
+
+// Function g from its root on, with the values of the nodes from c on as arguments; they are read before g's nodes are cleared.
+fn reset(
+    table: &[u8],
+    heads: &[u16; 33],
+    links: &[u16; 513],
+    status: &mut [u8; 512],
+    second: &mut [bool; 512],
+    value: &mut [u32; 512],
+    registers: &mut [u32; 256],
+    g: Function,
+    c: Node,
+)
+    requires { ⌜ Fair (now table) × Grouped (now table) (now heads) (now links) × IsFunction (now table) (g .0) × (c .0 ≤ nodes (now table)) ⌝ }
+    ensures { λ _. ⌜ (now (status .exit) ≡ write (clear (mine (nodes (now (table .entry))) (owner (now (table .entry))) (g .0)) 0
+        (now (status .entry))) (root (now (table .entry)) (g .0)) 1)
+        × (now (second .exit) ≡ clear (mine (nodes (now (table .entry))) (owner (now (table .entry))) (g .0)) false (now (second .entry)))
+        × (now (value .exit) ≡ clear (mine (nodes (now (table .entry))) (owner (now (table .entry))) (g .0)) 0 (now (value .entry)))
+        × (now (registers .exit)
+        ≡ fill (g .0) (map (entry (now (value .entry)) 0) (chain (now (table .entry)) (c .0))) (now (registers .entry))) ⌝ }
+{
+    give(table, value, registers, g, c);
+    groups::wipe(table, heads, links, g, status, second, value);
+    let r = read::root(table, g);
+    cells::set_status(status, r, 1);
+}
+
+// Takes the step of node n, whose function is `own`, if it has one: 0 where it has none, 1 where its resource is occupied, 2 taken.
+pub(crate) fn take(
+    table: &[u8],
+    own: Function,
+    heads: &[u16; 33],
+    links: &[u16; 513],
+    status: &mut [u8; 512],
+    second: &mut [bool; 512],
+    value: &mut [u32; 512],
+    registers: &mut [u32; 256],
+    occupant: &mut [u16; 32],
+    n: Node,
+) -> u8
+    requires { ⌜ Fair (now table) × IsNode (now table) (n .0) × (own .0 ≡ owner (now table) (n .0))
+        × Grouped (now table) (now heads) (now links) ⌝ }
+    ensures { λ r. ⌜ Took (now (table .entry))
+        (stateAs (now (status .entry)) (now (second .entry)) (now (value .entry)) (now (registers .entry)) (now (occupant .entry)))
+        (n .0)
+        (actOf (now (table .entry)) (stateAs (now (status .entry)) (now (second .entry)) (now (value .entry)) (now (registers .entry))
+        (now (occupant .entry))) (n .0)) r
+        (stateAs (now (status .exit)) (now (second .exit)) (now (value .exit)) (now (registers .exit)) (now (occupant .exit))) ⌝ }
+{
+    let p = plan::plan_at(table, own, status, second, value, registers, occupant, n);
+    match p {
+        Plan::Stuck => 0,
+        Plan::Blocked => 1,
+        Plan::Begins => {
+            begin(table, status, n);
+            2
+        }
+        Plan::Turns(m) => {
+            cells::set_status(status, m, 1);
+            cells::set_second(second, n, true);
+            2
+        }
+        Plan::Finishes(v) => {
+            finish(status, second, value, n, v);
+            2
+        }
+        Plan::Enters(g) => {
+            let c = read::first(table, n);
+            reset(table, heads, links, status, second, value, registers, g, c);
+            cells::set_second(second, n, true);
+            cells::set_occupant(occupant, g, n);
+            2
+        }
+        Plan::Leaves(g, v) => {
+            finish(status, second, value, n, v);
+            cells::set_occupant(occupant, g, Node(0));
+            2
+        }
+        Plan::Restarts => {
+            let c = read::first(table, n);
+            reset(
+                table,
+                heads,
+                links,
+                status,
+                second,
+                value,
+                registers,
+                own,
+                c,
+            );
+            2
+        }
+    }
+}

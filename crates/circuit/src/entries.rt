@@ -1,0 +1,175 @@
+// The entries' work on a table and tags that were checked.
+use crate::Answer;
+use crate::Halt;
+use crate::Ran;
+use crate::State;
+use crate::Stepped;
+use crate::arrays;
+use crate::groups;
+use crate::standing;
+use crate::turn;
+use table::Node;
+use table::read;
+ghost use mathlib.Core.Path.{_≡_};
+ghost use mathlib.Core.Bool.{false};
+ghost use Prim.Native.Nat.{_≤_, _<_};
+ghost use Rattle.table.specs.Bytes.{functions, nodes};
+ghost use Rattle.circuit.specs.Step.{refusal};
+ghost use Rattle.circuit.specs.Circuit.{circuitOf};
+ghost use Rattle.circuit.specs.Runs.{runFrom, stopped, Ran as RanAs};
+ghost use Rattle.circuit.specs.Meaning.{listsOf, steppedOf, ranOf};
+ghost use Rattle.circuit.specs.Plan.{Fair, Stands, Agreed, strayIn};
+
+// A refusal leaves the state as it is.
+pub(crate) fn refused(s: State, number: u8, place: Node) -> Stepped
+    ensures { λ r. ⌜ steppedOf r ≡ refusal (listsOf s) number (place .0) ⌝ }
+{
+    Stepped {
+        answer: Answer::Refused(number, place),
+        state: s,
+    }
+}
+
+// 24.
+pub(crate) fn strays(table: &[u8], s: State) -> bool
+    requires { ⌜ Fair (now table) ⌝ }
+    ensures { λ r. ⌜ r ≡ strayIn (now (table .entry)) (listsOf s) ⌝ }
+{
+    let status = s.status;
+    let raw = s.occupant;
+    let occupant = arrays::plain(raw);
+    standing::strays(table, &status, &occupant)
+}
+
+// 12, 24, then the rest.
+pub(crate) fn step(table: &[u8], tags: &[u8], s: State, n: Node) -> Stepped
+    requires { ⌜ Fair (now table) ⌝ }
+    ensures { λ r. ⌜ steppedOf r ≡ circuitOf (now (table .entry)) (now (tags .entry)) (listsOf s) (n .0) ⌝ }
+{
+    if n.0 == 0 {
+        return refused(s, 12, Node(0));
+    }
+    let last = read::nodes(table);
+    if last.0 < n.0 {
+        return refused(s, 12, Node(0));
+    }
+    if strays(table, s) {
+        return refused(s, 24, Node(0));
+    }
+    step_standing(table, tags, s, n)
+}
+
+fn step_standing(table: &[u8], tags: &[u8], s: State, n: Node) -> Stepped
+    requires { ⌜ Fair (now table) × Stands (now table) (listsOf s) ⌝ }
+    ensures { λ r. ⌜ steppedOf r ≡ circuitOf (now (table .entry)) (now (tags .entry)) (listsOf s) (n .0) ⌝ }
+{
+    let own = arrays::owners(table);
+    let g = groups::group(table, &own);
+    let heads = g.heads;
+    let links = g.links;
+    let mut status = s.status;
+    let mut second = s.second;
+    let mut value = s.value;
+    let mut registers = s.registers;
+    let raw = s.occupant;
+    let mut plain = arrays::plain(raw);
+    let answer = turn::turn(
+        table,
+        tags,
+        &own,
+        &heads,
+        &links,
+        &mut status,
+        &mut second,
+        &mut value,
+        &mut registers,
+        &mut plain,
+        n,
+    );
+    let occupant = arrays::named(plain);
+    let state = State {
+        status,
+        second,
+        value,
+        registers,
+        occupant,
+    };
+    Stepped { answer, state }
+}
+
+pub(crate) fn stop(s: State, number: u8, place: Node) -> Ran
+    ensures { λ r. ⌜ _≡_ {A = RanAs} (ranOf r) (record { taken = 0; halt = stopped number (place .0); state = listsOf s }) ⌝ }
+{
+    Ran {
+        taken: 0,
+        halt: Halt::Refused(number, place),
+        state: s,
+    }
+}
+
+// Steps one after the other, up to the first refusal.
+pub(crate) fn run(table: &[u8], tags: &[u8], s: State, nodes: &[u16]) -> Ran
+    requires { ⌜ Agreed (now table) (now tags) × Stands (now table) (listsOf s) ⌝ }
+    ensures { λ r. ⌜ ranOf r ≡ runFrom (now (table .entry)) (now (tags .entry)) (listsOf s) (now (nodes .entry)) ⌝ }
+{
+    let own = arrays::owners(table);
+    let g = groups::group(table, &own);
+    let heads = g.heads;
+    let links = g.links;
+    let mut status = s.status;
+    let mut second = s.second;
+    let mut value = s.value;
+    let mut registers = s.registers;
+    let raw = s.occupant;
+    let mut plain = arrays::plain(raw);
+    let mut i: usize = 0;
+    while i < nodes.len() {
+        let n = nodes[i];
+        let answer = turn::turn(
+            table,
+            tags,
+            &own,
+            &heads,
+            &links,
+            &mut status,
+            &mut second,
+            &mut value,
+            &mut registers,
+            &mut plain,
+            Node(n),
+        );
+        match answer {
+            Answer::Refused(number, place) => {
+                let occupant = arrays::named(plain);
+                let state = State {
+                    status,
+                    second,
+                    value,
+                    registers,
+                    occupant,
+                };
+                return Ran {
+                    taken: i,
+                    halt: Halt::Refused(number, place),
+                    state,
+                };
+            }
+            Answer::Taken => {}
+            Answer::Answered(_) => {}
+        }
+        i += 1;
+    }
+    let occupant = arrays::named(plain);
+    let state = State {
+        status,
+        second,
+        value,
+        registers,
+        occupant,
+    };
+    Ran {
+        taken: i,
+        halt: Halt::Whole,
+        state,
+    }
+}

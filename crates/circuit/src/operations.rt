@@ -1,0 +1,29 @@
+// The operations of a primitive: 32-bit, add, subtract and double wrap.
+ghost use mathlib.Core.Path.{_≡_};
+ghost use Rattle.table.specs.Pick.{pick};
+ghost use Rattle.circuit.specs.Plan.{operateBy};
+
+// Of two values; `last` is what beside gives.
+pub(crate) fn of_two(op: u8, x: u32, y: u32, last: u32) -> u32
+    ensures { λ r. ⌜ r ≡ operateBy op x y last ⌝ }
+{
+    match op {
+        0 => std::num::wrapping_add_u32(x, y),
+        1 => std::num::wrapping_sub_u32(x, y),
+        2 => x & y,
+        3 => x | y,
+        4 => x ^ y,
+        5 => std::num::wrapping_add_u32(x, x),
+        6 => x / 2,
+        7 => x % 2,
+        8 => number(x == y),
+        9 => number(x < y),
+        _ => last,
+    }
+}
+
+fn number(yes: bool) -> u32
+    ensures { λ r. ⌜ r ≡ pick yes 1 0 ⌝ }
+{
+    if yes { 1 } else { 0 }
+}

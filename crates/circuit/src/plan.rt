@@ -1,0 +1,254 @@
+// The step that a node has, read off its record and the state; nothing is changed here.
+use crate::cells;
+use crate::chain;
+use table::Function;
+use table::Node;
+use table::read;
+ghost use mathlib.Core.Path.{_≡_};
+ghost use mathlib.Core.List.{List};
+ghost use Prim.Native.Nat.{ℕ, _≤_, _<_};
+ghost use lib.Dec.{eqb};
+ghost use Rattle.table.specs.Pick.{pick};
+ghost use Rattle.table.specs.Bytes.{nodes, kind, word, extra, next};
+ghost use Rattle.circuit.specs.State.{entry};
+ghost use Rattle.table.specs.Naming.{owner};
+ghost use Rattle.table.specs.Working.{IsNode};
+ghost use Rattle.circuit.specs.Circuit.{actOf};
+ghost use Rattle.circuit.specs.Plan.{Fair, Owners, stateAs, planned, openBy, busyBy, primBy, selfBy, callBy, condBy, bindBy, passBy};
+
+// What a node would do: no step (21), none while the resource is occupied (22 or 23), or a move. The nodes that it opens and the
+// arguments that it hands over are read off the table when it moves.
+pub enum Plan {
+    Stuck,
+    Blocked,
+    Begins,
+    Turns(Node),
+    Finishes(u32),
+    Enters(Function),
+    Leaves(Function, u32),
+    Restarts,
+}
+
+// The step of node n, whose function is `own`.
+pub(crate) fn plan_at(
+    table: &[u8],
+    own: Function,
+    status: &[u8; 512],
+    second: &[bool; 512],
+    value: &[u32; 512],
+    registers: &[u32; 256],
+    occupant: &[u16; 32],
+    n: Node,
+) -> Plan
+    requires { ⌜ Fair (now table) × IsNode (now table) (n .0) × (own .0 ≡ owner (now table) (n .0)) ⌝ }
+    ensures { λ r. ⌜ planned (now (table .entry)) (now (value .entry)) (n .0) r ≡ actOf (now (table .entry))
+        (stateAs (now (status .entry)) (now (second .entry)) (now (value .entry)) (now (registers .entry)) (now (occupant .entry))) (n .0) ⌝ }
+{
+    let s = cells::status_at(status, n);
+    if s == 1 {
+        return opening(table, own, value, registers, n);
+    }
+    if s == 2 {
+        return busy(table, own, status, second, value, occupant, n);
+    }
+    Plan::Stuck
+}
+
+// An open node: a constant, a parameter or a bound is done, any other opens children.
+fn opening(table: &[u8], own: Function, value: &[u32; 512], registers: &[u32; 256], n: Node) -> Plan
+    requires { ⌜ Fair (now table) × IsNode (now table) (n .0) × (own .0 ≡ owner (now table) (n .0)) ⌝ }
+    ensures { λ r. ⌜ planned (now (table .entry)) (now (value .entry)) (n .0) r
+        ≡ openBy (now (table .entry)) (now (value .entry)) (now (registers .entry)) (n .0) ⌝ }
+{
+    let kind = read::kind(table, n);
+    match kind {
+        1 => Plan::Finishes(read::word(table, n)),
+        2 => Plan::Finishes(cells::register_at(registers, own, read::extra(table, n))),
+        7 => Plan::Finishes(cells::value_of(value, read::word(table, n))),
+        _ => Plan::Begins,
+    }
+}
+
+// A busy node.
+fn busy(
+    table: &[u8],
+    own: Function,
+    status: &[u8; 512],
+    second: &[bool; 512],
+    value: &[u32; 512],
+    occupant: &[u16; 32],
+    n: Node,
+) -> Plan
+    requires { ⌜ Fair (now table) × IsNode (now table) (n .0) × (own .0 ≡ owner (now table) (n .0)) ⌝ }
+    ensures { λ r. ⌜ planned (now (table .entry)) (now (value .entry)) (n .0) r ≡ busyBy (now (table .entry)) (now (status .entry))
+        (now (second .entry)) (now (value .entry)) (now (occupant .entry)) (n .0) ⌝ }
+{
+    let kind = read::kind(table, n);
+    match kind {
+        3 => busy_primitive(table, status, value, n),
+        4 => busy_call(table, own, status, second, value, occupant, n),
+        5 => busy_if(table, status, second, value, n),
+        6 => busy_let(table, status, second, value, n),
+        _ => Plan::Stuck,
+    }
+}
+
+// Done once all children are.
+fn busy_primitive(table: &[u8], status: &[u8; 512], value: &[u32; 512], n: Node) -> Plan
+    requires { ⌜ Fair (now table) × IsNode (now table) (n .0) ⌝ }
+    ensures { λ r. ⌜ planned (now (table .entry)) (now (value .entry)) (n .0) r
+        ≡ primBy (now (table .entry)) (now (status .entry)) (now (value .entry)) (n .0) ⌝ }
+{
+    let c = read::first(table, n);
+    if !chain::all_done(table, status, c) {
+        return Plan::Stuck;
+    }
+    Plan::Finishes(chain::operation(table, value, read::extra(table, n), c))
+}
+
+// A self call is one whose callee is its own function.
+fn busy_call(
+    table: &[u8],
+    own: Function,
+    status: &[u8; 512],
+    second: &[bool; 512],
+    value: &[u32; 512],
+    occupant: &[u16; 32],
+    n: Node,
+) -> Plan
+    requires { ⌜ Fair (now table) × IsNode (now table) (n .0) × (own .0 ≡ owner (now table) (n .0)) × (kind (now table) (n .0) ≡ 4) ⌝ }
+    ensures { λ r. ⌜ planned (now (table .entry)) (now (value .entry)) (n .0) r
+        ≡ pick (eqb (word (now (table .entry)) (n .0)) (owner (now (table .entry)) (n .0)))
+        (selfBy (now (table .entry)) (now (status .entry)) (now (value .entry)) (n .0))
+        (callBy (now (table .entry)) (now (status .entry)) (now (second .entry)) (now (value .entry)) (now (occupant .entry)) (n .0)) ⌝ }
+{
+    let callee = read::word(table, n);
+    if callee == (own.0 as u32) {
+        return again(table, status, n);
+    }
+    across(
+        table,
+        status,
+        second,
+        value,
+        occupant,
+        Function(callee as u16),
+        n,
+    )
+}
+
+// A self call: its function starts again once the arguments are done.
+fn again(table: &[u8], status: &[u8; 512], n: Node) -> Plan
+    requires { ⌜ Fair (now table) × IsNode (now table) (n .0) ⌝ }
+    ensures { λ r. ⌜ ((value : List ℕ) → planned (now (table .entry)) value (n .0) r
+        ≡ selfBy (now (table .entry)) (now (status .entry)) value (n .0)) ⌝ }
+{
+    let c = read::first(table, n);
+    if chain::all_done(table, status, c) {
+        Plan::Restarts
+    } else {
+        Plan::Stuck
+    }
+}
+
+// A call of another function g: it enters once the arguments are done and g is free, and leaves once g's root is done.
+fn across(
+    table: &[u8],
+    status: &[u8; 512],
+    second: &[bool; 512],
+    value: &[u32; 512],
+    occupant: &[u16; 32],
+    g: Function,
+    n: Node,
+) -> Plan
+    requires { ⌜ Fair (now table) × IsNode (now table) (n .0) × (kind (now table) (n .0) ≡ 4) × (g .0 ≡ word (now table) (n .0)) ⌝ }
+    ensures { λ r. ⌜ planned (now (table .entry)) (now (value .entry)) (n .0) r ≡ callBy (now (table .entry)) (now (status .entry))
+        (now (second .entry)) (now (value .entry)) (now (occupant .entry)) (n .0) ⌝ }
+{
+    if cells::second_at(second, n) {
+        let r = read::root(table, g);
+        if cells::status_at(status, r) != 3 {
+            return Plan::Stuck;
+        }
+        return Plan::Leaves(g, cells::value_at(value, r));
+    }
+    let c = read::first(table, n);
+    if !chain::all_done(table, status, c) {
+        return Plan::Stuck;
+    }
+    if cells::occupant_at(occupant, g) != 0 {
+        return Plan::Blocked;
+    }
+    Plan::Enters(g)
+}
+
+// The branch of an if that the condition's value takes.
+fn branch(table: &[u8], value: &[u32; 512], a: Node) -> Node
+    requires { ⌜ a .0 ≤ 512 ⌝ }
+    ensures { λ r. ⌜ r .0 ≡ pick (eqb (entry (now (value .entry)) 0 (a .0)) 0)
+        (next (now (table .entry)) (next (now (table .entry)) (a .0))) (next (now (table .entry)) (a .0)) ⌝ }
+{
+    let b = read::next(table, a);
+    if cells::value_at(value, a) == 0 {
+        return read::next(table, b);
+    }
+    b
+}
+
+// Once a condition is done the branch opens; once that is done, so is the if.
+fn busy_if(
+    table: &[u8],
+    status: &[u8; 512],
+    second: &[bool; 512],
+    value: &[u32; 512],
+    n: Node,
+) -> Plan
+    requires { ⌜ Fair (now table) × IsNode (now table) (n .0) × (kind (now table) (n .0) ≡ 5) ⌝ }
+    ensures { λ r. ⌜ planned (now (table .entry)) (now (value .entry)) (n .0) r ≡ condBy (now (table .entry)) (now (status .entry))
+        (now (second .entry)) (now (value .entry)) (n .0) ⌝ }
+{
+    let a = read::first(table, n);
+    let r = branch(table, value, a);
+    if cells::second_at(second, n) {
+        return pass(status, value, r);
+    }
+    if cells::status_at(status, a) == 3 {
+        return Plan::Turns(r);
+    }
+    Plan::Stuck
+}
+
+// Once the definientia are done the body opens; once that is done, so is the let.
+fn busy_let(
+    table: &[u8],
+    status: &[u8; 512],
+    second: &[bool; 512],
+    value: &[u32; 512],
+    n: Node,
+) -> Plan
+    requires { ⌜ Fair (now table) × IsNode (now table) (n .0) × (kind (now table) (n .0) ≡ 6) ⌝ }
+    ensures { λ r. ⌜ planned (now (table .entry)) (now (value .entry)) (n .0) r ≡ bindBy (now (table .entry)) (now (status .entry))
+        (now (second .entry)) (now (value .entry)) (n .0) ⌝ }
+{
+    let c = read::first(table, n);
+    let body = chain::last_of(table, c);
+    if cells::second_at(second, n) {
+        return pass(status, value, body);
+    }
+    if chain::defs_done(table, status, c) {
+        return Plan::Turns(body);
+    }
+    Plan::Stuck
+}
+
+// Done with the value of r, once r is done.
+fn pass(status: &[u8; 512], value: &[u32; 512], r: Node) -> Plan
+    requires { ⌜ r .0 ≤ 512 ⌝ }
+    ensures { λ p. ⌜ ((t : List ℕ) (n : ℕ) → planned t (now (value .entry)) n p
+        ≡ passBy (now (status .entry)) (now (value .entry)) (r .0)) ⌝ }
+{
+    if cells::status_at(status, r) == 3 {
+        return Plan::Finishes(cells::value_at(value, r));
+    }
+    Plan::Stuck
+}

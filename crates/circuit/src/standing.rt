@@ -1,0 +1,55 @@
+// Whether a state can be stepped at all (24): entries past N and F are not looked at.
+use crate::cells;
+use table::Function;
+use table::Node;
+use table::read;
+ghost use mathlib.Core.Path.{_≡_};
+ghost use mathlib.Core.Bool.{_||_};
+ghost use Rattle.table.specs.Bytes.{functions, nodes};
+ghost use Rattle.circuit.specs.Step.{over};
+ghost use Rattle.circuit.specs.Plan.{Fair};
+
+// A status over 3.
+fn odd_status(table: &[u8], status: &[u8; 512]) -> bool
+    requires { ⌜ Fair (now table) ⌝ }
+    ensures { λ r. ⌜ r ≡ over 3 (nodes (now (table .entry))) (now (status .entry)) ⌝ }
+{
+    let last = read::nodes(table);
+    let mut n = last.0;
+    while 0 < n {
+        if 3 < cells::status_at(status, Node(n)) {
+            return true;
+        }
+        n -= 1;
+    }
+    false
+}
+
+// An occupant over N.
+fn odd_occupant(table: &[u8], occupant: &[u16; 32]) -> bool
+    requires { ⌜ Fair (now table) ⌝ }
+    ensures { λ r. ⌜ r ≡ over (nodes (now (table .entry))) (functions (now (table .entry))) (now (occupant .entry)) ⌝ }
+{
+    let last = read::nodes(table);
+    let limit = last.0;
+    let main = read::functions(table);
+    let mut f = main.0;
+    while 0 < f {
+        if limit < cells::occupant_at(occupant, Function(f)) {
+            return true;
+        }
+        f -= 1;
+    }
+    false
+}
+
+pub(crate) fn strays(table: &[u8], status: &[u8; 512], occupant: &[u16; 32]) -> bool
+    requires { ⌜ Fair (now table) ⌝ }
+    ensures { λ r. ⌜ r ≡ (over 3 (nodes (now (table .entry))) (now (status .entry))
+        || over (nodes (now (table .entry))) (functions (now (table .entry))) (now (occupant .entry))) ⌝ }
+{
+    if odd_status(table, status) {
+        return true;
+    }
+    odd_occupant(table, occupant)
+}

@@ -1,0 +1,119 @@
+// A step asked at a number, of a table and tags that were checked and a state that passed 24: 12, 20, then 21 to 23.
+use crate::Answer;
+use crate::cells;
+use crate::changes;
+use table::Function;
+use table::Node;
+use table::read;
+ghost use mathlib.Core.Path.{_≡_};
+ghost use lib.Dec.{eqb};
+ghost use Prim.Native.Nat.{_≤_, _<_};
+ghost use Rattle.table.specs.Pick.{pick};
+ghost use Rattle.table.specs.Bytes.{functions, root};
+ghost use Rattle.list.specs.Tags.{tagged};
+ghost use Rattle.circuit.specs.State.{entry};
+ghost use Rattle.circuit.specs.Step.{Stepped, answered, taken};
+ghost use Rattle.circuit.specs.Circuit.{circuitOf};
+ghost use Rattle.circuit.specs.Meaning.{replyOf};
+ghost use Rattle.circuit.specs.Plan.{Fair, Owners, Grouped, stateAs, Stands};
+
+// Whether node n is tagged.
+fn marked(tags: &[u8], n: Node) -> bool
+    requires { ⌜ 1 ≤ n .0 ⌝ }
+    ensures { λ r. ⌜ r ≡ tagged (now (tags .entry)) (n .0) ⌝ }
+{
+    let i = n.0 as usize;
+    let at = (i - 1) / 8;
+    let k = (i - 1) % 8;
+    if at < tags.len() {
+        let x = tags[at];
+        let y = x >> k;
+        return y & 1 == 1;
+    }
+    false
+}
+
+// 22 for a tagged call, 23 for one that isn't.
+fn held(tags: &[u8], n: Node) -> u8
+    requires { ⌜ 1 ≤ n .0 ⌝ }
+    ensures { λ r. ⌜ r ≡ pick (tagged (now (tags .entry)) (n .0)) 22 23 ⌝ }
+{
+    if marked(tags, n) { 22 } else { 23 }
+}
+
+// Main's root.
+pub(crate) fn top(table: &[u8]) -> Node
+    requires { ⌜ Fair (now table) ⌝ }
+    ensures { λ r. ⌜ (r .0 ≡ root (now (table .entry)) (functions (now (table .entry)))) × (r .0 ≤ 512) ⌝ }
+{
+    let main = read::functions(table);
+    read::root(table, main)
+}
+
+// What is said of a step taken: main's value, if its root is done now.
+fn told(status: &[u8; 512], value: &[u32; 512], top: Node) -> Answer
+    requires { ⌜ top .0 ≤ 512 ⌝ }
+    ensures { λ r. ⌜ replyOf r
+        ≡ pick (eqb (entry (now (status .entry)) 0 (top .0)) 3) (answered (entry (now (value .entry)) 0 (top .0))) taken ⌝ }
+{
+    if cells::status_at(status, top) == 3 {
+        return Answer::Answered(cells::value_at(value, top));
+    }
+    Answer::Taken
+}
+
+pub(crate) fn turn(
+    table: &[u8],
+    tags: &[u8],
+    own: &[u16; 513],
+    heads: &[u16; 33],
+    links: &[u16; 513],
+    status: &mut [u8; 512],
+    second: &mut [bool; 512],
+    value: &mut [u32; 512],
+    registers: &mut [u32; 256],
+    occupant: &mut [u16; 32],
+    n: Node,
+) -> Answer
+    requires { ⌜ Fair (now table) × Owners (now table) (now own) × Grouped (now table) (now heads) (now links)
+        × Stands (now table) (stateAs (now status) (now second) (now value) (now registers) (now occupant)) ⌝ }
+    ensures { λ r. ⌜ _≡_ {A = Stepped} (record {
+      answer = replyOf r;
+      state = stateAs (now (status .exit)) (now (second .exit)) (now (value .exit))
+          (now (registers .exit)) (now (occupant .exit));
+    })
+        (circuitOf (now (table .entry)) (now (tags .entry)) (stateAs (now (status .entry)) (now (second .entry)) (now (value .entry))
+        (now (registers .entry)) (now (occupant .entry))) (n .0)) ⌝ }
+{
+    if n.0 == 0 {
+        return Answer::Refused(12, Node(0));
+    }
+    let last = read::nodes(table);
+    if last.0 < n.0 {
+        return Answer::Refused(12, Node(0));
+    }
+    let root = top(table);
+    if cells::status_at(status, root) == 3 {
+        return Answer::Refused(20, n);
+    }
+    let f = own[n.0 as usize];
+    let code = changes::take(
+        table,
+        Function(f),
+        heads,
+        links,
+        status,
+        second,
+        value,
+        registers,
+        occupant,
+        n,
+    );
+    if code == 0 {
+        return Answer::Refused(21, n);
+    }
+    if code == 1 {
+        return Answer::Refused(held(tags, n), n);
+    }
+    told(status, value, root)
+}
