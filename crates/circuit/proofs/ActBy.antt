@@ -5,6 +5,7 @@ use mathlib.Core.Path.{_≡_, refl, subst, sym, ap, ap₂, _∙_}
 use mathlib.Core.List.{List, [], _∷_, _++_, map}
 use native.Mathlib.Omega.{arith}
 use lib.Dec.{eqb}
+use borrow.Author.Tests.{eq-eqb, ne-eqb}
 use Rattle.table.specs.Pick.{pick}
 use Rattle.table.specs.Environment.{values}
 use Rattle.table.specs.Syntax.{Expr, Exprs, none, some, id, roots, const, param, prim, call, self, cond, bind, bound}
@@ -12,22 +13,21 @@ use Rattle.table.specs.Bytes.{functions, nodes, root, kind, extra, word, first,
 use Rattle.table.specs.Naming.{owner, chain, children}
 use Rattle.table.specs.Expressions.{exprsAt, exprAt, bodyOf, defsAt, finalAt, thenAt, elseAt}
 use Rattle.table.specs.Working.{IsNode, IsFunction, Linked}
-use Rattle.table.proofs.Tests.{eqb-yes, eqb-no}
 use Rattle.table.proofs.Passed.{Passed}
 use Rattle.table.proofs.Family.{owner-in}
 use Rattle.table.proofs.View.{View as NodeView, view as node-view, id-at, is-const, is-param, is-prim, is-call, is-self, is-cond, is-bind}
 use Rattle.table.proofs.View.{is-bound}
 use Rattle.table.proofs.Children.{values-are, roots-kids, Final, final}
 use Rattle.table.proofs.Accepted.{id-body}
-use Rattle.circuit.specs.State.{State512, View, view, entry, register}
-use Rattle.circuit.specs.Step.{Act, stuck, blocked, does, begins, turns, finishes, enters, leaves, restarts, done, all-done, branch}
-use Rattle.circuit.specs.Step.{by-status, act}
-use Rattle.circuit.specs.Operations.{operate}
-use Rattle.circuit.specs.Circuit.{actOf}
+use Rattle.rules.specs.State.{State512, View, view, entry, register}
+use Rattle.rules.specs.Step.{Act, stuck, blocked, does, begins, turns, finishes, enters, leaves, restarts, done, all-done, branch}
+use Rattle.rules.specs.Step.{by-status, act}
+use Rattle.rules.specs.Operations.{operate}
+use Rattle.rules.specs.Circuit.{actOf}
 use Rattle.circuit.specs.Plan.{Fair, allDone, initial, lastFrom, given, opens, openBy, passBy, primBy, selfBy, callBy, branchBy}
 use Rattle.circuit.specs.Plan.{condBy, bindBy, busyBy, actBy}
 use Rattle.circuit.proofs.ChainLaws.{ok}
-use Rattle.circuit.proofs.AnyState.{bound-node}
+use Rattle.rules.proofs.AnyState.{bound-node}
 
 all-done-is : (s : View) (es : Exprs) → all-done s es ≡ allDone (s .status) (roots es)
 unfolding allDone
@@ -47,7 +47,7 @@ last-snoc (y ∷ l) x d = last-snoc l x y
 
 branch-id : (v : ℕ) (b c : Expr) → id (branch v b c) ≡ pick (eqb v 0) (id c) (id b)
 branch-id zero b c = refl
-branch-id (suc v) b c = sym (rw (eqb-no (suc v) 0 (λ z. omega arith)) refl)
+branch-id (suc v) b c = sym (rw (ne-eqb (suc v) 0 (λ z. omega arith)) refl)
 
 module _ (t : List ℕ) (fair : Fair t) (n : ℕ) (i : IsNode t n) where
   abbrev p : Passed t
@@ -169,14 +169,15 @@ module _ (t : List ℕ) (fair : Fair t) (n : ℕ) (i : IsNode t n) where
         parts _ _ _ q refl (begins-call k)
         (ap₂ (λ x y. pick (entry (s .second) false n) x y)
         (ap (λ m. pick (eqb (st m) 3) (does (leaves (word t n) (va m))) stuck) r)
-        (ap₂ (λ b l. pick b (pick (eqb (entry (s .occupant) 0 (word t n)) 0) (does (enters (word t n) l)) blocked) stuck) done-kids value-kids)
-        ∙ sym (rw (k, eqb-no (word t n) (owner t n) w) refl))
+        (ap₂ (λ b l. pick b (pick (eqb (entry (s .occupant) 0 (word t n)) 0) (does (enters (word t n) l)) blocked) stuck) done-kids
+        value-kids)
+        ∙ sym (rw (k, ne-eqb (word t n) (owner t n) w) refl))
 
     as-self : kind t n ≡ 4 → word t n ≡ owner t n → exprAt t n ≡ self n es → Is (actBy t s n)
     unfolding busyBy selfBy
     as-self k w q = parts _ _ _ q refl (begins-call k)
         (ap₂ (λ b l. pick b (does (restarts (owner t n) l)) stuck) done-kids value-kids
-        ∙ sym (rw (k, eqb-yes (word t n) (owner t n) w) refl))
+        ∙ sym (rw (k, eq-eqb (word t n) (owner t n) w) refl))
 
     as-cond : kind t n ≡ 5 → IsNode t (first t n) → IsNode t (thenAt t n) → IsNode t (elseAt t n)
         → exprAt t n ≡ cond n (exprAt t (first t n)) (exprAt t (thenAt t n)) (exprAt t (elseAt t n)) → Is (actBy t s n)

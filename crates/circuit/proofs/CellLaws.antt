@@ -6,7 +6,7 @@ use native.Mathlib.Omega.{arith}
 use lib.ListN.{getD}
 use borrow.Author.Tests.{le-ltb}
 use Rattle.table.specs.Pick.{pick}
-use Rattle.circuit.specs.State.{entry, write, register}
+use Rattle.rules.specs.State.{entry, write, register}
 
 module _ {A : Type 0} (l : List A) where
   pub entry-none : (d : A) (n : ℕ) → n ≡ 0 → d ≡ entry l d n

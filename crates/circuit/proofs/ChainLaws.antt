@@ -7,17 +7,17 @@ use native.Mathlib.Omega.{arith}
 use native.Mathlib.Decide.{ℕ-discrete}
 use lib.Dec.{eqb}
 use lib.ListN.{getD}
+use borrow.Author.Tests.{eq-eqb, ne-eqb}
 use Rattle.table.specs.Pick.{pick}
 use Rattle.table.specs.Bytes.{functions, nodes, first, next}
 use Rattle.table.specs.Naming.{chain}
 use Rattle.table.specs.Working.{IsNode, Linked}
-use Rattle.table.proofs.Tests.{eqb-yes, eqb-no}
 use Rattle.table.proofs.Passed.{Passed, passed}
 use Rattle.table.proofs.Links.{link}
 use Rattle.table.proofs.Tree.{chain-none, chain-some, first-or, next-or}
 use mathlib.Core.Logic.{_⊎_, inl, inr}
-use Rattle.circuit.specs.State.{entry, write, opened}
-use Rattle.circuit.specs.Operations.{lastValue, wrap, operate}
+use Rattle.rules.specs.State.{entry, write, opened}
+use Rattle.rules.specs.Operations.{lastValue, wrap, operate}
 use Rattle.circuit.specs.Plan.{Fair, allDone, initial, lastFrom, operateBy}
 
 -- what is left of a chain
@@ -55,20 +55,20 @@ module _ (t : List ℕ) (fair : Fair t) where
     further z = let l = link t lk at node .next-on (λ q. z (e ∙ q)) in omega (arith, l .0, e)
 
     pub falls : rest t on < rest t at
-    falls = rw (eqb-no at 0 some) (go (ℕ-discrete on 0))
+    falls = rw (ne-eqb at 0 some) (go (ℕ-discrete on 0))
       where
         go : Dec (on ≡ 0) → rest t on < nodes t + 1 - at
-        go (yes z) = rw (eqb-yes on 0 z) (omega arith)
-        go (no z) = rw (eqb-no on 0 z) (omega (arith, further z, inside))
+        go (yes z) = rw (eq-eqb on 0 z) (omega arith)
+        go (no z) = rw (ne-eqb on 0 z) (omega (arith, further z, inside))
 
     module _ (st : ℕ → ℕ) (x : ℕ) (ex : x ≡ st at) where
       pub all-more : x ≡ 3 → allDone st (chain t at) ≡ allDone st (chain t on)
       unfolding allDone
-      all-more h = ap (allDone st) chain-here ∙ ap (λ b. b && allDone st (chain t on)) (eqb-yes (st at) 3 (sym ex ∙ h))
+      all-more h = ap (allDone st) chain-here ∙ ap (λ b. b && allDone st (chain t on)) (eq-eqb (st at) 3 (sym ex ∙ h))
 
       pub all-stops : (x ≡ 3 → ⊥) → allDone st (chain t at) ≡ false
       unfolding allDone
-      all-stops h = ap (allDone st) chain-here ∙ ap (λ b. b && allDone st (chain t on)) (eqb-no (st at) 3 (λ q. h (ex ∙ q)))
+      all-stops h = ap (allDone st) chain-here ∙ ap (λ b. b && allDone st (chain t on)) (ne-eqb (st at) 3 (λ q. h (ex ∙ q)))
 
     pub last-more : (d : ℕ) → lastFrom d (chain t at) ≡ lastFrom at (chain t on)
     unfolding lastFrom
@@ -111,12 +111,12 @@ module _ (t : List ℕ) (fair : Fair t) where
       pub defs-more : (x : ℕ) → x ≡ st at → (on ≡ 0 → ⊥) → x ≡ 3 → allDone st (initial (chain t at)) ≡ allDone st (initial (chain t on))
       unfolding allDone
       defs-more x ex z h = ap (allDone st) (first-one z)
-          ∙ ap (λ b. b && allDone st (initial (chain t on))) (eqb-yes (st at) 3 (sym ex ∙ h))
+          ∙ ap (λ b. b && allDone st (initial (chain t on))) (eq-eqb (st at) 3 (sym ex ∙ h))
 
       pub defs-stop : (x : ℕ) → x ≡ st at → (on ≡ 0 → ⊥) → (x ≡ 3 → ⊥) → allDone st (initial (chain t at)) ≡ false
       unfolding allDone
       defs-stop x ex z h = ap (allDone st) (first-one z)
-          ∙ ap (λ b. b && allDone st (initial (chain t on))) (eqb-no (st at) 3 (λ q. h (ex ∙ q)))
+          ∙ ap (λ b. b && allDone st (initial (chain t on))) (ne-eqb (st at) 3 (λ q. h (ex ∙ q)))
 
     pub open-end : (l : List ℕ) → on ≡ 0 → opened l (initial (chain t at)) ≡ l
     unfolding opened

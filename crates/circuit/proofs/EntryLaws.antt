@@ -16,22 +16,23 @@ use Rattle.table.specs.declared.Node.{Node}
 use Rattle.table.proofs.Passed.{passes}
 use Rattle.list.specs.Tags.{after, tagLength, nonePast, tagsRefusal, checkWith}
 use Rattle.list.proofs.Owners.{owner-of}
-use Rattle.circuit.specs.State.{State512}
-use Rattle.circuit.specs.Step.{Reply, taken, answered, refused, Stepped, refusal, over}
-use Rattle.circuit.specs.Circuit.{circuitOf, stepOf}
-use Rattle.circuit.specs.Runs.{standing, Ran, Halt, whole, stopped, andThen, runFrom, runAfter, runOf}
+use Rattle.rules.specs.State.{State512}
+use Rattle.rules.specs.Step.{Reply, taken, answered, refused, Stepped, refusal, over}
+use Rattle.rules.specs.Circuit.{circuitOf, stepOf}
+use Rattle.rules.specs.Runs.{standing, Ran, Halt, whole, stopped, andThen, runFrom, runAfter, runOf}
 use Rattle.circuit.specs.Meaning.{numbers}
 use Rattle.circuit.specs.Plan.{Fair, Owners, Stands, Agreed, strayIn, ofFunction, asNode, stateAs}
 use Rattle.circuit.proofs.ChainLaws.{ok}
 use Rattle.circuit.proofs.TurnLaws.{fair-from, step-is, turn-stands, turn-stray, turn-stray′}
-use Rattle.circuit.proofs.Demands.{after-both}
+use Rattle.rules.proofs.Demands.{after-both}
 use Rattle.table.specs.Check as TableCheck
 
 pub numbered : (l : List ℕ) → numbers (map asNode l) ≡ l
 numbered [] = refl
 numbered (x ∷ l) = ap (λ r. x ∷ r) (numbered l)
 
-pub owners-told : (t : List ℕ) → Fair t → (raw : List Function) → raw ≡ ownersOf t → (own : List ℕ) → own ≡ map ofFunction raw → Owners t own
+pub owners-told : (t : List ℕ) → Fair t → (raw : List Function) → raw ≡ ownersOf t → (own : List ℕ) → own ≡ map ofFunction raw → Owners
+    t own
 owners-told t fair raw e own f n i =
     ap (λ l. getD l n 0) f ∙ List·getD-map ofFunction raw n (record { 0 = 0 })
     ∙ owner-of t fair raw e n (record { 0 = 0 }) i (omega (arith, ok t fair .N-high))
@@ -83,7 +84,8 @@ module _ (t tags : List ℕ) (ag : Agreed t tags) (s : State512) where
   unfolding standing after stage
   stand-standing st = rw (ag .tagging, st .statuses, st .occupants) refl
 
-pub refused-standing : (t tags : List ℕ) (s : State512) (k p : ℕ) → checkWith t tags ≡ TableCheck.refused k p → standing t tags s ≡ TableCheck.refused k p
+pub refused-standing : (t tags : List ℕ) (s : State512) (k p : ℕ) → checkWith t tags ≡ TableCheck.refused k p → standing t tags s ≡
+    TableCheck.refused k p
 unfolding standing after
 refused-standing t tags s k p e = rw e refl
 
@@ -96,7 +98,8 @@ pub run-turned : (t tags : List ℕ) (s : State512) (ns : List ℕ) (k p : ℕ) 
 unfolding runOf
 run-turned t tags s ns k p e = sym (rw e refl)
 
-pub run-goes : (t tags : List ℕ) (s : State512) (ns : List ℕ) (F N : ℕ) → standing t tags s ≡ accepted F N → runFrom t tags s ns ≡ runOf t tags s ns
+pub run-goes : (t tags : List ℕ) (s : State512) (ns : List ℕ) (F N : ℕ) → standing t tags s ≡ accepted F N → runFrom t tags s ns ≡ runOf
+    t tags s ns
 unfolding runOf
 run-goes t tags s ns F N e = sym (rw e refl)
 

@@ -9,14 +9,15 @@ use native.Mathlib.Decide.{ℕ-discrete, decLt}
 use lib.Dec.{eqb, ltb}
 use lib.ListN.{length, getD, set, drop, length-set}
 use lib.Seq.{getD-set-same, getD-set-other, ext-getD, getD-drop, drop-drop, drop-nil}
+use borrow.Author.Tests.{eq-eqb, ne-eqb, lt-ltb}
+use Rattle.table.proofs.Tests.{ltb-no}
 use Rattle.table.specs.Pick.{pick}
 use Rattle.table.specs.Bytes.{nodes, next}
 use Rattle.table.specs.Naming.{chain}
-use Rattle.table.proofs.Tests.{eqb-yes, eqb-no, ltb-yes, ltb-no}
-use Rattle.circuit.specs.State.{entry, fill}
+use Rattle.rules.specs.State.{entry, fill}
 use Rattle.circuit.specs.Plan.{Fair}
 use Rattle.circuit.proofs.ChainLaws.{chain-end, chain-here, next-in}
-use Rattle.circuit.proofs.StateLaws.{length-fill, getD-alter}
+use Rattle.rules.proofs.StateLaws.{length-fill, getD-alter}
 
 -- place k is a register of g before i
 abbrev filledBy : ℕ → ℕ → ℕ → Bool
@@ -46,7 +47,8 @@ module _ (t : List ℕ) (fair : Fair t) (value : List ℕ) (c : ℕ) (low : c �
         (ap (λ b. eqb (k / 8 + 1) g && b) (ltb-no (k % 8) 0 (λ x. omega arith)) ∙ both-no (eqb (k / 8 + 1) g)));
   }
 
-  module _ (l : List ℕ) (i at : ℕ) (h : GivenTo t value vs l₀ l g i at) (few : i < 8) (some : 1 ≤ g) (base x on : ℕ) (eb : base ≡ 8 * (g - 1))
+  module _ (l : List ℕ) (i at : ℕ) (h : GivenTo t value vs l₀ l g i at) (few : i < 8) (some : 1 ≤ g) (base x on : ℕ)
+      (eb : base ≡ 8 * (g - 1))
       (ex : x ≡ entry value 0 at) (eo : on ≡ pick (eqb at 0) 0 (next t at)) where
     head-is : getD (map (entry value 0) (chain t at)) 0 0 ≡ entry value 0 at
     unfolding entry
@@ -67,10 +69,13 @@ module _ (t : List ℕ) (fair : Fair t) (value : List ℕ) (c : ℕ) (low : c �
       where
         go : Dec (at ≡ 0) → (on ≤ nodes t) × (drop 1 (map (entry value 0) (chain t at)) ≡ map (entry value 0) (chain t on))
         go (yes z) =
-            let o : on ≡ 0 = eo ∙ ap (λ b. pick b 0 (next t at)) (eqb-yes at 0 z) in
-            (omega arith, ap (λ m. drop 1 (map (entry value 0) m)) (chain-end t fair at z) ∙ sym (ap (map (entry value 0)) (chain-end t fair on o)))
+            let o : on ≡ 0 = eo ∙ ap (λ b. pick b 0 (next t at)) (eq-eqb at 0 z) in (
+              omega arith,
+              ap (λ m. drop 1 (map (entry value 0) m)) (chain-end t fair at z) ∙ sym
+                  (ap (map (entry value 0)) (chain-end t fair on o)),
+            )
         go (no z) =
-            let o : on ≡ next t at = eo ∙ ap (λ b. pick b 0 (next t at)) (eqb-no at 0 z) in
+            let o : on ≡ next t at = eo ∙ ap (λ b. pick b 0 (next t at)) (ne-eqb at 0 z) in
             (next-in t fair at z (h .inside) on o, ap (λ m. drop 1 (map (entry value 0) m)) (chain-here t fair at z (h .inside) on o))
 
     each-next : (k : ℕ) → k < length l₀ → Dec (k ≡ base + i)
@@ -78,21 +83,23 @@ module _ (t : List ℕ) (fair : Fair t) (value : List ℕ) (c : ℕ) (low : c �
     each-next k q (yes e) =
         let a : k / 8 + 1 ≡ g = omega arith in
         let b : k % 8 ≡ i = omega arith in
-        rw (eqb-yes (k / 8 + 1) g a, ltb-yes (k % 8) (i + 1) (omega arith))
+        rw (eq-eqb (k / 8 + 1) g a, lt-ltb (k % 8) (i + 1) (omega arith))
         (subst (λ j. getD (set l (base + i) x) j 0 ≡ getD vs (k % 8) 0) (sym e)
         (getD-set-same l (base + i) x 0 (omega (arith, h .sized)) ∙ value-is ∙ ap (λ j. getD vs j 0) (sym b)))
-    each-next k q (no e) = getD-set-other l (base + i) k x 0 e ∙ h .each k q ∙ ap (λ b. pick b (getD vs (k % 8) 0) (getD l₀ k 0)) (go (ℕ-discrete (k / 8 + 1) g))
+    each-next k q (no e) = getD-set-other l (base + i) k x 0 e ∙ h .each k q ∙ ap (λ b. pick b (getD vs (k % 8) 0) (getD l₀ k 0))
+        (go (ℕ-discrete (k / 8 + 1) g))
       where
         near : k / 8 + 1 ≡ g → ltb (k % 8) i ≡ ltb (k % 8) (i + 1)
         near a = go′ (decLt (k % 8) i)
           where
             go′ : Dec (k % 8 < i) → ltb (k % 8) i ≡ ltb (k % 8) (i + 1)
-            go′ (yes y) = ltb-yes (k % 8) i y ∙ sym (ltb-yes (k % 8) (i + 1) (omega arith))
+            go′ (yes y) = lt-ltb (k % 8) i y ∙ sym (lt-ltb (k % 8) (i + 1) (omega arith))
             go′ (no y) = ltb-no (k % 8) i y ∙ sym (ltb-no (k % 8) (i + 1) (λ z. e (omega arith)))
 
         go : Dec (k / 8 + 1 ≡ g) → filledBy g i k ≡ filledBy g (i + 1) k
         go (yes a) = ap (λ b. eqb (k / 8 + 1) g && b) (near a)
-        go (no a) = ap (λ b. b && ltb (k % 8) i) (eqb-no (k / 8 + 1) g a) ∙ sym (ap (λ b. b && ltb (k % 8) (i + 1)) (eqb-no (k / 8 + 1) g a))
+        go (no a) = ap (λ b. b && ltb (k % 8) i) (ne-eqb (k / 8 + 1) g a) ∙ sym
+            (ap (λ b. b && ltb (k % 8) (i + 1)) (ne-eqb (k / 8 + 1) g a))
 
     pub given-next : GivenTo t value vs l₀ (set l (base + i) x) g (i + 1) on
     given-next = record {
@@ -116,6 +123,6 @@ module _ (t : List ℕ) (fair : Fair t) (value : List ℕ) (c : ℕ) (low : c �
       each : (k : ℕ) → k < length l₀ → getD l k 0 ≡ getD (fill g vs l₀) k 0
       each k r = h .each k r
           ∙ ap (λ b. pick b (getD vs (k % 8) 0) (getD l₀ k 0))
-          (ap (λ b. eqb (k / 8 + 1) g && b) (ltb-yes (k % 8) i (omega arith)) ∙ and-true (eqb (k / 8 + 1) g))
+          (ap (λ b. eqb (k / 8 + 1) g && b) (lt-ltb (k % 8) i (omega arith)) ∙ and-true (eqb (k / 8 + 1) g))
           ∙ sym (getD-alter (λ j x. pick (eqb (j / 8 + 1) g) (getD vs (j % 8) 0) x) 0 l₀ k 0 r
           ∙ ap (λ j. pick (eqb (j / 8 + 1) g) (getD vs (j % 8) 0) (getD l₀ k 0)) (plain k))

@@ -3,12 +3,12 @@ use Prim.Native.Nat.{ℕ}
 use mathlib.Core.Path.{_≡_, refl, sym, ap, _∙_}
 use mathlib.Core.List.{List, [], _∷_, map}
 use Rattle.table.specs.declared.Node.{Node}
-use Rattle.circuit.specs.State.{State512}
-use Rattle.circuit.specs.Step.{Reply, taken, answered, refused}
-use Rattle.circuit.specs.Circuit.{started, turned}
-use Rattle.circuit.specs.Circuit as Circuit
-use Rattle.circuit.specs.Runs.{whole, stopped, gave, atRest, spent, barred, names, nothing, unasked}
-use Rattle.circuit.specs.Runs as Runs
+use Rattle.rules.specs.State.{State512}
+use Rattle.rules.specs.Step.{Reply, taken, answered, refused}
+use Rattle.rules.specs.Circuit.{started, turned}
+use Rattle.rules.specs.Circuit as Circuit
+use Rattle.rules.specs.Runs.{whole, stopped, gave, atRest, spent, barred, names, nothing, unasked}
+use Rattle.rules.specs.Runs as Runs
 use Rattle.circuit.specs.declared.State.{State}
 use Rattle.circuit.specs.declared.Answer.{Answer}
 use Rattle.circuit.specs.declared.Answer.the-variants as Answer

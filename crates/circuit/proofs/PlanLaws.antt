@@ -7,24 +7,24 @@ use native.Mathlib.Omega.{arith}
 use native.Mathlib.Decide.{ℕ-discrete}
 use lib.Dec.{eqb}
 use lib.ListN.{getD}
+use borrow.Author.Tests.{eq-eqb, ne-eqb}
 use Rattle.table.specs.Pick.{pick}
 use Rattle.table.specs.Bytes.{functions, nodes, root, kind, extra, word, first, next}
 use Rattle.table.specs.Naming.{owner, chain, children}
 use Rattle.table.specs.Expressions.{thenAt, elseAt}
-use Rattle.table.proofs.Tests.{eqb-yes, eqb-no}
-use Rattle.circuit.specs.State.{State512, entry, register}
-use Rattle.circuit.specs.Step.{Act, stuck, blocked, does, begins, turns, finishes, enters, leaves, restarts, by-status}
-use Rattle.circuit.specs.Operations.{lastValue, operate}
+use Rattle.rules.specs.State.{State512, entry, register}
+use Rattle.rules.specs.Step.{Act, stuck, blocked, does, begins, turns, finishes, enters, leaves, restarts, by-status}
+use Rattle.rules.specs.Operations.{lastValue, operate}
 use Rattle.circuit.specs.Plan.{Fair, allDone, initial, lastFrom, given, opens, openBy, passBy, primBy, selfBy, callBy, branchBy}
 use Rattle.circuit.specs.Plan.{condBy, bindBy, busyBy, actBy, operateBy}
 use Rattle.circuit.proofs.ChainLaws.{chain-end, chain-here, next-in, operate-by}
 
 module _ (status value : List ℕ) (r x : ℕ) (ex : x ≡ entry status 0 r) where
   pub pass-yes : (v : ℕ) → v ≡ entry value 0 r → x ≡ 3 → does (finishes v) ≡ passBy status value r
-  pass-yes v ev h = ap (λ a. does (finishes a)) ev ∙ sym (rw (eqb-yes (entry status 0 r) 3 (sym ex ∙ h)) refl)
+  pass-yes v ev h = ap (λ a. does (finishes a)) ev ∙ sym (rw (eq-eqb (entry status 0 r) 3 (sym ex ∙ h)) refl)
 
   pub pass-no : (x ≡ 3 → ⊥) → stuck ≡ passBy status value r
-  pass-no h = sym (rw (eqb-no (entry status 0 r) 3 (λ z. h (ex ∙ z))) refl)
+  pass-no h = sym (rw (ne-eqb (entry status 0 r) 3 (λ z. h (ex ∙ z))) refl)
 
 -- a self call, and a primitive
 module _ (t status : List ℕ) (n c : ℕ) (ec : c ≡ first t n) (a : Bool) (ea : a ≡ allDone (entry status 0) (chain t c)) where
@@ -62,12 +62,12 @@ module _ (t status : List ℕ) (second : List Bool) (value occupant : List ℕ) 
 
     pub leave-no : (x ≡ 3 → ⊥) → stuck ≡ callBy t status second value occupant n
     unfolding callBy
-    leave-no d = sym (rw (sym eb ∙ h, eqb-no (entry status 0 (root t (word t n))) 3 (λ z. d (ex ∙ ap (entry status 0) there ∙ z))) refl)
+    leave-no d = sym (rw (sym eb ∙ h, ne-eqb (entry status 0 (root t (word t n))) 3 (λ z. d (ex ∙ ap (entry status 0) there ∙ z))) refl)
 
     pub leave-yes : x ≡ 3 → (v : ℕ) → v ≡ entry value 0 r → does (leaves g v) ≡ callBy t status second value occupant n
     unfolding callBy
     leave-yes d v ev = ap₂ (λ f y. does (leaves f y)) eg (ev ∙ ap (entry value 0) there)
-        ∙ sym (rw (sym eb ∙ h, eqb-yes (entry status 0 (root t (word t n))) 3 (sym (ap (entry status 0) there) ∙ sym ex ∙ d)) refl)
+        ∙ sym (rw (sym eb ∙ h, eq-eqb (entry status 0 (root t (word t n))) 3 (sym (ap (entry status 0) there) ∙ sym ex ∙ d)) refl)
 
   module _ (h : b ≡ false) (c : ℕ) (ec : c ≡ first t n) (a : Bool) (ea : a ≡ allDone (entry status 0) (chain t c)) where
     pub enter-not : a ≡ false → stuck ≡ callBy t status second value occupant n
@@ -80,7 +80,7 @@ module _ (t status : List ℕ) (second : List Bool) (value occupant : List ℕ) 
       enter-held z = sym (rw (
         sym eb ∙ h,
         sym (all-kids t status n c ec a ea) ∙ d,
-        eqb-no (entry occupant 0 (word t n)) 0 (λ q. z (eo ∙ ap (entry occupant 0) eg ∙ q)),
+        ne-eqb (entry occupant 0 (word t n)) 0 (λ q. z (eo ∙ ap (entry occupant 0) eg ∙ q)),
       ) refl)
 
       pub enter-yes : o ≡ 0 → does (enters g (given t value n)) ≡ callBy t status second value occupant n
@@ -88,16 +88,16 @@ module _ (t status : List ℕ) (second : List Bool) (value occupant : List ℕ) 
       enter-yes z = ap (λ f. does (enters f (given t value n))) eg ∙ sym (rw (
         sym eb ∙ h,
         sym (all-kids t status n c ec a ea) ∙ d,
-        eqb-yes (entry occupant 0 (word t n)) 0 (sym (ap (entry occupant 0) eg) ∙ sym eo ∙ z),
+        eq-eqb (entry occupant 0 (word t n)) 0 (sym (ap (entry occupant 0) eg) ∙ sym eo ∙ z),
       ) refl)
 
 -- the branch of an if, whose condition is a
 module _ (t value : List ℕ) (a x b : ℕ) (ex : x ≡ entry value 0 a) (eb : b ≡ next t a) where
   pub branch-else : x ≡ 0 → (c : ℕ) → c ≡ next t b → c ≡ pick (eqb (entry value 0 a) 0) (next t (next t a)) (next t a)
-  branch-else h c ec = ec ∙ ap (next t) eb ∙ sym (rw (eqb-yes (entry value 0 a) 0 (sym ex ∙ h)) refl)
+  branch-else h c ec = ec ∙ ap (next t) eb ∙ sym (rw (eq-eqb (entry value 0 a) 0 (sym ex ∙ h)) refl)
 
   pub branch-then : (x ≡ 0 → ⊥) → b ≡ pick (eqb (entry value 0 a) 0) (next t (next t a)) (next t a)
-  branch-then h = eb ∙ sym (rw (eqb-no (entry value 0 a) 0 (λ z. h (ex ∙ z))) refl)
+  branch-then h = eb ∙ sym (rw (ne-eqb (entry value 0 a) 0 (λ z. h (ex ∙ z))) refl)
 
 pub branch-small : (b : Bool) (r x y k : ℕ) → r ≡ pick b x y → x ≤ k → y ≤ k → r ≤ k
 branch-small true r x y k e p q = omega arith
@@ -118,11 +118,11 @@ module _ (t status : List ℕ) (second : List Bool) (value : List ℕ) (n a : �
     pub cond-turn : x ≡ 3 → does (turns r) ≡ condBy t status second value n
     unfolding condBy
     cond-turn d = ap (λ m. does (turns m)) taken-branch
-        ∙ sym (rw (sym eb ∙ h, eqb-yes (entry status 0 (first t n)) 3 (sym (ap (entry status 0) ea) ∙ sym ex ∙ d)) refl)
+        ∙ sym (rw (sym eb ∙ h, eq-eqb (entry status 0 (first t n)) 3 (sym (ap (entry status 0) ea) ∙ sym ex ∙ d)) refl)
 
     pub cond-wait : (x ≡ 3 → ⊥) → stuck ≡ condBy t status second value n
     unfolding condBy
-    cond-wait d = sym (rw (sym eb ∙ h, eqb-no (entry status 0 (first t n)) 3 (λ z. d (ex ∙ ap (entry status 0) ea ∙ z))) refl)
+    cond-wait d = sym (rw (sym eb ∙ h, ne-eqb (entry status 0 (first t n)) 3 (λ z. d (ex ∙ ap (entry status 0) ea ∙ z))) refl)
 
 -- a let
 module _ (t status : List ℕ) (second : List Bool) (value : List ℕ) (n c : ℕ) (ec : c ≡ first t n) (r : ℕ) (er : r ≡ lastFrom 0 (chain t c))
@@ -167,9 +167,9 @@ module _ (t value registers : List ℕ) (n k : ℕ) (ek : k ≡ kind t n) where
   pub open-other : (k ≡ 1 → ⊥) → (k ≡ 2 → ⊥) → (k ≡ 7 → ⊥) → does (begins (opens t n)) ≡ openBy t value registers n
   unfolding openBy
   open-other a b c = sym (rw (
-    eqb-no (kind t n) 1 (λ z. a (ek ∙ z)),
-    eqb-no (kind t n) 2 (λ z. b (ek ∙ z)),
-    eqb-no (kind t n) 7 (λ z. c (ek ∙ z)),
+    ne-eqb (kind t n) 1 (λ z. a (ek ∙ z)),
+    ne-eqb (kind t n) 2 (λ z. b (ek ∙ z)),
+    ne-eqb (kind t n) 7 (λ z. c (ek ∙ z)),
   ) refl)
 
 -- a busy node
@@ -196,10 +196,10 @@ pub busy-other : (t status : List ℕ) (second : List Bool) (value occupant : Li
     → (k ≡ 3 → ⊥) → (k ≡ 4 → ⊥) → (k ≡ 5 → ⊥) → (k ≡ 6 → ⊥) → stuck ≡ busyBy t status second value occupant n
 unfolding busyBy
 busy-other t status second value occupant n k ek a b c d = sym (rw (
-  eqb-no (kind t n) 3 (λ z. a (ek ∙ z)),
-  eqb-no (kind t n) 4 (λ z. b (ek ∙ z)),
-  eqb-no (kind t n) 5 (λ z. c (ek ∙ z)),
-  eqb-no (kind t n) 6 (λ z. d (ek ∙ z)),
+  ne-eqb (kind t n) 3 (λ z. a (ek ∙ z)),
+  ne-eqb (kind t n) 4 (λ z. b (ek ∙ z)),
+  ne-eqb (kind t n) 5 (λ z. c (ek ∙ z)),
+  ne-eqb (kind t n) 6 (λ z. d (ek ∙ z)),
 ) refl)
 
 -- by status
@@ -211,22 +211,22 @@ module _ (s : State512) (n x : ℕ) (ex : x ≡ entry (s .status) 0 n) (o b : Ac
   at-busy h = sym (rw (sym ex ∙ h) refl)
 
   pub at-rest : (x ≡ 1 → ⊥) → (x ≡ 2 → ⊥) → stuck ≡ by-status (entry (s .status) 0 n) o b
-  at-rest p q = sym (rw (eqb-no (entry (s .status) 0 n) 1 (λ z. p (ex ∙ z)), eqb-no (entry (s .status) 0 n) 2 (λ z. q (ex ∙ z))) refl)
+  at-rest p q = sym (rw (ne-eqb (entry (s .status) 0 n) 1 (λ z. p (ex ∙ z)), ne-eqb (entry (s .status) 0 n) 2 (λ z. q (ex ∙ z))) refl)
 
 -- beside gives the last value, and no other operation looks at it
 op-last : (op x y z : ℕ) → 9 < op → operateBy op x y z ≡ z
 unfolding operateBy
 op-last op x y z h = rw (
-  eqb-no op 0 (λ e. omega arith),
-  eqb-no op 1 (λ e. omega arith),
-  eqb-no op 2 (λ e. omega arith),
-  eqb-no op 3 (λ e. omega arith),
-  eqb-no op 4 (λ e. omega arith),
-  eqb-no op 5 (λ e. omega arith),
-  eqb-no op 6 (λ e. omega arith),
-  eqb-no op 7 (λ e. omega arith),
-  eqb-no op 8 (λ e. omega arith),
-  eqb-no op 9 (λ e. omega arith),
+  ne-eqb op 0 (λ e. omega arith),
+  ne-eqb op 1 (λ e. omega arith),
+  ne-eqb op 2 (λ e. omega arith),
+  ne-eqb op 3 (λ e. omega arith),
+  ne-eqb op 4 (λ e. omega arith),
+  ne-eqb op 5 (λ e. omega arith),
+  ne-eqb op 6 (λ e. omega arith),
+  ne-eqb op 7 (λ e. omega arith),
+  ne-eqb op 8 (λ e. omega arith),
+  ne-eqb op 9 (λ e. omega arith),
 ) refl
 
 op-two : (op x y z : ℕ) → op ≤ 9 → operateBy op x y z ≡ operateBy op x y 0

@@ -7,17 +7,18 @@ use native.Mathlib.Omega.{arith}
 use native.Mathlib.Decide.{ℕ-discrete, decLe}
 use lib.Dec.{eqb, ltb}
 use lib.ListN.{length, List·getD-eq-default}
+use borrow.Author.Tests.{lt-ltb, ltb-false}
+use Rattle.table.proofs.Tests.{ltb-no}
 use Rattle.table.specs.Pick.{pick}
 use Rattle.table.specs.Syntax.{Expr, id}
 use Rattle.table.specs.Bytes.{functions, nodes}
 use Rattle.table.specs.Naming.{owner}
 use Rattle.table.specs.Expressions.{bodyOf}
-use Rattle.table.proofs.Tests.{ltb-yes, ltb-no, ltb-false}
-use Rattle.circuit.specs.State.{State512, entry, write, clear, opened}
-use Rattle.circuit.specs.Step.{Move, begins, turns, finishes, enters, leaves, restarts, mine, perform, over}
+use Rattle.rules.specs.State.{State512, entry, write, clear, opened}
+use Rattle.rules.specs.Step.{Move, begins, turns, finishes, enters, leaves, restarts, mine, perform, over}
 use Rattle.circuit.specs.Plan.{Stands}
-use Rattle.circuit.proofs.StateLaws.{entry-same, entry-other, length-write, length-clear, clear-mine, clear-other}
-use Rattle.circuit.proofs.Bounded.{over-none}
+use Rattle.rules.proofs.StateLaws.{entry-same, entry-other, length-write, length-clear, clear-mine, clear-other}
+use Rattle.rules.proofs.Bounded.{over-none}
 
 over-suc : (limit : ℕ) (l : List ℕ) (k n : ℕ) → n ≡ suc k → over limit n l ≡ pick (ltb limit (entry l 0 n)) true (over limit k l)
 unfolding over
@@ -29,7 +30,7 @@ module _ (limit : ℕ) (l : List ℕ) (n x : ℕ) (some : 0 < n) (ex : x ≡ ent
   over-step = over-suc limit l (n - 1) n (omega arith)
 
   pub over-here : limit < x → over limit n l ≡ true
-  over-here h = over-step ∙ ap (λ b. pick b true (over limit (n - 1) l)) (ltb-yes limit (entry l 0 n) (omega arith))
+  over-here h = over-step ∙ ap (λ b. pick b true (over limit (n - 1) l)) (lt-ltb limit (entry l 0 n) (omega arith))
 
   pub over-less : x ≤ limit → over limit n l ≡ over limit (n - 1) l
   over-less h = over-step ∙ ap (λ b. pick b true (over limit (n - 1) l)) (ltb-no limit (entry l 0 n) (λ q. omega arith))
@@ -95,12 +96,14 @@ module _ (t : List ℕ) (s : State512) (st : Stands t s) (n : ℕ) (inside : n �
   wrote m x h = over-none 3 N (write (s .status) m x) (under-write 3 N (s .status) a m x h)
 
   fresh : (g r : ℕ) → over 3 N (write (clear (mine N (owner t) g) 0 (s .status)) r 1) ≡ false
-  fresh g r = over-none 3 N _ (under-write 3 N (clear (mine N (owner t) g) 0 (s .status)) (under-clear 3 N (s .status) a (mine N (owner t) g)) r 1
+  fresh g r = over-none 3 N _ (under-write 3 N (clear (mine N (owner t) g) 0 (s .status)) (under-clear 3 N (s .status) a
+      (mine N (owner t) g)) r 1
       (omega arith))
 
   pub kept : (m : Move) → Stands t (perform N (owner t) (bodyOf t) s n m)
   kept (begins ns) = record {
-    statuses = over-none 3 N _ (under-opened 3 N (write (s .status) n 2) ns (omega arith) (under-write 3 N (s .status) a n 2 (omega arith)));
+    statuses = over-none 3 N _ (under-opened 3 N (write (s .status) n 2) ns (omega arith) (under-write 3 N (s .status) a n 2
+        (omega arith)));
     occupants = st .occupants;
   }
   kept (turns k) = record { statuses = wrote k 1 (omega arith); occupants = st .occupants }

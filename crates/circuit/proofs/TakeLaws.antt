@@ -5,22 +5,22 @@ use mathlib.Core.Path.{_≡_, refl, subst, sym, ap, _∙_}
 use mathlib.Core.List.{List, [], _∷_, map}
 use native.Mathlib.Omega.{arith}
 use lib.Dec.{eqb}
+use borrow.Author.Tests.{eq-eqb, ne-eqb}
 use Rattle.table.specs.Pick.{pick}
 use Rattle.table.specs.Syntax.{id}
 use Rattle.table.specs.Bytes.{functions, nodes, root, kind, first}
 use Rattle.table.specs.Naming.{owner, chain, children}
 use Rattle.table.specs.Expressions.{exprAt, bodyOf}
 use Rattle.table.specs.Working.{IsNode, IsFunction}
-use Rattle.table.proofs.Tests.{eqb-yes, eqb-no}
 use Rattle.table.proofs.Accepted.{id-body}
-use Rattle.circuit.specs.State.{State512, view, entry, write, opened, clear, fill}
-use Rattle.circuit.specs.Step.{Act, does, Move, begins, turns, finishes, enters, leaves, restarts, mine, perform}
-use Rattle.circuit.specs.Operations.{operate}
-use Rattle.circuit.specs.Circuit.{actOf}
+use Rattle.rules.specs.State.{State512, view, entry, write, opened, clear, fill}
+use Rattle.rules.specs.Step.{Act, does, Move, begins, turns, finishes, enters, leaves, restarts, mine, perform}
+use Rattle.rules.specs.Operations.{operate}
+use Rattle.rules.specs.Circuit.{actOf}
 use Rattle.circuit.specs.Plan.{Fair, stateAs, initial, given, opens, Took}
-use Rattle.circuit.proofs.Demands.{lay}
-use Rattle.circuit.proofs.Performed.{FairAct}
-use Rattle.circuit.proofs.StepTaken.{act-fair}
+use Rattle.rules.proofs.Demands.{lay}
+use Rattle.rules.proofs.Performed.{FairAct}
+use Rattle.rules.proofs.StepTaken.{act-fair}
 use Rattle.circuit.proofs.ChainLaws.{ok}
 
 -- what a node opens, by its kind
@@ -36,7 +36,7 @@ module _ (t : List ℕ) (n k : ℕ) (ek : k ≡ kind t n) (c : ℕ) (ec : c ≡ 
   pub begin-all : (k ≡ 5 → ⊥) → (k ≡ 6 → ⊥) → (l′ : List ℕ) → l′ ≡ opened l (chain t c) → l′ ≡ opened (write l₀ n 2) (opens t n)
   unfolding opens children
   begin-all p q l′ e′ = e′ ∙ (λ i. opened (e i) (chain t (ec i)))
-      ∙ sym (rw (eqb-no (kind t n) 5 (λ z. p (ek ∙ z)), eqb-no (kind t n) 6 (λ z. q (ek ∙ z))) refl)
+      ∙ sym (rw (ne-eqb (kind t n) 5 (λ z. p (ek ∙ z)), ne-eqb (kind t n) 6 (λ z. q (ek ∙ z))) refl)
 
 module _ (t : List ℕ) (fair : Fair t) (n : ℕ) (i : IsNode t n) (a : List ℕ) (b : List Bool) (c d e : List ℕ) where
   abbrev s : State512
@@ -76,7 +76,8 @@ module _ (t : List ℕ) (fair : Fair t) (n : ℕ) (i : IsNode t n) (a : List ℕ
       → After a′ b′ c d e
   turned m q a′ b′ ea eb = made (turns m) q a′ b′ c d e (λ j. stateAs (ea j) (eb j) c d e)
 
-  module _ (v : ℕ) (a′ : List ℕ) (b′ : List Bool) (c′ : List ℕ) (ea : a′ ≡ write a n 3) (eb : b′ ≡ write b n false) (ec : c′ ≡ write c n v) where
+  module _ (v : ℕ) (a′ : List ℕ) (b′ : List Bool) (c′ : List ℕ) (ea : a′ ≡ write a n 3) (eb : b′ ≡ write b n false)
+      (ec : c′ ≡ write c n v) where
     pub finished : does (finishes v) ≡ actOf t s n → After a′ b′ c′ d e
     finished q = made (finishes v) q a′ b′ c′ d e (λ j. stateAs (ea j) (eb j) (ec j) d e)
 

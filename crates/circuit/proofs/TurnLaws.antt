@@ -6,6 +6,8 @@ use mathlib.Core.List.{List}
 use native.Mathlib.Omega.{arith}
 use native.Mathlib.Decide.{ℕ-discrete, decLe}
 use lib.Dec.{eqb, ltb}
+use borrow.Author.Tests.{eq-eqb, ne-eqb, eqb-true, lt-ltb}
+use Rattle.table.proofs.Tests.{ltb-no}
 use Rattle.table.specs.Pick.{pick}
 use Rattle.table.specs.Syntax.{id}
 use Rattle.table.specs.Bytes.{functions, nodes, root}
@@ -13,19 +15,18 @@ use Rattle.table.specs.Naming.{owner}
 use Rattle.table.specs.Check.{Verdict, accepted, checkOf}
 use Rattle.table.specs.Expressions.{bodyOf, exprAt}
 use Rattle.table.specs.Working.{IsNode, IsFunction}
-use Rattle.table.proofs.Tests.{eqb-yes, eqb-no, eqb-true, ltb-yes, ltb-no}
 use Rattle.table.proofs.Accepted.{id-body}
 use Rattle.table.proofs.Passed.{passed}
 use Rattle.list.specs.Tags.{tagged, checkWith}
-use Rattle.circuit.specs.State.{State512, view, entry}
-use Rattle.circuit.specs.Step.{Act, stuck, blocked, does, Reply, taken, answered, refused, Stepped, refusal, done, told, outcome, perform}
-use Rattle.circuit.specs.Step.{circuitStep, over}
-use Rattle.circuit.specs.Operations.{operate}
-use Rattle.circuit.specs.Play.{Accepted}
-use Rattle.circuit.specs.Circuit.{actOf, circuitOf, stepAfter, stepOf, Possible}
-use Rattle.circuit.specs.Runs.{MainDone, mainValue}
+use Rattle.rules.specs.State.{State512, view, entry}
+use Rattle.rules.specs.Step.{Act, stuck, blocked, does, Reply, taken, answered, refused, Stepped, refusal, done, told, outcome, perform}
+use Rattle.rules.specs.Step.{circuitStep, over}
+use Rattle.rules.specs.Operations.{operate}
+use Rattle.rules.specs.Play.{Accepted}
+use Rattle.rules.specs.Circuit.{actOf, circuitOf, stepAfter, stepOf, Possible}
+use Rattle.rules.specs.Runs.{MainDone, mainValue}
 use Rattle.circuit.specs.Plan.{Fair, Took, Stands, goes}
-use Rattle.circuit.proofs.Demands.{after-both}
+use Rattle.rules.proofs.Demands.{after-both}
 use Rattle.circuit.proofs.StandsLaws.{kept}
 use Rattle.circuit.proofs.ChainLaws.{ok}
 use Rattle.table.specs.Check as TableCheck
@@ -39,7 +40,8 @@ fair-from t tags F N e =
     x .0 .2 ∙ sym (λ i. accepted (p .1 i) (p .2 i))
 
 -- and a step there is the circuit's
-pub step-is : (t tags : List ℕ) (F N : ℕ) → checkWith t tags ≡ accepted F N → (s : State512) (n : ℕ) → stepOf t tags s n ≡ circuitOf t tags s n
+pub step-is : (t tags : List ℕ) (F N : ℕ) → checkWith t tags ≡ accepted F N → (s : State512) (n : ℕ) → stepOf t tags s n ≡ circuitOf t
+    tags s n
 unfolding stepOf stepAfter
 step-is t tags F N e s n = rw e refl
 
@@ -54,20 +56,21 @@ main-root t fair = id-body t (ok t fair) (functions t) (ok t fair .F-low, omega 
 module _ (t tags : List ℕ) (fair : Fair t) (s : State512) (n : ℕ) where
   pub turn-zero : n ≡ 0 → refusal s 12 0 ≡ circuitOf t tags s n
   unfolding circuitOf circuitStep
-  turn-zero e = sym (rw (eqb-yes n 0 e) refl)
+  turn-zero e = sym (rw (eq-eqb n 0 e) refl)
 
   pub turn-past : (n ≡ 0 → ⊥) → nodes t < n → refusal s 12 0 ≡ circuitOf t tags s n
   unfolding circuitOf circuitStep
-  turn-past d h = sym (rw (eqb-no n 0 d, ltb-yes (nodes t) n h) refl)
+  turn-past d h = sym (rw (ne-eqb n 0 d, lt-ltb (nodes t) n h) refl)
 
   module _ (d : n ≡ 0 → ⊥) (h : n ≤ nodes t) where
     pub turn-stray : over 3 (nodes t) (s .status) ≡ true → refusal s 24 0 ≡ circuitOf t tags s n
     unfolding circuitOf circuitStep
-    turn-stray e = sym (rw (eqb-no n 0 d, ltb-no (nodes t) n (λ q. omega arith), e) refl)
+    turn-stray e = sym (rw (ne-eqb n 0 d, ltb-no (nodes t) n (λ q. omega arith), e) refl)
 
-    pub turn-stray′ : over 3 (nodes t) (s .status) ≡ false → over (nodes t) (functions t) (s .occupant) ≡ true → refusal s 24 0 ≡ circuitOf t tags s n
+    pub turn-stray′ : over 3 (nodes t) (s .status) ≡ false → over (nodes t) (functions t) (s .occupant) ≡ true → refusal s 24 0 ≡
+        circuitOf t tags s n
     unfolding circuitOf circuitStep
-    turn-stray′ e f = sym (rw (eqb-no n 0 d, ltb-no (nodes t) n (λ q. omega arith), e, f) refl)
+    turn-stray′ e f = sym (rw (ne-eqb n 0 d, ltb-no (nodes t) n (λ q. omega arith), e, f) refl)
 
     module _ (st : Stands t s) where
       abbrev main : ℕ
@@ -77,18 +80,18 @@ module _ (t tags : List ℕ) (fair : Fair t) (s : State512) (n : ℕ) where
           → circuitOf t tags s n ≡ pick b (refusal s 20 n)
           (outcome operate (functions t) (nodes t) (bodyOf t) (exprAt t) (owner t) (tagged tags) s n (actOf t s n))
       unfolding circuitOf circuitStep
-      by-main b e = rw (eqb-no n 0 d, ltb-no (nodes t) n (λ q. omega arith), st .statuses, st .occupants, e) refl
+      by-main b e = rw (ne-eqb n 0 d, ltb-no (nodes t) n (λ q. omega arith), st .statuses, st .occupants, e) refl
 
       module _ (top x : ℕ) (et : top ≡ root t (functions t)) (ex : x ≡ entry (s .status) 0 top) where
         main-is : x ≡ entry (s .status) 0 main
         main-is = ex ∙ ap (entry (s .status) 0) (et ∙ sym (main-root t fair))
 
         pub turn-over : x ≡ 3 → refusal s 20 n ≡ circuitOf t tags s n
-        turn-over e = sym (by-main true (eqb-yes (entry (s .status) 0 main) 3 (sym main-is ∙ e)))
+        turn-over e = sym (by-main true (eq-eqb (entry (s .status) 0 main) 3 (sym main-is ∙ e)))
 
         pub turn-on : (x ≡ 3 → ⊥) → circuitOf t tags s n
             ≡ outcome operate (functions t) (nodes t) (bodyOf t) (exprAt t) (owner t) (tagged tags) s n (actOf t s n)
-        turn-on e = by-main false (eqb-no (entry (s .status) 0 main) 3 (λ q. e (main-is ∙ q)))
+        turn-on e = by-main false (ne-eqb (entry (s .status) 0 main) 3 (λ q. e (main-is ∙ q)))
 
   -- what the code says of a step
   abbrev Out : Act → Stepped
@@ -115,7 +118,10 @@ module _ (t tags : List ℕ) (fair : Fair t) (s : State512) (n : ℕ) where
         let e : top ≡ id (bodyOf t (functions t)) = et ∙ sym (main-root t fair) in
         let f : r ≡ told (id (bodyOf t (functions t))) (view s′) =
         er ∙ ap (λ x. pick (eqb (entry (s′ .status) 0 x) 3) (answered (entry (s′ .value) 0 x)) taken) e in
-        (λ i. record { answer = f i; state = s′ }) ∙ ap (λ u. record { answer = told (id (bodyOf t (functions t))) (view u); state = u }) (h .1)
+        (λ i. record { answer = f i; state = s′ }) ∙ ap (λ u. record {
+          answer = told (id (bodyOf t (functions t))) (view u);
+          state = u;
+        }) (h .1)
 
   told-accepted : (b : Bool) (v : ℕ) → Accepted (pick b (answered v) taken)
   told-accepted true v = tt
@@ -138,7 +144,8 @@ module _ (t tags : List ℕ) (fair : Fair t) (s : State512) (n : ℕ) where
 
 -- a step that isn't refused keeps 24's tests passed; in any state
 module _ (t tags : List ℕ) (fair : Fair t) (s : State512) (st : Stands t s) where
-  by-number : (P : Stepped → Type 0) (n : ℕ) → P (refusal s 12 0) → (IsNode t n → P (refusal s 20 n)) → (IsNode t n → P (Out t tags fair s n (actOf t s n)))
+  by-number : (P : Stepped → Type 0) (n : ℕ) → P (refusal s 12 0) → (IsNode t n → P (refusal s 20 n)) →
+      (IsNode t n → P (Out t tags fair s n (actOf t s n)))
       → P (circuitOf t tags s n)
   by-number P n p q r = go (ℕ-discrete n 0) (decLe n (nodes t))
     where

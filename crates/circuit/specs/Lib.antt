@@ -1,11 +1,2 @@
-pub mod Operations
-pub mod State
-pub mod Step
-pub mod Play
-pub mod Circuit
-pub mod Runs
-pub mod Reading
-pub mod Demand
-pub mod Companions
 pub mod Meaning
 pub mod Plan

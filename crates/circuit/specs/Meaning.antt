@@ -3,11 +3,10 @@ use Prim.Native.Nat.{ℕ}
 use mathlib.Core.Path.{_≡_}
 use mathlib.Core.List.{List, map}
 use Rattle.table.specs.declared.Node.{Node}
-use Rattle.circuit.specs.State.{State512}
-use Rattle.circuit.specs.Step.{Reply, taken, answered, refused, Stepped}
-use Rattle.circuit.specs.Circuit.{Started, started, turned, stateOf}
-use Rattle.circuit.specs.Runs.{Halt, whole, stopped, Ran, Ended, gave, atRest, spent, barred, Driven, Found, names, nothing}
-use Rattle.circuit.specs.Runs.{unasked}
+use Rattle.rules.specs.State.{State512}
+use Rattle.rules.specs.Step.{Reply, taken, answered, refused, Stepped}
+use Rattle.rules.specs.Circuit.{Started, started, turned, stateOf}
+use Rattle.rules.specs.Runs.{Halt, whole, stopped, Ran, Ended, gave, atRest, spent, barred, Driven, Found, names, nothing, unasked}
 use Rattle.circuit.specs.declared.State.{State}
 use Rattle.circuit.specs.declared.Answer.{Answer}
 use Rattle.circuit.specs.declared.Answer.the-variants as Answer

@@ -14,9 +14,9 @@ use Rattle.table.specs.Expressions.{bodyOf, thenAt, elseAt}
 use Rattle.table.specs.declared.Function.{Function}
 use Rattle.table.specs.declared.Node.{Node}
 use Rattle.list.specs.Tags.{checkWith}
-use Rattle.circuit.specs.State.{State512, entry, register}
-use Rattle.circuit.specs.Step.{Act, stuck, blocked, does, Move, begins, turns, finishes, enters, leaves, restarts, by-status, over, perform}
-use Rattle.circuit.specs.Operations.{operate}
+use Rattle.rules.specs.State.{State512, entry, register}
+use Rattle.rules.specs.Step.{Act, stuck, blocked, does, Move, begins, turns, finishes, enters, leaves, restarts, by-status, over, perform}
+use Rattle.rules.specs.Operations.{operate}
 use Rattle.circuit.specs.declared.plan.Plan.{Plan}
 use Rattle.circuit.specs.declared.plan.Plan.the-variants as Plan
 

@@ -8,8 +8,8 @@ ghost use mathlib.Core.List.{map};
 ghost use Prim.Native.Nat.{_≤_, _<_};
 ghost use Rattle.table.specs.Bytes.{nodes};
 ghost use Rattle.table.specs.Naming.{chain};
-ghost use Rattle.circuit.specs.State.{entry, opened};
-ghost use Rattle.circuit.specs.Operations.{operate};
+ghost use Rattle.rules.specs.State.{entry, opened};
+ghost use Rattle.rules.specs.Operations.{operate};
 ghost use Rattle.circuit.specs.Plan.{Fair, allDone, initial, lastFrom};
 
 // Whether the node at c and all that follow it are done.

@@ -16,9 +16,9 @@ ghost use Rattle.table.specs.Pick.{pick};
 ghost use Rattle.table.specs.Bytes.{nodes, root, next};
 ghost use Rattle.table.specs.Naming.{owner, chain};
 ghost use Rattle.table.specs.Working.{IsNode, IsFunction};
-ghost use Rattle.circuit.specs.State.{entry, write, opened, clear, fill};
-ghost use Rattle.circuit.specs.Step.{mine};
-ghost use Rattle.circuit.specs.Circuit.{actOf};
+ghost use Rattle.rules.specs.State.{entry, write, opened, clear, fill};
+ghost use Rattle.rules.specs.Step.{mine};
+ghost use Rattle.rules.specs.Circuit.{actOf};
 ghost use Rattle.circuit.specs.Plan.{Fair, Grouped, stateAs, opens, Took};
 
 // The next sibling; of none, none.

@@ -14,9 +14,9 @@ ghost use mathlib.Core.Path.{_≡_};
 ghost use mathlib.Core.Bool.{false};
 ghost use Prim.Native.Nat.{_≤_, _<_};
 ghost use Rattle.table.specs.Bytes.{functions, nodes};
-ghost use Rattle.circuit.specs.Step.{refusal};
-ghost use Rattle.circuit.specs.Circuit.{circuitOf};
-ghost use Rattle.circuit.specs.Runs.{runFrom, stopped, Ran as RanAs};
+ghost use Rattle.rules.specs.Step.{refusal};
+ghost use Rattle.rules.specs.Circuit.{circuitOf};
+ghost use Rattle.rules.specs.Runs.{runFrom, stopped, Ran as RanAs};
 ghost use Rattle.circuit.specs.Meaning.{listsOf, steppedOf, ranOf};
 ghost use Rattle.circuit.specs.Plan.{Fair, Stands, Agreed, strayIn};
 

@@ -10,10 +10,10 @@ ghost use Prim.Native.Nat.{ℕ, _≤_, _<_};
 ghost use lib.Dec.{eqb};
 ghost use Rattle.table.specs.Pick.{pick};
 ghost use Rattle.table.specs.Bytes.{nodes, kind, word, extra, next};
-ghost use Rattle.circuit.specs.State.{entry};
+ghost use Rattle.rules.specs.State.{entry};
 ghost use Rattle.table.specs.Naming.{owner};
 ghost use Rattle.table.specs.Working.{IsNode};
-ghost use Rattle.circuit.specs.Circuit.{actOf};
+ghost use Rattle.rules.specs.Circuit.{actOf};
 ghost use Rattle.circuit.specs.Plan.{Fair, Owners, stateAs, planned, openBy, busyBy, primBy, selfBy, callBy, condBy, bindBy, passBy};
 
 // What a node would do: no step (21), none while the resource is occupied (22 or 23), or a move. The nodes that it opens and the

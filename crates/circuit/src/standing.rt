@@ -6,7 +6,7 @@ use table::read;
 ghost use mathlib.Core.Path.{_≡_};
 ghost use mathlib.Core.Bool.{_||_};
 ghost use Rattle.table.specs.Bytes.{functions, nodes};
-ghost use Rattle.circuit.specs.Step.{over};
+ghost use Rattle.rules.specs.Step.{over};
 ghost use Rattle.circuit.specs.Plan.{Fair};
 
 // A status over 3.

@@ -11,9 +11,9 @@ ghost use Prim.Native.Nat.{_≤_, _<_};
 ghost use Rattle.table.specs.Pick.{pick};
 ghost use Rattle.table.specs.Bytes.{functions, root};
 ghost use Rattle.list.specs.Tags.{tagged};
-ghost use Rattle.circuit.specs.State.{entry};
-ghost use Rattle.circuit.specs.Step.{Stepped, answered, taken};
-ghost use Rattle.circuit.specs.Circuit.{circuitOf};
+ghost use Rattle.rules.specs.State.{entry};
+ghost use Rattle.rules.specs.Step.{Stepped, answered, taken};
+ghost use Rattle.rules.specs.Circuit.{circuitOf};
 ghost use Rattle.circuit.specs.Meaning.{replyOf};
 ghost use Rattle.circuit.specs.Plan.{Fair, Owners, Grouped, stateAs, Stands};
 

@@ -6,11 +6,11 @@ use mathlib.Core.Logic.{_⊎_, inl, inr, ⊎-elim}
 use native.Mathlib.Omega.{arith}
 use native.Mathlib.Decide.{ℕ-discrete}
 use lib.Dec.{eqb}
+use borrow.Author.Tests.{eqb-true, eq-eqb, ne-eqb}
 use Rattle.table.specs.Syntax.{Expr, Exprs, const, param, prim, call, self, cond, bind, bound, none, some}
 use Rattle.list.specs.Sets.{Calls, ∅, _∪_, shared}
 use Rattle.list.specs.Conflict.{C, C*, PC, A, A*}
 use Rattle.table.specs.Pick.{mixed, pick, Range}
-use Rattle.table.proofs.Tests.{eqb-true, eqb-yes, eqb-no}
 use Rattle.list.specs.CallSets.{callee-at, sets, Listed}
 use Rattle.list.proofs.ListedCalls.{Calling, Calling*, C-all, C-all*, sets-all}
 use Rattle.list.specs.Arbiters.{Test, nothing, joined, anyUpTo, callsIn, callsIn*, meeting, parallel, conflicts, conflicts*}
@@ -36,7 +36,7 @@ both-and true b p q = q
 both-and false b p q = p
 
 pub eqb-decides : (m n : ℕ) → Decides (eqb m n) (m ≡ n)
-eqb-decides m n = (eqb-true m n, eqb-yes m n)
+eqb-decides m n = (eqb-true m n, eq-eqb m n)
 
 pub any-out : (k : ℕ) (p : Test) → anyUpTo k p ≡ true → (i : ℕ) × (1 ≤ i) × (i ≤ k) × (p i ≡ true)
 unfolding anyUpTo
@@ -101,7 +101,7 @@ module _ (N : ℕ) (calleeᵇ callee : ℕ → ℕ) (same : (n : ℕ) → callee
           let z = r i (h .1 .1) in
           both-and (sᵇ m) (anyUpTo N each) (x m .1 (h .0)) (any-in N each i (z .0) (z .1)
           (both-and (tᵇ i) (eqb (calleeᵇ m) (calleeᵇ i)) (y i .1 (h .1 .1))
-          (eqb-yes (calleeᵇ m) (calleeᵇ i) (same m ∙ h .1 .2 ∙ sym (same i)))))
+          (eq-eqb (calleeᵇ m) (calleeᵇ i) (same m ∙ h .1 .2 ∙ sym (same i)))))
 
   PC-decides : (tᵇ : Test) (t : Calls) (es : Exprs) → ((m : ℕ) → Decides (tᵇ m) (t m)) → ((m : ℕ) → t m → Range N m)
       → Calling* (Range N) es → (m : ℕ) → Decides (parallel N calleeᵇ Bᵇ tᵇ es m) (PC callee B t es m)
@@ -159,10 +159,10 @@ module _ (F N : ℕ) (body at : ℕ → Expr) (calleeᵇ : ℕ → ℕ) (same : 
       go : (d : Dec (g ≡ suc t)) → ((g m : ℕ) → Decides (callsOf N calleeᵇ body t g m) (sets body at t g m))
           → Decides (pick (eqb g (suc t)) (callsIn N calleeᵇ (callsOf N calleeᵇ body t) (body g) m) (callsOf N calleeᵇ body t g m))
           (mixed d (C (callee-at at) (sets body at t) (body g) m) (sets body at t g m))
-      go (yes e) f = rw (eqb-yes g (suc t) e)
+      go (yes e) f = rw (eq-eqb g (suc t) e)
           (C-decides N calleeᵇ (callee-at at) same (callsOf N calleeᵇ body t) (sets body at t) f
           (sets-all (Range N) F body at calls t (omega arith)) (body g) m)
-      go (no e) f = rw (eqb-no g (suc t) e) (f g m)
+      go (no e) f = rw (ne-eqb g (suc t) e) (f g m)
 
   -- the decided list holds exactly the arbiter list
   pub listed-decides : (m : ℕ) → Decides (listedIn N calleeᵇ body F m) (Listed body at F m)

@@ -11,7 +11,7 @@ use lib.Pow.{pow-lt, shl-shr, pow-add, pow-pos}
 use lib.Bits.{bitAnd, bitOr, and-mask, or-shr, and-shr, or-step, and-step}
 use lib.ListN.{length, getD, set, replicate, length-set}
 use lib.Seq.{getD-set-same, getD-set-other}
-use Rattle.table.proofs.Tests.{eqb-yes, eqb-no}
+use borrow.Author.Tests.{eq-eqb, ne-eqb}
 use Rattle.list.specs.Tags.{tagged}
 use Rattle.list.specs.Arbiters.{Test}
 use Rattle.list.specs.Working.{bitAt, Bit, Adds, PutAt, Kept}
@@ -76,10 +76,10 @@ pub pow-bit : (k j : ℕ) → bitAt (2 ^ k) j ≡ eqb k j
 pow-bit k j = go (ℕ-discrete k j) (decLt k j)
   where
     go : Dec (k ≡ j) → Dec (k < j) → bitAt (2 ^ k) j ≡ eqb k j
-    go (yes e) d = rw (eqb-yes k j e) (ap (λ i. bitAt (2 ^ k) i) (sym e) ∙ ap (λ x. eqb x 1) (pow-same k))
-    go (no e) (yes l) = rw (eqb-no k j e) (ap (λ x. eqb x 1) (pow-above k j l))
+    go (yes e) d = rw (eq-eqb k j e) (ap (λ i. bitAt (2 ^ k) i) (sym e) ∙ ap (λ x. eqb x 1) (pow-same k))
+    go (no e) (yes l) = rw (ne-eqb k j e) (ap (λ x. eqb x 1) (pow-above k j l))
     go (no e) (no l) =
-        rw (eqb-no k j e) (ap (λ x. bitAt (2 ^ x) j) (apart k j e l) ∙ ap (λ x. eqb x 1) (pow-below (k - suc j) j))
+        rw (ne-eqb k j e) (ap (λ x. bitAt (2 ^ x) j) (apart k j e l) ∙ ap (λ x. eqb x 1) (pow-below (k - suc j) j))
       where
         apart : (k j : ℕ) → (k ≡ j → ⊥) → (k < j → ⊥) → k ≡ suc (k - suc j) + j
         apart k j e l = omega arith
@@ -153,8 +153,8 @@ one-more x n b inside m c = go (ℕ-discrete ((m - 1) / 8) at)
     place n m p q e = here (ℕ-discrete n m)
       where
         here : Dec (n ≡ m) → eqb ((n - 1) % 8) ((m - 1) % 8) ≡ eqb n m
-        here (yes d) = eqb-yes ((n - 1) % 8) ((m - 1) % 8) (ap (λ x. (x - 1) % 8) d) ∙ sym (eqb-yes n m d)
-        here (no d) = eqb-no ((n - 1) % 8) ((m - 1) % 8) (λ r. d (omega (arith, r, e))) ∙ sym (eqb-no n m d)
+        here (yes d) = eq-eqb ((n - 1) % 8) ((m - 1) % 8) (ap (λ x. (x - 1) % 8) d) ∙ sym (eq-eqb n m d)
+        here (no d) = ne-eqb ((n - 1) % 8) ((m - 1) % 8) (λ r. d (omega (arith, r, e))) ∙ sym (ne-eqb n m d)
 
     go : Dec ((m - 1) / 8 ≡ at) → tagged (set x at v) m ≡ tagged x m || eqb n m
     go (yes e) =
@@ -165,7 +165,7 @@ one-more x n b inside m c = go (ℕ-discrete ((m - 1) / 8) at)
     go (no e) =
         tagged-bit (set x at v) m ∙ ap (λ y. bitAt y ((m - 1) % 8)) (getD-set-other x at ((m - 1) / 8) v 0 e) ∙ sym (tagged-bit x m)
         ∙ or-no (tagged x m)
-        ∙ ap (λ q. tagged x m || q) (sym (eqb-no n m (λ d. e (ap (λ y. (y - 1) / 8) (sym d)))))
+        ∙ ap (λ q. tagged x m || q) (sym (ne-eqb n m (λ d. e (ap (λ y. (y - 1) / 8) (sym d)))))
 
 pub adds-one : (x : List ℕ) (n : ℕ) → length x ≡ 64 → Bit n
     → Adds (eqb n) x (set x ((n - 1) / 8) (bitOr (getD x ((n - 1) / 8) 0) (2 ^ ((n - 1) % 8))))
@@ -192,12 +192,12 @@ put-row x g n l k b = record { size = length-set x (64 * g + (n - 1) / 8) _ ∙ 
     apart g n h m b c = go (ℕ-discrete g h) (ℕ-discrete n m)
       where
         go : Dec (g ≡ h) → Dec (n ≡ m) → eqb (512 * g + n) (512 * h + m) ≡ eqb g h && eqb n m
-        go (yes d) (yes e) = eqb-yes (512 * g + n) (512 * h + m) (omega (arith, d, e))
-            ∙ sym (ap₂ (λ p q. p && q) (eqb-yes g h d) (eqb-yes n m e))
+        go (yes d) (yes e) = eq-eqb (512 * g + n) (512 * h + m) (omega (arith, d, e))
+            ∙ sym (ap₂ (λ p q. p && q) (eq-eqb g h d) (eq-eqb n m e))
         go (yes d) (no e) =
-            eqb-no (512 * g + n) (512 * h + m) (λ z. e (omega (arith, d, z))) ∙ sym (ap₂ (λ p q. p && q) (eqb-yes g h d) (eqb-no n m e))
-        go (no d) e = eqb-no (512 * g + n) (512 * h + m) (λ z. d (omega (arith, z, b .0, b .1, c .0, c .1)))
-            ∙ sym (ap (λ p. p && eqb n m) (eqb-no g h d))
+            ne-eqb (512 * g + n) (512 * h + m) (λ z. e (omega (arith, d, z))) ∙ sym (ap₂ (λ p q. p && q) (eq-eqb g h d) (ne-eqb n m e))
+        go (no d) e = ne-eqb (512 * g + n) (512 * h + m) (λ z. d (omega (arith, z, b .0, b .1, c .0, c .1)))
+            ∙ sym (ap (λ p. p && eqb n m) (ne-eqb g h d))
 
     bits : (h m : ℕ) → Range 32 h → Bit m
         → tagged (set x (64 * g + (n - 1) / 8) (bitOr (getD x (64 * g + (n - 1) / 8) 0) (2 ^ ((n - 1) % 8)))) (512 * h + m)

@@ -7,6 +7,7 @@ use mathlib.Core.List.{List}
 use native.Mathlib.Omega.{arith}
 use native.Mathlib.Decide.{ℕ-discrete}
 use lib.Dec.{eqb}
+use borrow.Author.Tests.{eq-eqb, ne-eqb}
 use Rattle.table.specs.Pick.{pick, Range}
 use Rattle.table.specs.Syntax.{Expr, Exprs, const, param, prim, call, self, cond, bind, bound, none, some, Sub, Sub*}
 use Rattle.table.specs.Well.{CallIn, CallIn*}
@@ -15,7 +16,6 @@ use Rattle.table.specs.Naming.{owner}
 use Rattle.table.specs.Check.{accepted, checkOf}
 use Rattle.table.specs.Expressions.{exprAt, bodyOf}
 use Rattle.table.specs.Working.{IsNode, IsFunction}
-use Rattle.table.proofs.Tests.{eqb-yes, eqb-no}
 use Rattle.table.proofs.CallPlaces.{call-node}
 use Rattle.table.proofs.LaidOut.{laid, call-here}
 use Rattle.list.specs.Arbiters.{Test, nothing, joined, anyUpTo, callsIn, callsIn*, parallel, conflicts, conflicts*, callsOf}
@@ -72,7 +72,7 @@ module _ (N : ℕ) (target : ℕ → ℕ) (body : ℕ → Expr) (m : ℕ) where
       zero-plus a = omega arith
   same-up (suc d) a g h =
       ap (λ k. S k g m) (suc-plus d a)
-      ∙ ap (λ b. pick b (callsIn N target (S (d + a)) (body g) m) (S (d + a) g m)) (eqb-no g (suc (d + a)) (λ e. omega (arith, e)))
+      ∙ ap (λ b. pick b (callsIn N target (S (d + a)) (body g) m) (S (d + a) g m)) (ne-eqb g (suc (d + a)) (λ e. omega (arith, e)))
       ∙ same-up d a g h
     where
       suc-plus : (d a : ℕ) → suc d + a ≡ suc (d + a)
@@ -80,7 +80,7 @@ module _ (N : ℕ) (target : ℕ → ℕ) (body : ℕ → Expr) (m : ℕ) where
 
   own-set : (k : ℕ) → S (suc k) (suc k) m ≡ callsIn N target (S k) (body (suc k)) m
   unfolding callsOf
-  own-set k = ap (λ b. pick b (callsIn N target (S k) (body (suc k)) m) (S k (suc k) m)) (eqb-yes (suc k) (suc k) refl)
+  own-set k = ap (λ b. pick b (callsIn N target (S k) (body (suc k)) m) (S k (suc k) m)) (eq-eqb (suc k) (suc k) refl)
 
   whole-set : (F g : ℕ) → 1 ≤ g → g ≤ F → ((c h : ℕ) → CallIn c h (body g) → h < g) → S F g m ≡ callsIn N target (S F) (body g) m
   whole-set F zero p q f = absurd (omega arith)

@@ -5,7 +5,7 @@ use mathlib.Core.Path.{_≡_, refl, sym}
 use mathlib.Core.List.{List}
 use native.Mathlib.Decide.{ℕ-discrete}
 use lib.Dec.{eqb}
-use Rattle.table.proofs.Tests.{eqb-no}
+use borrow.Author.Tests.{ne-eqb}
 use Rattle.table.specs.Pick.{pick}
 use Rattle.table.specs.Syntax.{Exprs, const, param, prim, call, self, bound, none, some}
 use Rattle.list.specs.CallSets.{callee, callee-at, Listed}
@@ -53,7 +53,7 @@ callee-word t n = sym (go (ℕ-discrete (kind t n) 4))
 
     go : Dec (kind t n ≡ 4) → callee (exprAt t n) ≡ pick (eqb (kind t n) 4 && not (eqb (word t n) (owner t n))) (word t n) 0
     go (yes e) = rw e (a-call (eqb (word t n) (owner t n)))
-    go (no e) = rw (eqb-no (kind t n) 4 e)
+    go (no e) = rw (ne-eqb (kind t n) 4 e)
         (other (eqb (kind t n) 1) (eqb (kind t n) 2) (eqb (kind t n) 3) (eqb (kind t n) 5) (eqb (kind t n) 6))
 
 -- the decided list is the arbiter list

@@ -3,7 +3,7 @@ use Prim.Native.Nat.{ℕ, _≤_, _<_}
 use mathlib.Core.Path.{_≡_, refl, subst, sym, ap, _∙_}
 use mathlib.Core.Bool.{Bool, true, false, _&&_, _||_, true≢false}
 use lib.Dec.{eqb}
-use Rattle.table.proofs.Tests.{eqb-true}
+use borrow.Author.Tests.{eqb-true}
 use Rattle.list.proofs.ParallelLaws.{parallel-is}
 use mathlib.Core.List.{List}
 use native.Mathlib.Omega.{arith}
@@ -19,43 +19,13 @@ use Rattle.table.specs.Working.{IsNode}
 use Rattle.list.specs.declared.walk.Siblings.{Siblings}
 use Rattle.list.specs.Arbiters.{Test, joined}
 use Rattle.list.specs.Tags.{tagged, calleeOf}
-use Rattle.list.specs.Working.{
-  bitAt,
-  Callee,
-  callsAt,
-  callsAt*,
-  conflictsAt,
-  conflictsAt*,
-  parallelAt,
-  twiceIn,
-  siblings,
-  kidsAt,
-  meetOf,
-}
-use Rattle.list.specs.Working.{Sited, Adds, Memo, Walk, Within, Chained, Beside, Sided}
+use Rattle.list.specs.Working.{bitAt, Callee, callsAt, callsAt*, conflictsAt, conflictsAt*, parallelAt, twiceIn, siblings, kidsAt}
+use Rattle.list.specs.Working.{meetOf, Sited, Adds, Memo, Walk, Within, Chained, Beside, Sided}
 use Rattle.list.proofs.BitLaws.{zero-bit}
 use Rattle.list.proofs.WalkLaws.{walk-none, walk-same, walk-two, walk-side}
-use Rattle.list.proofs.NodeLaws.{
-  none-calls,
-  none-conflicts,
-  none-twice,
-  none-parallel,
-  some-calls,
-  some-conflicts,
-  lone-calls,
-  lone-conflicts,
-}
-use Rattle.list.proofs.NodeLaws.{
-  lone-twice,
-  twice-more,
-  ends-defs,
-  ends-plain,
-  goes-on,
-  final-here,
-  final-next,
-  next-there,
-  no-child,
-}
+use Rattle.list.proofs.NodeLaws.{none-calls, none-conflicts, none-twice, none-parallel, some-calls, some-conflicts, lone-calls}
+use Rattle.list.proofs.NodeLaws.{lone-conflicts, lone-twice, twice-more, ends-defs, ends-plain, goes-on, final-here, final-next}
+use Rattle.list.proofs.NodeLaws.{next-there, no-child}
 
 abbrev found : (once twice : ℕ) → Node → Siblings
 found o w x = record { once = o; twice = w; last = x }

@@ -6,14 +6,13 @@ use mathlib.Core.List.{List, [], _∷_}
 use native.Mathlib.Omega.{arith}
 use lib.Dec.{eqb, leb}
 use lib.ListN.{getD}
-use borrow.Author.Tests.{le-leb}
+use borrow.Author.Tests.{le-leb, eq-eqb, ne-eqb}
 use Rattle.table.specs.declared.Function.{Function}
 use Rattle.table.specs.Pick.{pick}
 use Rattle.table.specs.Bytes.{functions, nodes, kind, word}
 use Rattle.table.specs.Naming.{owner}
 use Rattle.table.specs.Survey.{tabulate, ifAccepted, ofNode, ownersOf}
 use Rattle.table.specs.Check.{checkOf}
-use Rattle.table.proofs.Tests.{eqb-yes, eqb-no}
 use Rattle.list.specs.Tags.{tagged, isCall, tagFits}
 use Rattle.list.specs.Working.{Taken}
 
@@ -53,12 +52,12 @@ module _ (t tags : List ℕ) (n : ℕ) where
 
   pub tag-other : tagged tags n ≡ true → (kind t n ≡ 4 → ⊥) → tagFits t tags n ≡ false
   unfolding tagFits isCall
-  tag-other e k = ap₂ (λ a b. not a || (b && not (eqb (word t n) (owner t n)))) e (eqb-no (kind t n) 4 k)
+  tag-other e k = ap₂ (λ a b. not a || (b && not (eqb (word t n) (owner t n)))) e (ne-eqb (kind t n) 4 k)
 
   pub tag-again : tagged tags n ≡ true → word t n ≡ owner t n → tagFits t tags n ≡ false
   unfolding tagFits isCall
   tag-again e w =
-      ap₂ (λ a b. not a || (eqb (kind t n) 4 && not b)) e (eqb-yes (word t n) (owner t n) w) ∙ and-no (eqb (kind t n) 4)
+      ap₂ (λ a b. not a || (eqb (kind t n) 4 && not b)) e (eq-eqb (word t n) (owner t n) w) ∙ and-no (eqb (kind t n) 4)
     where
       and-no : (b : Bool) → b && false ≡ false
       and-no true = refl
@@ -67,7 +66,7 @@ module _ (t tags : List ℕ) (n : ℕ) where
   pub tag-call : kind t n ≡ 4 → (word t n ≡ owner t n → ⊥) → tagFits t tags n ≡ true
   unfolding tagFits isCall
   tag-call k w =
-      ap₂ (λ a b. not (tagged tags n) || (a && not b)) (eqb-yes (kind t n) 4 k) (eqb-no (word t n) (owner t n) w)
+      ap₂ (λ a b. not (tagged tags n) || (a && not b)) (eq-eqb (kind t n) 4 k) (ne-eqb (word t n) (owner t n) w)
       ∙ or-yes (not (tagged tags n))
     where
       or-yes : (b : Bool) → b || true ≡ true

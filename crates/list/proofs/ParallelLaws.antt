@@ -6,12 +6,13 @@ use mathlib.Core.List.{List}
 use native.Mathlib.Omega.{arith}
 use native.Mathlib.Decide.{ℕ-discrete}
 use lib.Dec.{eqb, leb, le→leb}
+use borrow.Author.Tests.{eq-eqb, ne-eqb, eqb-true}
+use Rattle.table.proofs.Tests.{T-true}
 use Rattle.table.specs.Pick.{pick, Range}
 use Rattle.table.specs.Syntax.{Exprs, none, some}
 use Rattle.table.specs.Bytes.{nodes, kind, word}
 use Rattle.table.specs.Naming.{owner}
 use Rattle.table.specs.Working.{IsNode}
-use Rattle.table.proofs.Tests.{T-true, eqb-yes, eqb-no, eqb-true}
 use Rattle.list.specs.Arbiters.{Test, nothing, joined, anyUpTo, callsIn, callsIn*, meeting, parallel}
 use Rattle.list.specs.Tags.{tagged, isCall, calleeOf}
 use Rattle.list.specs.Working.{bitAt, Bit, Callee, callsBy, callsAt, callsAt*, parallelAt, calledIn, twiceIn, meetOf, site, Sited}
@@ -92,14 +93,14 @@ module _ (t : List ℕ) where
           ap (λ x. eqb h (calleeOf t x)) (eqb-true n (r .0) (q .0)) ∙ q .1
 
       from : eqb h (calleeOf t n) ≡ true → anyUpTo (nodes t) each ≡ true
-      from e = any-in (nodes t) each n (i .0) (i .1) (both-and (eqb n n) (eqb h (calleeOf t n)) (eqb-yes n n refl) e)
+      from e = any-in (nodes t) each n (i .0) (i .1) (both-and (eqb n n) (eqb h (calleeOf t n)) (eq-eqb n n refl) e)
 
   -- a member's function is called
   pub member : (s : Test) (m : ℕ) → Range (nodes t) m → s m ≡ true → calledIn t s (calleeOf t m) ≡ true
   unfolding calledIn
   member s m r e =
       any-in (nodes t) (λ β. s β && eqb (calleeOf t m) (calleeOf t β)) m (r .0) (r .1)
-      (both-and (s m) (eqb (calleeOf t m) (calleeOf t m)) e (eqb-yes (calleeOf t m) (calleeOf t m) refl))
+      (both-and (s m) (eqb (calleeOf t m) (calleeOf t m)) e (eq-eqb (calleeOf t m) (calleeOf t m) refl))
 
   twice-called : (es : Exprs) (h : ℕ) → twiceIn t es h ≡ true → calledIn t (callsAt* t es) h ≡ true
   unfolding twiceIn callsAt* callsIn
@@ -197,7 +198,7 @@ module _ (t : List ℕ) where
             (λ x. let y = any-out 31 each x in
             let z = and-both (twiceIn t es (y .0)) (eqb (y .0) h) (sym (at-site (y .0) (y .1, y .2) q c) ∙ y .3) in
             ap (twiceIn t es) (sym (eqb-true (y .0) h (z .1))) ∙ z .0)
-            (λ x. any-in 31 each h (c .0) (c .1) (at-site h c q c ∙ both-and (twiceIn t es h) (eqb h h) x (eqb-yes h h refl)))
+            (λ x. any-in 31 each h (c .0) (c .1) (at-site h c q c ∙ both-and (twiceIn t es h) (eqb h h) x (eq-eqb h h refl)))
 
         go : (a : Bool) → callsAt* t es m ≡ a → tagged own m && anyUpTo 31 each ≡ callsAt* t es m && twiceIn t es h
         go true q = ap₂ (λ x y. x && y) e (let z = r q in found (z .0) (z .1))

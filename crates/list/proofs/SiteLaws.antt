@@ -7,12 +7,11 @@ use native.Mathlib.Omega.{arith}
 use native.Mathlib.Decide.{ℕ-discrete, decLe}
 use lib.Dec.{eqb, leb}
 use lib.ListN.{length, replicate}
-use borrow.Author.Tests.{le-leb, lt-leb}
+use borrow.Author.Tests.{le-leb, lt-leb, eq-eqb, ne-eqb}
 use Rattle.table.specs.Pick.{Range}
 use Rattle.table.specs.Bytes.{functions, nodes, kind, word}
 use Rattle.table.specs.Naming.{owner}
 use Rattle.table.specs.Working.{IsNode}
-use Rattle.table.proofs.Tests.{eqb-yes, eqb-no}
 use Rattle.table.proofs.Passed.{passed}
 use Rattle.table.proofs.Family.{owner-in}
 use Rattle.table.proofs.View.{View, is-const, is-param, is-prim, is-call, is-self, is-cond, is-bind, is-bound, view}
@@ -49,9 +48,9 @@ module _ (t : List ℕ) where
     where
       go : Dec (m ≤ n) → Dec (n + 1 ≡ m) → leb m (n + 1) ≡ leb m n || eqb (n + 1) m
       go (yes l) d = le-leb m (n + 1) (omega (arith, l)) ∙ sym (ap (λ p. p || eqb (n + 1) m) (le-leb m n l))
-      go (no l) (yes d) = le-leb m (n + 1) (omega (arith, d)) ∙ sym (ap₂ (λ p q. p || q) (lt-leb m n (omega arith)) (eqb-yes (n + 1) m d))
+      go (no l) (yes d) = le-leb m (n + 1) (omega (arith, d)) ∙ sym (ap₂ (λ p q. p || q) (lt-leb m n (omega arith)) (eq-eqb (n + 1) m d))
       go (no l) (no d) =
-          lt-leb m (n + 1) (omega arith) ∙ sym (ap₂ (λ p q. p || q) (lt-leb m n (omega arith)) (eqb-no (n + 1) m d))
+          lt-leb m (n + 1) (omega arith) ∙ sym (ap₂ (λ p q. p || q) (lt-leb m n (omega arith)) (ne-eqb (n + 1) m d))
 
   split : (a b c : Bool) → (a || b) && c ≡ (a && c) || (b && c)
   split true true true = refl
@@ -74,8 +73,8 @@ module _ (t : List ℕ) where
       turn a b = go (ℕ-discrete a b)
         where
           go : Dec (a ≡ b) → eqb a b ≡ eqb b a
-          go (yes d) = eqb-yes a b d ∙ sym (eqb-yes b a (sym d))
-          go (no d) = eqb-no a b d ∙ sym (eqb-no b a (λ z. d (sym z)))
+          go (yes d) = eq-eqb a b d ∙ sym (eq-eqb b a (sym d))
+          go (no d) = ne-eqb a b d ∙ sym (ne-eqb b a (λ z. d (sym z)))
 
       and-no : (a : Bool) → a && false ≡ false
       and-no true = refl
@@ -86,10 +85,10 @@ module _ (t : List ℕ) where
       and-yes false = refl
 
       here : (h m : ℕ) → Dec (n + 1 ≡ m) → eqb w h && eqb (n + 1) m ≡ eqb (n + 1) m && site t h m
-      here h m (yes d) = rw (eqb-yes (n + 1) m d)
+      here h m (yes d) = rw (eq-eqb (n + 1) m d)
           (and-yes (eqb w h) ∙ turn w h ∙ ap (eqb h) (e ∙ ap (word t) d)
-          ∙ sym (ap (λ q. q && eqb h (word t m)) (eqb-yes (kind t m) 4 (ap (kind t) (sym d) ∙ k))))
-      here h m (no d) = rw (eqb-no (n + 1) m d) (and-no (eqb w h))
+          ∙ sym (ap (λ q. q && eqb h (word t m)) (eq-eqb (kind t m) 4 (ap (kind t) (sym d) ∙ k))))
+      here h m (no d) = rw (ne-eqb (n + 1) m d) (and-no (eqb w h))
 
   pub sites-other : (n : ℕ) (x : List ℕ) → SitedTo t n x → (kind t (n + 1) ≡ 4 → ⊥) → SitedTo t (n + 1) x
   sites-other n x s k = record {
@@ -104,6 +103,6 @@ module _ (t : List ℕ) where
       or-no false = refl
 
       here : (h m : ℕ) → Dec (n + 1 ≡ m) → false ≡ eqb (n + 1) m && site t h m
-      here h m (yes d) = rw (eqb-yes (n + 1) m d)
-          (sym (ap (λ q. q && eqb h (word t m)) (eqb-no (kind t m) 4 (λ z. k (ap (kind t) d ∙ z)))))
-      here h m (no d) = rw (eqb-no (n + 1) m d) refl
+      here h m (yes d) = rw (eq-eqb (n + 1) m d)
+          (sym (ap (λ q. q && eqb h (word t m)) (ne-eqb (kind t m) 4 (λ z. k (ap (kind t) d ∙ z)))))
+      here h m (no d) = rw (ne-eqb (n + 1) m d) refl

@@ -10,9 +10,9 @@ use native.Mathlib.Numerals.{add-one}
 use lib.Dec.{eqb}
 use lib.Count.{ones}
 use lib.ListN.{length, getD, set, take, drop}
+use borrow.Author.Tests.{eq-eqb, ne-eqb}
 use Rattle.table.specs.Pick.{pick}
 use Rattle.table.specs.Find.{lowest, all}
-use Rattle.table.proofs.Tests.{eqb-yes, eqb-no}
 use Rattle.list.specs.Arbiters.{Test}
 use Rattle.list.specs.Tags.{bitsSet}
 
@@ -69,7 +69,7 @@ lowest-found p N k e h l = ap (lowest p) (sum N k l) ∙ stays (N - (k + 1))
 
     keep : (j r : ℕ) → lowest p j ≡ r → (r ≡ 0 → ⊥) → lowest p (suc j) ≡ r
     keep = unfold lowest in (λ j r q z. ap (λ x. pick (eqb x 0) (pick (p (suc j)) 0 (suc j)) x) q
-        ∙ ap (λ b. pick b (pick (p (suc j)) 0 (suc j)) r) (eqb-no r 0 z))
+        ∙ ap (λ b. pick b (pick (p (suc j)) 0 (suc j)) r) (ne-eqb r 0 z))
 
     stays : (d : ℕ) → lowest p (d + (k + 1)) ≡ k + 1
     stays zero = ap (lowest p) (zero-plus (k + 1)) ∙ here

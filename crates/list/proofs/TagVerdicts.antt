@@ -7,12 +7,12 @@ use native.Mathlib.Omega.{arith}
 use lib.Dec.{eqb}
 use lib.ListN.{length, getD, take}
 use lib.Seq.{getD-take}
+use borrow.Author.Tests.{eq-eqb, ne-eqb}
 use Rattle.table.specs.declared.Checked.{Checked}
 use Rattle.table.specs.Bytes.{functions, nodes}
 use Rattle.table.specs.Find.{lowest, all}
 use Rattle.table.specs.Check.{Verdict, accepted, refused, stage, checkOf}
 use Rattle.table.specs.Survey.{verdictOf, ifAccepted}
-use Rattle.table.proofs.Tests.{eqb-yes, eqb-no}
 use Rattle.table.proofs.Passed.{passed}
 use Rattle.list.specs.Tags.{tagged, listed, tagLength, nonePast, tagFits, tagsRefusal, tagsOf, after, checkWith, fillVerdict}
 use Rattle.list.specs.Tags.{filledTags}
@@ -39,7 +39,7 @@ module _ (t tags : List ℕ) where
   unfolding tagsRefusal stage
   at-length h =
       ap (λ b. stage 10 (b && nonePast t tags) (lowest (tagFits t tags) (nodes t)) λ _. accepted (functions t) (nodes t))
-      (sym (eqb-no (length tags) (tagLength t) h))
+      (sym (ne-eqb (length tags) (tagLength t) h))
 
   pub wrong-length : (k : ℕ) → k ≡ nodes t → (length tags ≡ (k + 7) / 8 → ⊥) → refused 10 0 ≡ tagsRefusal t tags
   unfolding tagLength
@@ -54,7 +54,7 @@ module _ (t tags : List ℕ) where
   unfolding tagsRefusal
   stage-by b place l p q =
       ap₂ (λ a c. stage 10 (a && c) (lowest (tagFits t tags) (nodes t)) (λ _. accepted (functions t) (nodes t)))
-      (eqb-yes (length tags) (tagLength t) l) p
+      (eq-eqb (length tags) (tagLength t) l) p
       ∙ ap (λ c. stage 10 b c (λ _. accepted (functions t) (nodes t))) q
 
   at-place : (n : ℕ) → (n ≡ 0 → ⊥) → refused 10 n ≡ stage 10 true n (λ _. accepted (functions t) (nodes t))
@@ -112,7 +112,7 @@ module _ (t : List ℕ) (ok : Taken t) where
   pub fill-wrong : (old : List ℕ) (k : ℕ) → k ≡ nodes t → (length old ≡ (k + 7) / 8 → ⊥) → Filled t old old (refused 10 0)
   unfolding filledTags stage tagLength
   fill-wrong old k e h =
-      let q = by-length (length old) false (eqb-no (length old) (tagLength t) (λ z. h (z ∙ ap (λ n. (n + 7) / 8) (sym e)))) in
+      let q = by-length (length old) false (ne-eqb (length old) (tagLength t) (λ z. h (z ∙ ap (λ n. (n + 7) / 8) (sym e)))) in
       record { verdict = sym q; tags = sym (ap (λ v. ifAccepted v (tagsOf t) old) q) }
 
   pub fill-right : (old new found : List ℕ) (k F N : ℕ) → k ≡ nodes t → F ≡ functions t → N ≡ nodes t → length old ≡ (k + 7) / 8
@@ -121,7 +121,7 @@ module _ (t : List ℕ) (ok : Taken t) where
   unfolding filledTags stage tagLength
   fill-right old new found k F N e f n h size fits is w =
       let l : length old ≡ tagLength t = h ∙ ap (λ n. (n + 7) / 8) e in
-      let q = by-length (length old) true (eqb-yes (length old) (tagLength t) l) in
+      let q = by-length (length old) true (eq-eqb (length old) (tagLength t) l) in
       record {
         verdict = ap₂ accepted f n ∙ sym q;
         tags = w ∙ ap (λ j. take j found) l ∙ tags-are t ok found size (bytes l) is ∙ sym (ap (λ v. ifAccepted v (tagsOf t) old) q);

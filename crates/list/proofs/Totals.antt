@@ -9,11 +9,10 @@ use native.Mathlib.Decide.{ℕ-discrete, decLe}
 use lib.Count.{ones, ones-step}
 use lib.Dec.{eqb, leb}
 use lib.ListN.{length, length-append}
-use borrow.Author.Tests.{le-leb, lt-leb}
+use borrow.Author.Tests.{le-leb, lt-leb, eq-eqb, ne-eqb}
 use Rattle.table.specs.Pick.{pick}
 use Rattle.table.specs.Bytes.{functions, nodes}
 use Rattle.table.specs.Find.{one}
-use Rattle.table.proofs.Tests.{eqb-yes, eqb-no}
 use Rattle.table.proofs.Passed.{passed}
 use Rattle.list.specs.Arbiters.{Test}
 use Rattle.list.specs.Tags.{calleeOf, listed, bitsFrom, bytesFrom, tagLength, tagsOf, bitsSet}
@@ -82,7 +81,7 @@ sum-one true c k f h = go k f (h refl .0) (h refl .1)
   where
     none : (k f : ℕ) → c < f → sumFrom (λ i. one (eqb c i)) k f ≡ 0
     none k f l =
-        sum-same (λ i. one (eqb c i)) (λ i. 0) k f (λ i a b. ap one (eqb-no c i (λ e. omega (arith, e, a, l)))) ∙ sum-zero k f
+        sum-same (λ i. one (eqb c i)) (λ i. 0) k f (λ i a b. ap one (ne-eqb c i (λ e. omega (arith, e, a, l)))) ∙ sum-zero k f
 
     unroll : (k f : ℕ) → sumFrom (λ i. one (eqb c i)) (suc k) f ≡ one (eqb c f) + sumFrom (λ i. one (eqb c i)) k (suc f)
     unroll = unfold sumFrom in (λ k f. refl)
@@ -93,8 +92,8 @@ sum-one true c k f h = go k f (h refl .0) (h refl .1)
       where
         here : Dec (c ≡ f) → ((c ≡ f → ⊥) → sumFrom (λ i. one (eqb c i)) k (suc f) ≡ 1)
             → one (eqb c f) + sumFrom (λ i. one (eqb c i)) k (suc f) ≡ 1
-        here (yes e) r = ap₂ (λ x y. one x + y) (eqb-yes c f e) (none k (suc f) (omega (arith, e)))
-        here (no e) r = ap₂ (λ x y. one x + y) (eqb-no c f e) (r e)
+        here (yes e) r = ap₂ (λ x y. one x + y) (eq-eqb c f e) (none k (suc f) (omega (arith, e)))
+        here (no e) r = ap₂ (λ x y. one x + y) (ne-eqb c f e) (r e)
 
 -- the bits of bytes
 count : Test → ℕ → ℕ → ℕ
@@ -200,4 +199,5 @@ module _ (t : List ℕ) where
 
     -- so it is what `total` answers on the tag bytes
     pub total-whole : bitsSet (tagsOf t) % 2 ^ 64 ≡ length (recordsOf t)
-    total-whole = ap (λ k. k % 2 ^ 64) total-records ∙ mod-eq-of-lt (omega (arith, few-records, passed t (functions t) (nodes t) ok .0 .N-high))
+    total-whole = ap (λ k. k % 2 ^ 64) total-records ∙ mod-eq-of-lt
+        (omega (arith, few-records, passed t (functions t) (nodes t) ok .0 .N-high))

@@ -10,12 +10,12 @@ use lib.Bits.{bitOr, bitAnd}
 use lib.Dec.{eqb}
 use lib.ListN.{length, getD, set, replicate, length-set}
 use lib.Seq.{getD-set-same, getD-set-other}
+use borrow.Author.Tests.{eq-eqb, ne-eqb}
 use Rattle.table.specs.Pick.{Range}
 use Rattle.table.specs.Syntax.{Exprs}
 use Rattle.table.specs.Bytes.{nodes, functions}
 use Rattle.table.specs.Expressions.{bodyOf}
 use Rattle.table.specs.Working.{IsNode, IsFunction}
-use Rattle.table.proofs.Tests.{eqb-yes, eqb-no}
 use Rattle.list.specs.Arbiters.{Test, nothing, joined}
 use Rattle.list.specs.Tags.{tagged, calleeOf, listed}
 use Rattle.list.specs.Working.{bitAt, Bit, Callee, Taken, callsBy, callsAt, callsAt*, conflictsAt, conflictsAt*, parallelAt}
@@ -141,8 +141,8 @@ module _ (t : List ℕ) where
       turn g h = go (ℕ-discrete g h)
         where
           go : Dec (g ≡ h) → eqb g h ≡ eqb h g
-          go (yes d) = eqb-yes g h d ∙ sym (eqb-yes h g (sym d))
-          go (no d) = eqb-no g h d ∙ sym (eqb-no h g (λ z. d (sym z)))
+          go (yes d) = eq-eqb g h d ∙ sym (eq-eqb h g (sym d))
+          go (no d) = ne-eqb g h d ∙ sym (ne-eqb h g (λ z. d (sym z)))
 
   -- a body: its set and the functions called in it are kept
   pub walk-body : Taken t → (g mask : ℕ) (own b′ b″ c c′ f f′ : List ℕ) → IsFunction t g → g ≤ 32
@@ -193,7 +193,7 @@ module _ (t : List ℕ) where
       sets h m j s b (no d) = kept .other h m d b ∙ w .memo .sets h m j (old h s d) b
 
       one-bit : (k : ℕ) → Callee k → bitAt 1 k ≡ false
-      one-bit k r = pow-bit 0 k ∙ eqb-no 0 k (λ z. omega (arith, z, r .0))
+      one-bit k r = pow-bit 0 k ∙ ne-eqb 0 k (λ z. omega (arith, z, r .0))
 
       own-mask : (k : ℕ) → Callee k → bitAt (getD c″ g 0) k ≡ calledIn t (callsBy t g) k
       own-mask k r =

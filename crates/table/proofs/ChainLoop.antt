@@ -8,11 +8,11 @@ use native.Mathlib.Omega.{arith}
 use native.Mathlib.Decide.{ℕ-discrete}
 use lib.Dec.{eqb}
 use lib.ListN.{length}
+use borrow.Author.Tests.{eq-eqb, ne-eqb}
 use Rattle.table.specs.Pick.{pick}
 use Rattle.table.specs.Bytes.{nodes, kind, first, next}
 use Rattle.table.specs.Naming.{namer, parent, chain, underLast, definiens, inScope}
 use Rattle.table.specs.Working.{IsNode, Linked}
-use Rattle.table.proofs.Tests.{eqb-yes, eqb-no}
 use Rattle.table.proofs.Links.{link, namer-names}
 use Rattle.table.proofs.Family.{parent-lower, parent-top}
 use Rattle.table.proofs.Tree.{chain-none, chain-some}
@@ -57,11 +57,11 @@ module _ (t : List ℕ) (lk : Linked t) (c at count : ℕ) (h : ChainTo t c at c
     }
 
     pub chain-falls : rest t on < rest t at
-    chain-falls = rw (eqb-no at 0 some) (go (ℕ-discrete on 0))
+    chain-falls = rw (ne-eqb at 0 some) (go (ℕ-discrete on 0))
       where
         go : Dec (on ≡ 0) → rest t on < nodes t + 1 - at
-        go (yes z) = rw (eqb-yes on 0 z) (omega (arith, h .inside))
-        go (no z) = rw (eqb-no on 0 z) (omega (arith, further z .0, h .inside))
+        go (yes z) = rw (eq-eqb on 0 z) (omega (arith, h .inside))
+        go (no z) = rw (ne-eqb on 0 z) (omega (arith, further z .0, h .inside))
 
 -- above p nothing is under p's last child
 module _ (t : List ℕ) (p : ℕ) (low : 1 ≤ p) where
@@ -73,7 +73,7 @@ module _ (t : List ℕ) (p : ℕ) (low : 1 ≤ p) where
       go (yes z) f = ap (underLast t p) z ∙ under-zero t p
       go (no z) f =
           let l = parent-lower t a (omega arith) in
-          under-step t p a (omega arith) ∙ rw (eqb-no (parent t a) p (λ q. omega (arith, q, l)))
+          under-step t p a (omega arith) ∙ rw (ne-eqb (parent t a) p (λ q. omega (arith, q, l)))
           (f (parent t a) (omega arith) (omega arith))
 
   pub under-none : (a : ℕ) → a ≤ p → underLast t p a ≡ false
@@ -82,7 +82,7 @@ module _ (t : List ℕ) (p : ℕ) (low : 1 ≤ p) where
   -- a child of p: under its last child exactly if it is the last
   pub under-child : (a : ℕ) → 1 ≤ a → parent t a ≡ p → underLast t p a ≡ eqb (next t a) 0
   under-child a i e =
-      under-step t p a i ∙ rw (eqb-yes (parent t a) p e, under-none (parent t a) (omega (arith, e))) (or-no (eqb (next t a) 0))
+      under-step t p a i ∙ rw (eq-eqb (parent t a) p e, under-none (parent t a) (omega (arith, e))) (or-no (eqb (next t a) 0))
     where
       or-no : (b : Bool) → (b || false) ≡ b
       or-no true = refl
@@ -90,7 +90,7 @@ module _ (t : List ℕ) (p : ℕ) (low : 1 ≤ p) where
 
   -- any other node: as its parent is
   pub under-up : (a : ℕ) → 1 ≤ a → (parent t a ≡ p → ⊥) → underLast t p a ≡ underLast t p (parent t a)
-  under-up a i d = under-step t p a i ∙ rw (eqb-no (parent t a) p d)
+  under-up a i d = under-step t p a i ∙ rw (ne-eqb (parent t a) p d)
 
 -- a number past the nodes has no parent
 pub parent-past : (t : List ℕ) → Linked t → (d : ℕ) → nodes t < d → parent t d ≡ 0
@@ -108,16 +108,16 @@ parent-past t lk d l = parent-top t d (omega arith) (go (ℕ-discrete (namer t d
 module _ (t : List ℕ) (d n p : ℕ) (e : p ≡ parent t d) where
   pub scope-root : p ≡ 0 → inScope t d n ≡ false
   unfolding inScope definiens
-  scope-root z = rw (eqb-yes (parent t d) 0 (sym e ∙ z))
+  scope-root z = rw (eq-eqb (parent t d) 0 (sym e ∙ z))
 
   pub scope-kind : (p ≡ 0 → ⊥) → (kind t p ≡ 6 → ⊥) → inScope t d n ≡ false
   unfolding inScope definiens
-  scope-kind z k = rw (← e, eqb-no p 0 z, eqb-no (kind t p) 6 k)
+  scope-kind z k = rw (← e, ne-eqb p 0 z, ne-eqb (kind t p) 6 k)
 
   pub scope-last : (p ≡ 0 → ⊥) → kind t p ≡ 6 → next t d ≡ 0 → inScope t d n ≡ false
   unfolding inScope definiens
-  scope-last z k x = rw (← e, eqb-no p 0 z, eqb-yes (kind t p) 6 k, eqb-yes (next t d) 0 x)
+  scope-last z k x = rw (← e, ne-eqb p 0 z, eq-eqb (kind t p) 6 k, eq-eqb (next t d) 0 x)
 
   pub scope-let : (p ≡ 0 → ⊥) → kind t p ≡ 6 → (next t d ≡ 0 → ⊥) → inScope t d n ≡ underLast t p n
   unfolding inScope definiens
-  scope-let z k x = rw (← e, eqb-no p 0 z, eqb-yes (kind t p) 6 k, eqb-no (next t d) 0 x)
+  scope-let z k x = rw (← e, ne-eqb p 0 z, eq-eqb (kind t p) 6 k, ne-eqb (next t d) 0 x)

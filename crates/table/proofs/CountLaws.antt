@@ -7,12 +7,13 @@ use native.Mathlib.Decide.{ℕ-discrete}
 use native.Mathlib.Omega.{arith}
 use lib.Dec.{eqb, ltb}
 use lib.ListN.{length}
+use borrow.Author.Tests.{ne-eqb}
+use Rattle.table.proofs.Tests.{true-T}
 use Rattle.table.specs.declared.kinds.Counts.{Counts}
 use Rattle.table.specs.Bytes.{functions, nodes, params, kind, extra, word, first}
 use Rattle.table.specs.Naming.{owner, tail, inScope, chain, children}
 use Rattle.table.specs.Check.{among, within, fields, formed, calleeFits, countsOf, counted, scoped, tailed}
 use Rattle.table.specs.Working.{IsNode, Linked}
-use Rattle.table.proofs.Tests.{true-T, eqb-no}
 use Rattle.table.proofs.Passed.{in-range}
 use Rattle.table.proofs.Links.{link}
 use Rattle.table.proofs.Family.{owner-in}
@@ -24,7 +25,7 @@ counts-by k e p q h = go (ℕ-discrete k 4)
   where
     go : Dec (k ≡ 4) → countsOf k e p ≡ countsOf k e q
     go (yes z) = ap (countsOf k e) (h z)
-    go (no z) = rw (eqb-no k 4 z)
+    go (no z) = rw (ne-eqb k 4 z)
 
 module _ (t : List ℕ) (n k e w p c j : ℕ) (r : Counts) (ek : k ≡ kind t n) (ee : e ≡ extra t n) (ew : w ≡ word t n)
     (ep : k ≡ 4 → p ≡ params t w) (er : r ≡ countsOf k e p) (ec : c ≡ first t n) (ej : j ≡ length (chain t c)) where
@@ -59,7 +60,7 @@ module _ (t : List ℕ) (n : ℕ) where
 
   pub scoped-other : (kind t n ≡ 2 → ⊥) → (kind t n ≡ 7 → ⊥) → scoped t n ≡ true
   unfolding scoped
-  scoped-other a b = rw (eqb-no (kind t n) 2 a, eqb-no (kind t n) 7 b)
+  scoped-other a b = rw (ne-eqb (kind t n) 2 a, ne-eqb (kind t n) 7 b)
 
 -- 5, 6 and 9 from what was read of a node
 module _ (t : List ℕ) (n k e w c o : ℕ) (ek : k ≡ kind t n) (ee : e ≡ extra t n) (ew : w ≡ word t n) (ec : c ≡ first t n)

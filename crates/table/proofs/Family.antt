@@ -6,11 +6,11 @@ use mathlib.Core.List.{List}
 use native.Mathlib.Omega.{arith}
 use native.Mathlib.Decide.{ℕ-discrete}
 use lib.Dec.{eqb}
+use borrow.Author.Tests.{eq-eqb, ne-eqb}
 use Rattle.table.specs.Pick.{pick}
 use Rattle.table.specs.Bytes.{root, first, next}
 use Rattle.table.specs.Find.{backBy, back}
 use Rattle.table.proofs.FindLaws.{back-step}
-use Rattle.table.proofs.Tests.{eqb-yes, eqb-no}
 use Rattle.table.specs.Naming.{rootOf, namer, owner, parent, tailChild, tail}
 use Rattle.table.specs.Working.{IsNode, IsFunction, Linked}
 use Rattle.table.proofs.Links.{namer-names, namer-lower, link, root-named, not-both, first-named, next-named, named}
@@ -33,30 +33,30 @@ module _ (t : List ℕ) (n : ℕ) (i : 1 ≤ n) where
       back-step (namer t) (λ n r. pick (eqb (namer t n) 0) 0 (pick (eqb (first t (namer t n)) n) (namer t n) r)) 0 (namer-lower t) n i
 
   pub owner-top : namer t n ≡ 0 → owner t n ≡ rootOf t n
-  owner-top z = owner-step ∙ pick-true (eqb (namer t n) 0) (rootOf t n) (owner t (namer t n)) (eqb-yes (namer t n) 0 z)
+  owner-top z = owner-step ∙ pick-true (eqb (namer t n) 0) (rootOf t n) (owner t (namer t n)) (eq-eqb (namer t n) 0 z)
 
   pub owner-down : (m : ℕ) → 1 ≤ m → namer t n ≡ m → owner t n ≡ owner t m
   owner-down m j e =
-      owner-step ∙ pick-false (eqb (namer t n) 0) (rootOf t n) (owner t (namer t n)) (eqb-no (namer t n) 0 (λ z. omega (arith, z, e)))
+      owner-step ∙ pick-false (eqb (namer t n) 0) (rootOf t n) (owner t (namer t n)) (ne-eqb (namer t n) 0 (λ z. omega (arith, z, e)))
       ∙ ap (owner t) e
 
   pub parent-top : namer t n ≡ 0 → parent t n ≡ 0
-  parent-top z = parent-step ∙ pick-true (eqb (namer t n) 0) 0 _ (eqb-yes (namer t n) 0 z)
+  parent-top z = parent-step ∙ pick-true (eqb (namer t n) 0) 0 _ (eq-eqb (namer t n) 0 z)
 
   parent-named : (namer t n ≡ 0 → ⊥) → parent t n ≡ pick (eqb (first t (namer t n)) n) (namer t n) (parent t (namer t n))
-  parent-named z = parent-step ∙ pick-false (eqb (namer t n) 0) 0 _ (eqb-no (namer t n) 0 z)
+  parent-named z = parent-step ∙ pick-false (eqb (namer t n) 0) 0 _ (ne-eqb (namer t n) 0 z)
 
   pub parent-down : (m : ℕ) → 1 ≤ m → namer t n ≡ m → first t m ≡ n → parent t n ≡ m
   parent-down m j e f =
       parent-named (λ z. omega (arith, z, e))
       ∙ pick-true (eqb (first t (namer t n)) n) (namer t n) (parent t (namer t n))
-      (eqb-yes (first t (namer t n)) n (ap (first t) e ∙ f)) ∙ e
+      (eq-eqb (first t (namer t n)) n (ap (first t) e ∙ f)) ∙ e
 
   pub parent-along : (m : ℕ) → 1 ≤ m → namer t n ≡ m → (first t m ≡ n → ⊥) → parent t n ≡ parent t m
   parent-along m j e f =
       parent-named (λ z. omega (arith, z, e))
       ∙ pick-false (eqb (first t (namer t n)) n) (namer t n) (parent t (namer t n))
-      (eqb-no (first t (namer t n)) n (λ q. f (sym (ap (first t) e) ∙ q)))
+      (ne-eqb (first t (namer t n)) n (λ q. f (sym (ap (first t) e) ∙ q)))
       ∙ ap (parent t) e
 
 parent-below : (t : List ℕ) (k n : ℕ) → n ≤ k → 1 ≤ n → parent t n < n
@@ -86,10 +86,10 @@ module _ (t : List ℕ) (n : ℕ) (i : 1 ≤ n) where
   tail-step = back-step (parent t) (λ n r. pick (eqb (parent t n) 0) true (tailChild t (parent t n) n && r)) true (parent-lower t) n i
 
   pub tail-top : parent t n ≡ 0 → tail t n ≡ true
-  tail-top z = tail-step ∙ pick-true (eqb (parent t n) 0) true _ (eqb-yes (parent t n) 0 z)
+  tail-top z = tail-step ∙ pick-true (eqb (parent t n) 0) true _ (eq-eqb (parent t n) 0 z)
 
   pub tail-down : (parent t n ≡ 0 → ⊥) → tail t n ≡ (tailChild t (parent t n) n && tail t (parent t n))
-  tail-down z = tail-step ∙ pick-false (eqb (parent t n) 0) true _ (eqb-no (parent t n) 0 z)
+  tail-down z = tail-step ∙ pick-false (eqb (parent t n) 0) true _ (ne-eqb (parent t n) 0 z)
 
 -- by the links of an accepted table
 module _ (t : List ℕ) (lk : Linked t) where

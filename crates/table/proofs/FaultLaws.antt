@@ -7,14 +7,13 @@ use mathlib.Core.List.{List}
 use native.Mathlib.Omega.{arith}
 use native.Mathlib.Decide.{ℕ-discrete, decLt}
 use lib.Dec.{eqb, ltb}
-use borrow.Author.Tests.{lt-ltb, le-ltb}
+use borrow.Author.Tests.{lt-ltb, le-ltb, eq-eqb, ne-eqb}
 use Rattle.table.specs.declared.faults.Fault.{Fault}
 use Rattle.table.specs.Pick.{pick}
 use Rattle.table.specs.Bytes.{functions, nodes}
 use Rattle.table.specs.Find.{lowest}
 use Rattle.table.specs.Check.{Verdict, accepted, refused, stage, formed, calleeFits, counted, scoped, tailed}
 use Rattle.table.specs.Working.{test, faultAt, better, checkNodes, faultVerdict}
-use Rattle.table.proofs.Tests.{eqb-yes, eqb-no}
 use Rattle.table.proofs.Loops.{lowest-more, lowest-here, lowest-kept}
 
 -- what a node's first fault k says of its tests
@@ -115,7 +114,7 @@ lowest-check t b h = sym (go (decLt 5 (b .number)) (decLt 6 (b .number)) (decLt 
   where
     refusal : b .number < 10 → faultVerdict t b ≡ refused (b .number) (b .place)
     refusal l = ap (λ x. pick x (accepted (functions t) (nodes t)) (refused (b .number) (b .place)))
-        (eqb-no (b .number) 10 (λ z. omega arith))
+        (ne-eqb (b .number) 10 (λ z. omega arith))
 
     -- the number is k: its stage refuses
     at : (k : ℕ) → b .number ≡ k → k < 10 → (rest : Unit {0} → Verdict) → stage k true (lowest (test t k) (nodes t)) rest ≡ faultVerdict
@@ -140,4 +139,4 @@ lowest-check t b h = sym (go (decLt 5 (b .number)) (decLt 6 (b .number)) (decLt 
     go (yes x) (yes y) (yes z) (yes u) (yes v) =
         on 5 (omega arith) x _ ∙ on 6 (omega arith) y _ ∙ on 7 (omega arith) z _ ∙ on 8 (omega arith) u _ ∙ on 9 (omega arith) v _
         ∙ sym (ap (λ x. pick x (accepted (functions t) (nodes t)) (refused (b .number) (b .place)))
-        (eqb-yes (b .number) 10 (omega (arith, h .range .1))))
+        (eq-eqb (b .number) 10 (omega (arith, h .range .1))))

@@ -8,14 +8,13 @@ use native.Mathlib.Decide.{ℕ-discrete, decLe}
 use lib.Dec.{eqb, leb}
 use lib.ListN.{length, getD, set, replicate, length-set, length-replicate}
 use lib.Seq.{getD-set-same, getD-set-other}
-use borrow.Author.Tests.{le-leb, lt-leb}
+use borrow.Author.Tests.{le-leb, lt-leb, eq-eqb, ne-eqb}
 use Rattle.table.specs.Pick.{pick}
 use Rattle.table.specs.Bytes.{nodes, first}
 use Rattle.table.specs.Find.{back, backBy}
 use Rattle.table.specs.Naming.{rootOf, namer, owner, parent, tailChild, tail}
 use Rattle.table.specs.declared.kin.Kin.{Kin}
 use Rattle.table.specs.Working.{Framed, Related, Parents}
-use Rattle.table.proofs.Tests.{eqb-yes, eqb-no}
 use Rattle.table.proofs.Links.{namer-lower}
 use Rattle.table.proofs.Family.{owner-step, parent-step, parent-lower, parent-zero, tail-step}
 use Rattle.table.proofs.Loops.{blank-at}
@@ -97,7 +96,7 @@ module _ (t o p : List ℕ) (l : List Bool) (n : ℕ) (h : KinTo t o p l n) (roo
       where
         above : Dec (y ≡ 0) → pick (eqb y 0) true (tailChild t y (n + 1) && getD l y false) ≡ pick (eqb y 0) true
             (tailChild t y (n + 1) && tail t y)
-        above (yes q) = rw (eqb-yes y 0 q)
+        above (yes q) = rw (eq-eqb y 0 q)
         above (no q) = ap (λ b. pick (eqb y 0) true (tailChild t y (n + 1) && b)) (h .tails y (omega arith) parent-below)
 
     tails-more : (j : ℕ) → 1 ≤ j → j ≤ n + 1 → getD (set l (n + 1) z) j false ≡ tail t j

@@ -6,8 +6,8 @@ use mathlib.Core.Logic.{_⊎_, inl, inr}
 use native.Mathlib.Omega.{arith}
 use native.Mathlib.Decide.{ℕ-discrete}
 use lib.Dec.{eqb, leb}
+use borrow.Author.Tests.{ne-eqb}
 use Rattle.table.specs.Check.{fields}
-use Rattle.table.proofs.Tests.{eqb-no}
 
 module _ (k e w c : ℕ) where
   pub leaf : (k ≡ 1) ⊎ (k ≡ 7) → fields k e w c ≡ (eqb e 0 && eqb c 0)
@@ -38,13 +38,13 @@ module _ (k e w c : ℕ) where
   pub unknown : (k < 1) ⊎ (7 < k) → fields k e w c ≡ false
   unfolding fields
   unknown h = simp (
-    eqb-no k 1 (λ p. other p h (omega arith, omega arith)),
-    eqb-no k 2 (λ p. other p h (omega arith, omega arith)),
-    eqb-no k 3 (λ p. other p h (omega arith, omega arith)),
-    eqb-no k 4 (λ p. other p h (omega arith, omega arith)),
-    eqb-no k 5 (λ p. other p h (omega arith, omega arith)),
-    eqb-no k 6 (λ p. other p h (omega arith, omega arith)),
-    eqb-no k 7 (λ p. other p h (omega arith, omega arith)),
+    ne-eqb k 1 (λ p. other p h (omega arith, omega arith)),
+    ne-eqb k 2 (λ p. other p h (omega arith, omega arith)),
+    ne-eqb k 3 (λ p. other p h (omega arith, omega arith)),
+    ne-eqb k 4 (λ p. other p h (omega arith, omega arith)),
+    ne-eqb k 5 (λ p. other p h (omega arith, omega arith)),
+    ne-eqb k 6 (λ p. other p h (omega arith, omega arith)),
+    ne-eqb k 7 (λ p. other p h (omega arith, omega arith)),
   )
     where
       other : {j : ℕ} → k ≡ j → (k < 1) ⊎ (7 < k) → (1 ≤ j) × (j ≤ 7) → ⊥

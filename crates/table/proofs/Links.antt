@@ -7,11 +7,11 @@ use mathlib.Core.List.{List}
 use native.Mathlib.Omega.{arith}
 use native.Mathlib.Decide.{ℕ-discrete, decLt}
 use lib.Dec.{T, eqb, ltb, leb, eqb→eq, ltb→lt, lt→ltb, leb→le}
+use borrow.Author.Tests.{ne-eqb}
 use Rattle.table.specs.Bytes.{functions, nodes, root, first, next}
 use Rattle.table.specs.Find.{one, total, highest}
 use Rattle.table.proofs.FindLaws.{both, pair, either, orl, orr, same, one-true, one-some, total-one, total-two, total-some}
 use Rattle.table.proofs.FindLaws.{highest-bound, highest-passes, highest-hit}
-use Rattle.table.proofs.Tests.{eqb-no}
 use Rattle.table.specs.Naming.{mentions, rootOf, names, namer}
 use Rattle.table.specs.Check.{forward, linked}
 use Rattle.table.specs.Working.{IsNode, IsFunction, Linked}
@@ -181,7 +181,7 @@ module _ (t : List ℕ) (lk : Linked t) where
               at (no d) (yes e) =
                   let l = link m j .next-on (λ y. omega (arith, y, e, i .0)) in
                   omega (arith, namer-of m n j i (omega (arith, e, l .0)) (inr e), z, j .0)
-              at (no d) (no e) = omega (arith, h, ap one (eqb-no (first t m) n d), ap one (eqb-no (next t m) n e))
+              at (no d) (no e) = omega (arith, h, ap one (ne-eqb (first t m) n d), ap one (ne-eqb (next t m) n e))
 
   pub first-named : (n : ℕ) → IsNode t n → (first t n ≡ 0 → ⊥) → namer t (first t n) ≡ n
   first-named n i z = let l = link n i .first-on z in namer-of n (first t n) i (omega (arith, l .0), l .1) (l .0) (inl refl)

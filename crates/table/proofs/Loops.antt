@@ -9,11 +9,11 @@ use native.Mathlib.Decide.{ℕ-discrete, decLe, decLt}
 use lib.Dec.{T, eqb, ltb, leb}
 use lib.ListN.{length, getD, set, replicate, length-set, List·getD-eq-default}
 use lib.Seq.{getD-set-same, getD-set-other}
-use borrow.Author.Tests.{le-leb, lt-leb, lt-ltb, le-ltb}
+use borrow.Author.Tests.{le-leb, lt-leb, lt-ltb, le-ltb, eq-eqb, ne-eqb, eqb-true, ltb-true}
+use Rattle.table.proofs.Tests.{true-T}
 use Rattle.table.specs.Pick.{pick}
 use Rattle.table.specs.Find.{one, total, highest, lowest, all}
 use Rattle.table.specs.Working.{slotOf, aheadOf}
-use Rattle.table.proofs.Tests.{true-T, eqb-yes, eqb-no, eqb-true, ltb-true}
 use Rattle.table.proofs.FindLaws.{all-passes}
 
 pub total-more : (g : ℕ → ℕ) (k : ℕ) → total g (k + 1) ≡ g (k + 1) + total g k
@@ -50,7 +50,7 @@ module _ (p : ℕ → Bool) where
 
   pub lowest-kept : (k : ℕ) → (lowest p k ≡ 0 → ⊥) → lowest p (k + 1) ≡ lowest p k
   unfolding lowest
-  lowest-kept k h = rw (add-one, eqb-no (lowest p k) 0 h)
+  lowest-kept k h = rw (add-one, ne-eqb (lowest p k) 0 h)
 
   lowest-on : (d k : ℕ) → (lowest p k ≡ 0 → ⊥) → lowest p (d + k) ≡ lowest p k
   lowest-on zero k h = ap (lowest p) (omega arith)
@@ -87,16 +87,16 @@ module _ (v j : ℕ) (low : 1 ≤ j) (high : j ≤ 512) where
     placed = go (ℕ-discrete v j)
       where
         go : Dec (v ≡ j) → getD (set l at x) j 0 ≡ pick (eqb v j) x (getD l j 0)
-        go (yes e) = rw (here ∙ slot-same e, eqb-yes v j e) (getD-set-same l j x 0 (omega arith))
-        go (no e) = rw (eqb-no v j e) (getD-set-other l at j x 0 (λ q. slot-other e (q ∙ here)))
+        go (yes e) = rw (here ∙ slot-same e, eq-eqb v j e) (getD-set-same l j x 0 (omega arith))
+        go (no e) = rw (ne-eqb v j e) (getD-set-other l at j x 0 (λ q. slot-other e (q ∙ here)))
 
   pub bumped : (l : List ℕ) → length l ≡ 513 → (at : ℕ) → at ≡ slotOf v
       → getD (set l at (getD l at 0 + 1)) j 0 ≡ one (eqb v j) + getD l j 0
   bumped l size at here = go (ℕ-discrete v j)
     where
       go : Dec (v ≡ j) → getD (set l at (getD l at 0 + 1)) j 0 ≡ one (eqb v j) + getD l j 0
-      go (yes e) = rw (here ∙ slot-same e, eqb-yes v j e) (getD-set-same l j (getD l j 0 + 1) 0 (omega arith) ∙ omega arith)
-      go (no e) = rw (eqb-no v j e) (getD-set-other l at j (getD l at 0 + 1) 0 (λ q. slot-other e (q ∙ here)) ∙ omega arith)
+      go (yes e) = rw (here ∙ slot-same e, eq-eqb v j e) (getD-set-same l j (getD l j 0 + 1) 0 (omega arith) ∙ omega arith)
+      go (no e) = rw (ne-eqb v j e) (getD-set-other l at j (getD l at 0 + 1) 0 (λ q. slot-other e (q ∙ here)) ∙ omega arith)
 
   -- only what is above n is written
   pub ahead-placed : (l : List ℕ) → length l ≡ 513 → (n at : ℕ) → at ≡ aheadOf n v
@@ -109,8 +109,8 @@ module _ (v j : ℕ) (low : 1 ≤ j) (high : j ≤ 512) where
       none x false b f = refl
 
       swap : (d : Dec (v ≡ j)) → n < v → pick (eqb v j) n (getD l j 0) ≡ pick (ltb n j && eqb v j) n (getD l j 0)
-      swap (yes e) h = rw (lt-ltb n j (omega arith), eqb-yes v j e)
-      swap (no e) h = sym (rw (eqb-no v j e) (none (getD l j 0) (ltb n j) false (λ a b. let z : _≡_ {A = ℕ} 0 1 = cc in omega arith)))
+      swap (yes e) h = rw (lt-ltb n j (omega arith), eq-eqb v j e)
+      swap (no e) h = sym (rw (ne-eqb v j e) (none (getD l j 0) (ltb n j) false (λ a b. let z : _≡_ {A = ℕ} 0 1 = cc in omega arith)))
 
       go : Dec (n < v) → getD (set l at n) j 0 ≡ pick (ltb n j && eqb v j) n (getD l j 0)
       go (yes h) = placed l size n at (here ∙ ap (λ b. pick b (slotOf v) 0) (lt-ltb n v h)) ∙ swap (ℕ-discrete v j) h

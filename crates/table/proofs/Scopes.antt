@@ -7,6 +7,7 @@ use mathlib.Core.List.{List}
 use native.Mathlib.Omega.{arith}
 use native.Mathlib.Decide.{ℕ-discrete}
 use lib.Dec.{T, eqb, eqb→eq}
+use borrow.Author.Tests.{eq-eqb, ne-eqb}
 use Rattle.table.specs.Syntax.{Expr, Exprs, const, none, some, id}
 use Rattle.table.specs.Pick.{pick}
 use Rattle.table.specs.Environment.{extend, values}
@@ -14,7 +15,6 @@ use Rattle.table.specs.Well.{Fits, Fits*}
 use Rattle.table.specs.Bytes.{nodes, root, kind, word, first, next}
 use Rattle.table.specs.Find.{backBy, back}
 use Rattle.table.proofs.FindLaws.{both, pair, either, same, isnt, back-step}
-use Rattle.table.proofs.Tests.{eqb-yes, eqb-no}
 use Rattle.table.specs.Naming.{namer, parent, underLast, definiens, inScope}
 use Rattle.table.specs.Working.{IsNode, IsFunction, Linked}
 use Rattle.table.proofs.Passed.{Passed}
@@ -34,8 +34,8 @@ Defines d (some e es) = (id e ≡ d) ⊎ Defines d es
 module _ (value : ℕ → ℕ) (ρ : ℕ → ℕ) (d : ℕ) where
   put-one : (e : Expr) (x : ℕ) → (id e ≡ d → ⊥) ⊎ (id e ≡ d) → ((id e ≡ d → ⊥) → x ≡ value d)
       → pick (eqb (id e) d) (value (id e)) x ≡ value d
-  put-one e x (inl n) f = pick-false (eqb (id e) d) (value (id e)) x (eqb-no (id e) d n) ∙ f n
-  put-one e x (inr p) f = pick-true (eqb (id e) d) (value (id e)) x (eqb-yes (id e) d p) ∙ ap value p
+  put-one e x (inl n) f = pick-false (eqb (id e) d) (value (id e)) x (ne-eqb (id e) d n) ∙ f n
+  put-one e x (inr p) f = pick-true (eqb (id e) d) (value (id e)) x (eq-eqb (id e) d p) ∙ ap value p
 
   decide : (e : Expr) → (id e ≡ d → ⊥) ⊎ (id e ≡ d)
   decide e = go (ℕ-discrete (id e) d)

@@ -8,7 +8,8 @@ use native.Mathlib.Nat.{not-suc-le-zero, le-of-suc-le-suc}
 use lib.Dec.{T, leb, eqb→eq}
 use lib.ListN.{length, getD, replicate, length-map, length-replicate, List·getD-map}
 use lib.Seq.{ext-getD}
-use borrow.Author.Tests.{le-leb}
+use borrow.Author.Tests.{le-leb, eq-eqb, ne-eqb}
+use Rattle.table.proofs.Tests.{true-T}
 use Rattle.table.specs.declared.Function.{Function}
 use Rattle.table.specs.declared.Node.{Node}
 use Rattle.table.specs.declared.faults.Fault.{Fault}
@@ -22,7 +23,6 @@ use Rattle.table.specs.Naming.{owner, parent}
 use Rattle.table.specs.Check.{among, Verdict, accepted, refused, stage, sizes, whole, rootFits, linked, recordFits, formed, checkOf}
 use Rattle.table.specs.Working.{Framed, Linked, Related, frameNumber, checkNodes, faultVerdict, asFunction, asNode}
 use Rattle.table.specs.Survey.{tabulate, ifAccepted, ofNode, ownersOf, parentsOf, blankOf, Surveyed, verdictOf}
-use Rattle.table.proofs.Tests.{true-T, eqb-yes, eqb-no}
 use Rattle.table.proofs.FindLaws.{both, all-passes, lowest-passes}
 use Rattle.table.proofs.Passed.{in-range}
 use Rattle.table.proofs.Loops.{blank-at}
@@ -90,12 +90,12 @@ told-surveyed t r f n o p lo lp h e ef en eo ep = record {
 pub fault-refused : (t : List ℕ) (r : Fault) → faultVerdict t r ≡ checkNodes t → (r .number ≡ 10 → ⊥) → checkNodes t ≡ refused
     (r .number) (r .place)
 fault-refused t r e z = sym e ∙ ap (λ x. pick x (accepted (functions t) (nodes t)) (refused (r .number) (r .place)))
-    (eqb-no (r .number) 10 z)
+    (ne-eqb (r .number) 10 z)
 
 pub fault-none : (t : List ℕ) (r : Fault) → faultVerdict t r ≡ checkNodes t → r .number ≡ 10 → checkNodes t ≡ accepted (functions t)
     (nodes t)
 fault-none t r e z = sym e ∙ ap (λ x. pick x (accepted (functions t) (nodes t)) (refused (r .number) (r .place)))
-    (eqb-yes (r .number) 10 z)
+    (eq-eqb (r .number) 10 z)
 
 -- the first three numbers
 abbrev Sizes : List ℕ → Type 0
@@ -141,7 +141,7 @@ unfolding sizes whole
 of-size t fr = (
   le-leb 4 (length t) (omega (arith, fr .size)),
   rw (among-in 1 32 (functions t) (fr .F-low) (fr .F-high), among-in 1 512 (nodes t) (fr .N-low) (fr .N-high)),
-  eqb-yes _ _ (fr .size),
+  eq-eqb _ _ (fr .size),
 )
 
 module _ (t : List ℕ) (fr : Framed t) where

@@ -7,11 +7,11 @@ use native.Mathlib.Omega.{arith}
 use native.Mathlib.Decide.{ℕ-discrete}
 use lib.Dec.{T, eqb, ltb, leb, eqb→eq, ltb→lt}
 use lib.ListN.{length}
+use borrow.Author.Tests.{eq-eqb, ne-eqb}
 use Rattle.table.specs.Pick.{pick}
 use Rattle.table.specs.Syntax.{Exprs, const, param, prim, call, self, cond, bind, bound, none, some, id}
 use Rattle.table.specs.Bytes.{params, kind, extra, word, first, next}
 use Rattle.table.proofs.FindLaws.{both, same}
-use Rattle.table.proofs.Tests.{eqb-yes, eqb-no}
 use Rattle.table.specs.Naming.{owner, tail, inScope, children}
 use Rattle.table.specs.Check.{among, fields, formed, isKind, calleeFits, operationCounts, countsOf, within, counted, scoped, tailed}
 use Rattle.table.specs.Working.{IsNode, Linked}
@@ -42,8 +42,8 @@ split : {C : Type 0} (k i : ℕ) (x y : Bool) → (k ≡ i → T x → C) → (T
 split {C} k i x y f g h = go (ℕ-discrete k i)
   where
     go : Dec (k ≡ i) → C
-    go (yes e) = f e (subst T (pick-true (eqb k i) x y (eqb-yes k i e)) h)
-    go (no e) = g (subst T (pick-false (eqb k i) x y (eqb-no k i e)) h)
+    go (yes e) = f e (subst T (pick-true (eqb k i) x y (eq-eqb k i e)) h)
+    go (no e) = g (subst T (pick-false (eqb k i) x y (ne-eqb k i e)) h)
 
 implies : (a b : Bool) → T (not a || b) → T a → T b
 implies true b h x = h
@@ -98,7 +98,7 @@ module _ (t : List ℕ) (ok : Passed t) (n : ℕ) (i : IsNode t n) where
   unfolding tailed
   tail-call e f =
       implies (isKind t 4 n && eqb (word t n) (owner t n)) (tail t n) (ok .tails n i)
-      (rw (eqb-yes (kind t n) 4 e) (same (word t n) (owner t n) f))
+      (rw (eq-eqb (kind t n) 4 e) (same (word t n) (owner t n) f))
 
   index : kind t n ≡ 2 → extra t n < params t (owner t n)
   unfolding scoped
@@ -137,11 +137,11 @@ module _ (t : List ℕ) (ok : Passed t) (n : ℕ) (i : IsNode t n) where
   view-call : kind t n ≡ 4 → Dec (word t n ≡ owner t n) → View t n
   view-call e (yes s) =
       is-self e s (tail-call e s) (counted-call e)
-      (as-call e ∙ pick-true (eqb (word t n) (owner t n)) (self n es) (call n (word t n) es) (eqb-yes (word t n) (owner t n) s))
+      (as-call e ∙ pick-true (eqb (word t n) (owner t n)) (self n es) (call n (word t n) es) (eq-eqb (word t n) (owner t n) s))
   view-call e (no s) =
       let c = callee e in
       is-call e (c .0) (omega (arith, c .1, s)) (counted-call e)
-      (as-call e ∙ pick-false (eqb (word t n) (owner t n)) (self n es) (call n (word t n) es) (eqb-no (word t n) (owner t n) s))
+      (as-call e ∙ pick-false (eqb (word t n) (owner t n)) (self n es) (call n (word t n) es) (ne-eqb (word t n) (owner t n) s))
 
   view-cond : kind t n ≡ 5 → View t n
   unfolding children condOf

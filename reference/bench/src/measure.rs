@@ -59,7 +59,7 @@ fn median(mut samples: Vec<f64>) -> f64 {
     samples[samples.len() / 2]
 }
 
-/// The head of a section's table; the last column is the ratio of the two before it.
+/// The head of a section's table; the last column is the time of the proved code over that of the fast baseline.
 pub fn head(title: &str, label: &str, columns: &[&str]) {
     println!("{title}");
     print!("{label:>16}");
@@ -69,13 +69,23 @@ pub fn head(title: &str, label: &str, columns: &[&str]) {
     println!(" {:>8}", "ratio");
 }
 
-/// One row: the proved code and the fast baseline come last.
-pub fn row(label: &str, values: &[f64]) {
+/// One row of times; the proved code and the fast baseline come last.
+pub fn row(label: &str, nanos: &[f64]) {
+    row_of(label, nanos, nanos);
+}
+
+/// One row of pieces of work per second, where each time is that of so many pieces.
+pub fn rates(label: &str, pieces: f64, nanos: &[f64]) {
+    let rates: Vec<f64> = nanos.iter().map(|nanos| pieces * 1e9 / nanos).collect();
+    row_of(label, &rates, nanos);
+}
+
+fn row_of(label: &str, values: &[f64], nanos: &[f64]) {
     print!("{label:>16}");
     for value in values {
         print!(" {value:>14.0}");
     }
-    let ratio = match values {
+    let ratio = match nanos {
         [.., proved, fast] => proved / fast,
         _ => f64::NAN,
     };

@@ -75,7 +75,7 @@ impl Round {
     }
 
     /// A difference with all that is needed to see it again.
-    fn told(&self, message: String) -> String {
+    pub fn told(&self, message: String) -> String {
         let (table, tags) = (shown(&self.bytes), shown(&self.tags));
         format!("{message}\ntable {table}\ntags {tags}\nreference's state {}", standing(&self.tree, &self.own))
     }

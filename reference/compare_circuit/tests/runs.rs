@@ -132,13 +132,16 @@ fn drives_from_a_start() -> Outcome {
             };
             let told = round.drive(budget as u32)?.map_err(|refusal| format!("{refusal:?}"))?;
             taken += u64::from(told.0);
-            let total = || format!("{taken} steps in all, then {told:?}, the reading is {reading:?}");
+            let total = || {
+                let seen = format!("{taken} steps in all, then {told:?}, the reading is {reading:?}");
+                round.told(format!("{seen}, arguments {arguments:?}"))
+            };
             match (told.1, reading) {
                 (Ending::Answered(value), Some(reading)) => {
                     ensure((value, taken) == (reading.value, reading.count), total)?;
                     // Answered is looked at before anything else.
                     let again = round.drive(random.below(2) as u32)?;
-                    ensure(again == Ok((0, Ending::Answered(value))), || format!("then {again:?}"))?;
+                    ensure(again == Ok((0, Ending::Answered(value))), || round.told(format!("then {again:?}")))?;
                     answered += 1;
                     break;
                 }
@@ -165,7 +168,7 @@ fn goes_on_alike(round: &Round, left: Option<(u32, u64)>) -> Outcome {
     };
     let told = run_budget(&round.bytes, &round.tags, &mut round.own.clone(), steps as u32 + 10);
     let wanted = Ok((steps as u32, Ending::Answered(value)));
-    ensure(told == wanted, || format!("from there the reference has {told:?}, wanted {wanted:?}"))
+    ensure(told == wanted, || round.told(format!("from there the reference has {told:?}, wanted {wanted:?}")))
 }
 
 /// Drives step by step: each leads where one possible step leads.

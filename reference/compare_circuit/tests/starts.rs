@@ -133,9 +133,8 @@ fn all_refused(random: &mut Random, bytes: &[u8], tags: &[u8], own: &State, refu
     for node in [0, 1, u16::MAX] {
         let wanted = circuit::step(bytes, tags, &mut own.clone(), node);
         let found = step(bytes, tags, &mut lent, node)?;
-        ensure(found == wanted && matches!(found, Answer::Refused(_)), || {
-            with(&format!("step {node} said {found:?}"))
-        })?;
+        let refused = matches!(wanted, Answer::Refused(_));
+        ensure(refused && found == wanted, || with(&format!("step {node} said {found:?} and not {wanted:?}")))?;
         kept(&lent, "step")?;
     }
     Ok(())

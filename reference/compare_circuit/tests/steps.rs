@@ -46,17 +46,16 @@ fn schedule(random: &mut Random, seen: &mut Seen, bytes: Vec<u8>, mut asks: usiz
             Answer::Refused(_) => continue,
             Answer::Taken => {}
             Answer::Answered(value) => {
-                let told = reading.map(|reading| (reading.value, reading.count));
-                ensure(told == Some((value, taken + 1)), || {
-                    format!("{value} in {} steps, wanted {told:?}", taken + 1)
-                })?;
+                let (found, wanted) = ((value, taken + 1), reading.map(|reading| (reading.value, reading.count)));
+                let wrong = || format!("value and steps {found:?}, wanted {wanted:?}, arguments {arguments:?}");
+                ensure(wanted == Some(found), || round.told(wrong()))?;
                 answered = true;
                 asks = asks.min(4);
             }
         }
         taken += 1;
         let too_many = reading.is_some_and(|reading| taken > reading.count);
-        ensure(!too_many, || format!("{taken} steps, wanted {reading:?}"))?;
+        ensure(!too_many, || round.told(format!("{taken} steps, wanted {reading:?}, arguments {arguments:?}")))?;
     }
     Ok(answered)
 }

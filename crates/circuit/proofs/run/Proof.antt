@@ -9,12 +9,14 @@ use mathlib.Core.Logic.{⊎-elim}
 use lib.ListN.{drop}
 use Rattle.table.specs.Bytes.{functions, nodes}
 use Rattle.table.specs.Survey.{verdictOf}
-use Rattle.circuit.specs.Step.{Stepped}
-use Rattle.circuit.specs.Circuit.{circuitOf}
-use Rattle.circuit.specs.Runs.{runFrom}
+use Rattle.rules.specs.Step.{Stepped}
+use Rattle.rules.specs.Circuit.{circuitOf}
+use Rattle.rules.specs.Runs.{runFrom}
 use Rattle.circuit.specs.Meaning.{numbers, listsOf, replyOf}
 use Rattle.circuit.specs.Plan.{stateAs, Stands, Agreed}
-use Rattle.circuit.proofs.EntryLaws.{stands-from, agreed-from, stray-standing, stand-standing, refused-standing, plus, run-turned, run-goes, run-stops, run-takes, run-answers, run-stands, run-ends, run-begins, named-state, told-stepped}
+use Rattle.circuit.proofs.EntryLaws.{stands-from, agreed-from, stray-standing, stand-standing, refused-standing, plus, run-turned}
+use Rattle.circuit.proofs.EntryLaws.{run-goes, run-stops, run-takes, run-answers, run-stands, run-ends, run-begins, named-state}
+use Rattle.circuit.proofs.EntryLaws.{told-stepped}
 use Rattle.circuit.proofs.TurnLaws.{fair-from, step-is, step-turned}
 use Rattle.circuit.proofs.run.Statement.{statement}
 use Rattle.circuit.proofs.run.Tie as tie
@@ -42,11 +44,20 @@ enum-told c = search needs
 
 -- src/lib.rt:106:36
 run-fair-requires : tie.Need-run-fair-requires
-run-fair-requires c κs = agreed-from (c .before .before .before .before .before .before .args .table .now) (c .before .before .before .before .before .before .args .tags .now) _ _ (sym (c .before .before .check-tags .ensures) ∙ ap verdictOf (c .enum-told .given .1))
+run-fair-requires c κs = agreed-from (c .before .before .before .before .before .before .args .table .now)
+    (c .before .before .before .before .before .before .args .tags .now) _ _
+    (sym (c .before .before .check-tags .ensures) ∙ ap verdictOf (c .enum-told .given .1))
 
 -- src/lib.rt:100:1
 returns : tie.Need-returns
-returns c = c .stop .ensures ∙ run-turned (c .before .before .before .before .before .before .before .before .args .table .now) (c .before .before .before .before .before .before .before .before .args .tags .now) (listsOf (c .before .before .before .before .before .before .before .before .args .s)) (c .before .before .before .before .before .before .before .before .args .nodes .now) _ _ (refused-standing (c .before .before .before .before .before .before .before .before .args .table .now) (c .before .before .before .before .before .before .before .before .args .tags .now) (listsOf (c .before .before .before .before .before .before .before .before .args .s)) _ _ (sym (c .before .before .before .before .check-tags .ensures) ∙ ap verdictOf (c .before .before .checked .given .1)))
+returns c = c .stop .ensures ∙ run-turned (c .before .before .before .before .before .before .before .before .args .table .now)
+    (c .before .before .before .before .before .before .before .before .args .tags .now)
+    (listsOf (c .before .before .before .before .before .before .before .before .args .s))
+    (c .before .before .before .before .before .before .before .before .args .nodes .now) _ _
+    (refused-standing (c .before .before .before .before .before .before .before .before .args .table .now)
+    (c .before .before .before .before .before .before .before .before .args .tags .now)
+    (listsOf (c .before .before .before .before .before .before .before .before .args .s)) _ _
+    (sym (c .before .before .before .before .check-tags .ensures) ∙ ap verdictOf (c .before .before .checked .given .1)))
 
 -- src/lib.rt:100:1
 returns-2 : tie.Need-returns-2

@@ -9,7 +9,7 @@ use mathlib.Core.Bool.{true, false, _||_}
 use lib.ListN.{take, drop, replicate, length-replicate, length-map, length-set, List·getD-map}
 use Rattle.table.proofs.Copied.{copied-more, copied-all}
 use Rattle.table.specs.Bytes.{functions, nodes}
-use Rattle.circuit.specs.Step.{over, refusal}
+use Rattle.rules.specs.Step.{over, refusal}
 use Rattle.circuit.specs.Meaning.{numbers, listsOf, replyOf}
 use Rattle.circuit.specs.Plan.{stateAs, strayIn, asNode}
 use Rattle.circuit.proofs.EntryLaws.{numbered, owners-told, stands-from, step-stray}
@@ -56,11 +56,22 @@ loop-less c = omega arith
 
 -- src/arrays.rt:27:5
 loop-again : tie.Need-loop-again Inv-loop μ-loop
-loop-again c = let raw = c .before .before .args .t1 in let i = c .before .loop .i in let l : length raw ≡ 32 = search needs in let m = length-map raw asNode in (omega arith, (simp length-set (c .before .loop .inv .1 .0), copied-more (asNode 0) _ i (map asNode raw) (replicate 32 (asNode 0)) _ (omega (arith, m)) (omega (arith, length-replicate 32 (asNode 0))) (c .before .loop .inv .1 .1) (sym (List·getD-map asNode raw i 0))))
+loop-again c = let raw = c .before .before .args .t1 in let i = c .before .loop .i in let l : length raw ≡ 32 = search needs in let m =
+    length-map raw asNode in (
+      omega arith,
+      (
+        simp length-set (c .before .loop .inv .1 .0),
+        copied-more (asNode 0) _ i (map asNode raw)
+            (replicate 32 (asNode 0)) _ (omega (arith, m)) (omega (arith, length-replicate 32 (asNode 0))) (c .before .loop .inv .1 .1)
+            (sym (List·getD-map asNode raw i 0)),
+      ),
+    )
 
 -- src/arrays.rt:22:1
 returns : tie.Need-returns Inv-loop μ-loop
-returns c = let raw = c .before .before .args .t1 in let l : length raw ≡ 32 = search needs in let m = length-map raw asNode in ap numbers (copied-all (map asNode raw) (replicate 32 (asNode 0)) _ (c .before .loop .i) (length-replicate 32 (asNode 0) ∙ sym l ∙ sym m) (omega (arith, m)) (c .before .loop .inv .1 .1)) ∙ numbered raw
+returns c = let raw = c .before .before .args .t1 in let l : length raw ≡ 32 = search needs in let m = length-map raw asNode in ap
+    numbers (copied-all (map asNode raw) (replicate 32 (asNode 0)) _ (c .before .loop .i)
+    (length-replicate 32 (asNode 0) ∙ sym l ∙ sym m) (omega (arith, m)) (c .before .loop .inv .1 .1)) ∙ numbered raw
 
 pub named-spec : {M : Type 1} → statement M
 named-spec =

@@ -9,7 +9,7 @@ use mathlib.Core.Bool.{true, false, _||_}
 use lib.ListN.{take, drop, replicate, length-replicate, length-map, length-set, List·getD-map}
 use Rattle.table.proofs.Copied.{copied-more, copied-all}
 use Rattle.table.specs.Bytes.{functions, nodes}
-use Rattle.circuit.specs.Step.{over, refusal}
+use Rattle.rules.specs.Step.{over, refusal}
 use Rattle.circuit.specs.Meaning.{numbers, listsOf, replyOf}
 use Rattle.circuit.specs.Plan.{stateAs, strayIn, asNode}
 use Rattle.circuit.proofs.EntryLaws.{numbered, owners-told, stands-from, step-stray}
@@ -56,11 +56,22 @@ loop-less c = omega arith
 
 -- src/arrays.rt:14:5
 loop-again : tie.Need-loop-again Inv-loop μ-loop
-loop-again c = let raw = c .before .before .before .args .t1 in let i = c .before .before .loop .i in let l : length raw ≡ 32 = search needs in let m = length-map raw (λ n. n .0) in (omega arith, (simp length-set (c .before .before .loop .inv .1 .0), copied-more 0 _ i (numbers raw) (replicate 32 0) _ (omega (arith, m)) (omega (arith, length-replicate {A = ℕ} 32 0)) (c .before .before .loop .inv .1 .1) (sym (List·getD-map (λ n. n .0) raw i (record { 0 = 0 })))))
+loop-again c = let raw = c .before .before .before .args .t1 in let i = c .before .before .loop .i in let l : length raw ≡ 32 = search
+    needs in let m = length-map raw (λ n. n .0) in (
+      omega arith,
+      (
+        simp length-set (c .before .before .loop .inv .1 .0),
+        copied-more 0 _
+            i (numbers raw) (replicate 32 0) _ (omega (arith, m)) (omega (arith, length-replicate {A = ℕ} 32 0))
+            (c .before .before .loop .inv .1 .1) (sym (List·getD-map (λ n. n .0) raw i (record { 0 = 0 }))),
+      ),
+    )
 
 -- src/arrays.rt:9:1
 returns : tie.Need-returns Inv-loop μ-loop
-returns c = let raw = c .before .before .args .t1 in let l : length raw ≡ 32 = search needs in let m = length-map raw (λ n. n .0) in copied-all (numbers raw) (replicate 32 0) _ (c .before .loop .i) (length-replicate {A = ℕ} 32 0 ∙ sym l ∙ sym m) (omega (arith, m)) (c .before .loop .inv .1 .1)
+returns c = let raw = c .before .before .args .t1 in let l : length raw ≡ 32 = search needs in let m = length-map raw (λ n. n .0) in
+    copied-all (numbers raw) (replicate 32 0) _ (c .before .loop .i) (length-replicate {A = ℕ} 32 0 ∙ sym l ∙ sym m) (omega (arith, m))
+    (c .before .loop .inv .1 .1)
 
 pub plain-spec : {M : Type 1} → statement M
 plain-spec =

@@ -4,7 +4,7 @@ use mathlib.Core.Path.{_≡_, refl, sym, ap, subst, _∙_}
 use Prim.Native.Nat.{ℕ, _+_, _-_, _*_, _≤_, _<_}
 use lib.ListN.{length, getD}
 use Rattle.circuit.proofs.CellLaws.{entry-none, write-none, register-none, register-high}
-use Rattle.circuit.proofs.StateLaws.{entry-at, write-at, register-at}
+use Rattle.rules.proofs.StateLaws.{entry-at, write-at, register-at}
 use borrow.Author.Needs.{needs}
 use Rattle.circuit.proofs.cells.set_status.Statement.{statement}
 use Rattle.circuit.proofs.cells.set_status.Tie as tie

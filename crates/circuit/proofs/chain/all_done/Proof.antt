@@ -6,9 +6,10 @@ use Prim.Native.Nat.{ℕ, _+_, _-_, _*_, _≤_, _<_}
 use lib.ListN.{length, getD}
 use Rattle.table.specs.Bytes.{nodes, next}
 use Rattle.table.specs.Naming.{chain}
-use Rattle.circuit.specs.State.{entry, opened}
+use Rattle.rules.specs.State.{entry, opened}
 use Rattle.circuit.specs.Plan.{allDone, initial, lastFrom}
-use Rattle.circuit.proofs.ChainLaws.{rest, ok, chain-end, next-in, falls, all-more, all-stops, all-ends, last-more, last-ends, opened-more, opened-ends, defs-end, defs-more, defs-stop, open-end, open-more, first-in}
+use Rattle.circuit.proofs.ChainLaws.{rest, ok, chain-end, next-in, falls, all-more, all-stops, all-ends, last-more, last-ends}
+use Rattle.circuit.proofs.ChainLaws.{opened-more, opened-ends, defs-end, defs-more, defs-stop, open-end, open-more, first-in}
 use Rattle.circuit.proofs.chain.all_done.Statement.{statement}
 use Rattle.circuit.proofs.chain.all_done.Tie as tie
 use Rattle.circuit.proofs.chain.all_done.Reads as reads
@@ -28,11 +29,20 @@ loop-holds c = (c .before .pre .1, refl)
 
 -- src/chain.rt:22:12
 status-at-requires : tie.Need-status-at-requires Inv-loop μ-loop
-status-at-requires c κs = omega (arith, c .before .loop .inv .0, ok (c .before .before .before .args .table .now) (c .before .before .before .pre .0) .N-high)
+status-at-requires c κs = omega (
+  arith,
+  c .before .loop .inv .0,
+  ok (c .before .before .before .args .table .now)
+      (c .before .before .before .pre .0) .N-high,
+)
 
 -- src/chain.rt:23:13
 returns : tie.Need-returns Inv-loop μ-loop
-returns c = sym (c .before .before .before .loop .inv .1 ∙ all-stops (c .before .before .before .before .before .args .table .now) (c .before .before .before .before .before .pre .0) (c .before .before .before .loop .at) (c .before .before .loop-test .taken) (c .before .before .before .loop .inv .0) (next (c .before .before .before .before .before .args .table .now) (c .before .before .before .loop .at)) refl (entry (c .before .before .before .before .before .args .status .now) 0) (c .before .status-at .result) (c .before .status-at .ensures) (c .if1 .taken))
+returns c = sym (c .before .before .before .loop .inv .1 ∙ all-stops (c .before .before .before .before .before .args .table .now)
+    (c .before .before .before .before .before .pre .0) (c .before .before .before .loop .at) (c .before .before .loop-test .taken)
+    (c .before .before .before .loop .inv .0) (next (c .before .before .before .before .before .args .table .now)
+    (c .before .before .before .loop .at)) refl (entry (c .before .before .before .before .before .args .status .now) 0)
+    (c .before .status-at .result) (c .before .status-at .ensures) (c .if1 .taken))
 
 -- src/chain.rt:25:13
 next-requires : tie.Need-next-requires Inv-loop μ-loop
@@ -40,15 +50,27 @@ next-requires c κs = search needs
 
 -- src/chain.rt:21:5
 loop-less : tie.Need-loop-less Inv-loop μ-loop
-loop-less c = falls (c .before .before .before .before .before .before .args .table .now) (c .before .before .before .before .before .before .pre .0) (c .before .before .before .before .loop .at) (c .before .before .before .loop-test .taken) (c .before .before .before .before .loop .inv .0) _ (c .next .ensures)
+loop-less c = falls (c .before .before .before .before .before .before .args .table .now)
+    (c .before .before .before .before .before .before .pre .0) (c .before .before .before .before .loop .at)
+    (c .before .before .before .loop-test .taken) (c .before .before .before .before .loop .inv .0) _ (c .next .ensures)
 
 -- src/chain.rt:21:5
 loop-again : tie.Need-loop-again Inv-loop μ-loop
-loop-again c = (next-in (c .before .before .before .before .before .before .args .table .now) (c .before .before .before .before .before .before .pre .0) (c .before .before .before .before .loop .at) (c .before .before .before .loop-test .taken) (c .before .before .before .before .loop .inv .0) _ (c .next .ensures), c .before .before .before .before .loop .inv .1 ∙ all-more (c .before .before .before .before .before .before .args .table .now) (c .before .before .before .before .before .before .pre .0) (c .before .before .before .before .loop .at) (c .before .before .before .loop-test .taken) (c .before .before .before .before .loop .inv .0) _ (c .next .ensures) (entry (c .before .before .before .before .before .before .args .status .now) 0) (c .before .before .status-at .result) (c .before .before .status-at .ensures) (c .before .if1 .left))
+loop-again c = (
+  next-in (c .before .before .before .before .before .before .args .table .now)
+      (c .before .before .before .before .before .before .pre .0) (c .before .before .before .before .loop .at)
+      (c .before .before .before .loop-test .taken) (c .before .before .before .before .loop .inv .0) _ (c .next .ensures),
+  c .before .before .before .before .loop .inv .1 ∙ all-more (c .before .before .before .before .before .before .args .table .now)
+      (c .before .before .before .before .before .before .pre .0) (c .before .before .before .before .loop .at)
+      (c .before .before .before .loop-test .taken) (c .before .before .before .before .loop .inv .0) _ (c .next .ensures)
+      (entry (c .before .before .before .before .before .before .args .status .now) 0) (c .before .before .status-at .result)
+      (c .before .before .status-at .ensures) (c .before .if1 .left),
+)
 
 -- src/chain.rt:16:1
 returns-2 : tie.Need-returns-2 Inv-loop μ-loop
-returns-2 c = sym (c .before .loop .inv .1 ∙ all-ends (c .before .before .before .args .table .now) (c .before .before .before .pre .0) (c .before .loop .at) (c .loop-test .left) (entry (c .before .before .before .args .status .now) 0))
+returns-2 c = sym (c .before .loop .inv .1 ∙ all-ends (c .before .before .before .args .table .now) (c .before .before .before .pre .0)
+    (c .before .loop .at) (c .loop-test .left) (entry (c .before .before .before .args .status .now) 0))
 
 pub all-done-spec : {M : Type 1} → statement M
 all-done-spec =

@@ -6,9 +6,10 @@ use Prim.Native.Nat.{ℕ, _+_, _-_, _*_, _≤_, _<_}
 use lib.ListN.{length, getD}
 use Rattle.table.specs.Bytes.{nodes, next}
 use Rattle.table.specs.Naming.{chain}
-use Rattle.circuit.specs.State.{entry, opened}
+use Rattle.rules.specs.State.{entry, opened}
 use Rattle.circuit.specs.Plan.{allDone, initial, lastFrom}
-use Rattle.circuit.proofs.ChainLaws.{rest, ok, chain-end, next-in, falls, all-more, all-stops, all-ends, last-more, last-ends, opened-more, opened-ends, defs-end, defs-more, defs-stop, open-end, open-more, first-in}
+use Rattle.circuit.proofs.ChainLaws.{rest, ok, chain-end, next-in, falls, all-more, all-stops, all-ends, last-more, last-ends}
+use Rattle.circuit.proofs.ChainLaws.{opened-more, opened-ends, defs-end, defs-more, defs-stop, open-end, open-more, first-in}
 use Rattle.circuit.proofs.chain.last_of.Statement.{statement}
 use Rattle.circuit.proofs.chain.last_of.Tie as tie
 use Rattle.circuit.proofs.chain.last_of.Reads as reads
@@ -31,15 +32,27 @@ next-requires c κs = search needs
 
 -- src/chain.rt:55:5
 loop-less : tie.Need-loop-less Inv-loop μ-loop
-loop-less c = falls (c .before .before .before .before .args .table .now) (c .before .before .before .before .pre .0) (c .before .before .loop .on) (c .before .loop-test .taken) (c .before .before .loop .inv .0) _ (c .next .ensures)
+loop-less c = falls (c .before .before .before .before .args .table .now) (c .before .before .before .before .pre .0)
+    (c .before .before .loop .on) (c .before .loop-test .taken) (c .before .before .loop .inv .0) _ (c .next .ensures)
 
 -- src/chain.rt:55:5
 loop-again : tie.Need-loop-again Inv-loop μ-loop
-loop-again c = (next-in (c .before .before .before .before .args .table .now) (c .before .before .before .before .pre .0) (c .before .before .loop .on) (c .before .loop-test .taken) (c .before .before .loop .inv .0) _ (c .next .ensures), c .before .before .loop .inv .0, c .before .before .loop .inv .2 ∙ last-more (c .before .before .before .before .args .table .now) (c .before .before .before .before .pre .0) (c .before .before .loop .on) (c .before .loop-test .taken) (c .before .before .loop .inv .0) _ (c .next .ensures) (c .before .before .loop .at))
+loop-again c = (
+  next-in (c .before .before .before .before .args .table .now) (c .before .before .before .before .pre .0)
+      (c .before .before .loop .on) (c .before .loop-test .taken) (c .before .before .loop .inv .0) _ (c .next .ensures),
+  c .before .before .loop .inv .0,
+  c .before .before .loop .inv .2 ∙ last-more (c .before .before .before .before .args .table .now)
+      (c .before .before .before .before .pre .0) (c .before .before .loop .on) (c .before .loop-test .taken)
+      (c .before .before .loop .inv .0) _ (c .next .ensures) (c .before .before .loop .at),
+)
 
 -- src/chain.rt:49:1
 returns : tie.Need-returns Inv-loop μ-loop
-returns c = (sym (c .before .loop .inv .2 ∙ last-ends (c .before .before .before .args .table .now) (c .before .before .before .pre .0) (c .before .loop .on) (c .loop-test .left) (c .before .loop .at)), c .before .loop .inv .1)
+returns c = (
+  sym (c .before .loop .inv .2 ∙ last-ends (c .before .before .before .args .table .now) (c .before .before .before .pre .0)
+      (c .before .loop .on) (c .loop-test .left) (c .before .loop .at)),
+  c .before .loop .inv .1,
+)
 
 pub last-of-spec : {M : Type 1} → statement M
 last-of-spec =

@@ -1,4 +1,4 @@
-use Rattle.circuit.specs.State.{entry, write}
+use Rattle.rules.specs.State.{entry, write}
 use borrow.Author.Tests.{eq-eqb, ne-eqb, le-leb, lt-leb, lt-ltb, le-ltb, not-true, not-false}
 use native.Mathlib.Omega.{arith}
 use mathlib.Core.Path.{_≡_, refl, sym, ap, subst, _∙_}
@@ -11,15 +11,16 @@ use lib.Dec.{eqb}
 use mathlib.Core.Bool.{true, false}
 use mathlib.Core.List.{map, _++_}
 use lib.ListN.{take, drop, replicate, length-replicate, length-map, length-set, List·getD-map}
-use Rattle.circuit.specs.State.{entry}
+use Rattle.rules.specs.State.{entry}
 use Rattle.circuit.specs.Plan.{planned, stateAs, given, opens, ofFunction}
 use Rattle.circuit.proofs.ChainLaws.{rest, ok, first-in}
-use Rattle.table.proofs.Tests.{eqb-yes, eqb-no}
 use Rattle.table.proofs.Copied.{copied-more, copied-all}
 use Rattle.circuit.proofs.ActBy.{own-in, let-in, three-in}
-use Rattle.circuit.proofs.GroupLaws.{GroupsTo, groups-start, groups-next, groups-end, Wiped, wiped-start, wiped-next, wiped-end, WipeTo, head-sought, walk-start, link-sought, walk-next, walk-falls}
+use Rattle.circuit.proofs.GroupLaws.{GroupsTo, groups-start, groups-next, groups-end, Wiped, wiped-start, wiped-next, wiped-end}
+use Rattle.circuit.proofs.GroupLaws.{WipeTo, head-sought, walk-start, link-sought, walk-next, walk-falls}
 use Rattle.circuit.proofs.GiveLaws.{GivenTo, given-start, given-next, given-end}
-use Rattle.circuit.proofs.TakeLaws.{begin-if, begin-let, begin-all, turn-in, enter-in, leave-in, rested, begun, turned, finished, left, entered, restarted}
+use Rattle.circuit.proofs.TakeLaws.{begin-if, begin-let, begin-all, turn-in, enter-in, leave-in, rested, begun, turned, finished}
+use Rattle.circuit.proofs.TakeLaws.{left, entered, restarted}
 use borrow.Author.Needs.{needs}
 use Rattle.circuit.proofs.changes.begin.Statement.{statement}
 use Rattle.circuit.proofs.changes.begin.Tie as tie
@@ -41,31 +42,83 @@ first-requires c κs = search needs
 
 -- src/changes.rt:58:5
 set-status-requires : tie.Need-set-status-requires
-set-status-requires c κs = omega (arith, c .before .before .before .before .pre .1 .1, ok (c .before .before .before .before .args .table .now) (c .before .before .before .before .pre .0) .N-high)
+set-status-requires c κs = omega (
+  arith,
+  c .before .before .before .before .pre .1 .1,
+  ok
+      (c .before .before .before .before .args .table .now) (c .before .before .before .before .pre .0) .N-high,
+)
 
 -- src/changes.rt:60:9
 set-status-requires-2 : tie.Need-set-status-requires-2
-set-status-requires-2 c κs = omega (arith, first-in (c .before .before .before .before .before .before .before .args .table .now) (c .before .before .before .before .before .before .before .pre .0) (c .before .before .before .before .before .before .before .args .n .0) (c .before .before .before .before .before .before .before .pre .1) _ (c .before .before .before .before .first .ensures), ok (c .before .before .before .before .before .before .before .args .table .now) (c .before .before .before .before .before .before .before .pre .0) .N-high)
+set-status-requires-2 c κs = omega (
+  arith,
+  first-in (c .before .before .before .before .before .before .before .args .table .now)
+      (c .before .before .before .before .before .before .before .pre .0)
+      (c .before .before .before .before .before .before .before .args .n .0)
+      (c .before .before .before .before .before .before .before .pre .1) _ (c .before .before .before .before .first .ensures),
+  ok
+      (c .before .before .before .before .before .before .before .args .table .now)
+      (c .before .before .before .before .before .before .before .pre .0) .N-high,
+)
 
 -- src/changes.rt:61:9
 returns : tie.Need-returns
-returns c = begin-if (c .before .before .before .before .before .before .before .before .args .table .now) (c .before .before .before .before .before .before .before .before .args .n .0) (c .before .before .before .before .before .before .kind .result) (c .before .before .before .before .before .before .kind .ensures) (c .before .before .before .before .before .first .result .0) (c .before .before .before .before .before .first .ensures) (c .before .before .before .before .before .before .before .before .args .status .now) _ (c .before .before .before .set-status .ensures) (c .before .before .if1 .taken) _ (c .set-status2 .ensures)
+returns c = begin-if (c .before .before .before .before .before .before .before .before .args .table .now)
+    (c .before .before .before .before .before .before .before .before .args .n .0)
+    (c .before .before .before .before .before .before .kind .result) (c .before .before .before .before .before .before .kind .ensures)
+    (c .before .before .before .before .before .first .result .0) (c .before .before .before .before .before .first .ensures)
+    (c .before .before .before .before .before .before .before .before .args .status .now) _
+    (c .before .before .before .set-status .ensures) (c .before .before .if1 .taken) _ (c .set-status2 .ensures)
 
 -- src/changes.rt:64:9
 open-defs-requires : tie.Need-open-defs-requires
-open-defs-requires c κs = let i = let-in (c .before .before .before .before .before .before .before .before .args .table .now) (c .before .before .before .before .before .before .before .before .pre .0) (c .before .before .before .before .before .before .before .before .args .n .0) (c .before .before .before .before .before .before .before .before .pre .1) (sym (c .before .before .before .before .before .before .kind .ensures) ∙ c .before .if2 .taken) in (c .before .before .before .before .before .before .before .before .pre .0, omega (arith, c .before .before .before .before .before .first .ensures, i .0), omega (arith, c .before .before .before .before .before .first .ensures, i .1))
+open-defs-requires c κs = let i = let-in (c .before .before .before .before .before .before .before .before .args .table .now)
+    (c .before .before .before .before .before .before .before .before .pre .0)
+    (c .before .before .before .before .before .before .before .before .args .n .0)
+    (c .before .before .before .before .before .before .before .before .pre .1)
+    (sym (c .before .before .before .before .before .before .kind .ensures) ∙ c .before .if2 .taken) in (
+      c .before .before .before .before .before .before .before .before .pre .0,
+      omega
+          (arith, c .before .before .before .before .before .first .ensures, i .0),
+      omega
+          (arith, c .before .before .before .before .before .first .ensures, i .1),
+    )
 
 -- src/changes.rt:65:9
 returns-2 : tie.Need-returns-2
-returns-2 c = begin-let (c .before .before .before .before .before .before .before .before .before .args .table .now) (c .before .before .before .before .before .before .before .before .before .args .n .0) (c .before .before .before .before .before .before .before .kind .result) (c .before .before .before .before .before .before .before .kind .ensures) (c .before .before .before .before .before .before .first .result .0) (c .before .before .before .before .before .before .first .ensures) (c .before .before .before .before .before .before .before .before .before .args .status .now) _ (c .before .before .before .before .set-status .ensures) (c .before .before .if2 .taken) _ (c .open-defs .ensures)
+returns-2 c = begin-let (c .before .before .before .before .before .before .before .before .before .args .table .now)
+    (c .before .before .before .before .before .before .before .before .before .args .n .0)
+    (c .before .before .before .before .before .before .before .kind .result)
+    (c .before .before .before .before .before .before .before .kind .ensures)
+    (c .before .before .before .before .before .before .first .result .0)
+    (c .before .before .before .before .before .before .first .ensures)
+    (c .before .before .before .before .before .before .before .before .before .args .status .now) _
+    (c .before .before .before .before .set-status .ensures) (c .before .before .if2 .taken) _ (c .open-defs .ensures)
 
 -- src/changes.rt:67:5
 open-all-requires : tie.Need-open-all-requires
-open-all-requires c κs = (c .before .before .before .before .before .before .before .before .pre .0, first-in (c .before .before .before .before .before .before .before .before .args .table .now) (c .before .before .before .before .before .before .before .before .pre .0) (c .before .before .before .before .before .before .before .before .args .n .0) (c .before .before .before .before .before .before .before .before .pre .1) _ (c .before .before .before .before .before .first .ensures))
+open-all-requires c κs = (
+  c .before .before .before .before .before .before .before .before .pre .0,
+  first-in
+      (c .before .before .before .before .before .before .before .before .args .table .now)
+      (c .before .before .before .before .before .before .before .before .pre .0)
+      (c .before .before .before .before .before .before .before .before .args .n .0)
+      (c .before .before .before .before .before .before .before .before .pre .1) _
+      (c .before .before .before .before .before .first .ensures),
+)
 
 -- src/changes.rt:52:1
 returns-3 : tie.Need-returns-3
-returns-3 c = begin-all (c .before .before .before .before .before .before .before .before .before .args .table .now) (c .before .before .before .before .before .before .before .before .before .args .n .0) (c .before .before .before .before .before .before .before .kind .result) (c .before .before .before .before .before .before .before .kind .ensures) (c .before .before .before .before .before .before .first .result .0) (c .before .before .before .before .before .before .first .ensures) (c .before .before .before .before .before .before .before .before .before .args .status .now) _ (c .before .before .before .before .set-status .ensures) (c .before .before .before .if1 .left) (c .before .before .if2 .left) _ (c .open-all .ensures)
+returns-3 c = begin-all (c .before .before .before .before .before .before .before .before .before .args .table .now)
+    (c .before .before .before .before .before .before .before .before .before .args .n .0)
+    (c .before .before .before .before .before .before .before .kind .result)
+    (c .before .before .before .before .before .before .before .kind .ensures)
+    (c .before .before .before .before .before .before .first .result .0)
+    (c .before .before .before .before .before .before .first .ensures)
+    (c .before .before .before .before .before .before .before .before .before .args .status .now) _
+    (c .before .before .before .before .set-status .ensures) (c .before .before .before .if1 .left) (c .before .before .if2 .left) _
+    (c .open-all .ensures)
 
 pub begin-spec : {M : Type 1} → statement M
 begin-spec =

@@ -1,4 +1,4 @@
-use Rattle.circuit.specs.State.{entry, write}
+use Rattle.rules.specs.State.{entry, write}
 use borrow.Author.Tests.{eq-eqb, ne-eqb, le-leb, lt-leb, lt-ltb, le-ltb, not-true, not-false}
 use native.Mathlib.Omega.{arith}
 use borrow.Author.Needs.{needs}
@@ -12,15 +12,16 @@ use lib.Dec.{eqb}
 use mathlib.Core.Bool.{true, false}
 use mathlib.Core.List.{map, _++_}
 use lib.ListN.{take, drop, replicate, length-replicate, length-map, length-set, List·getD-map}
-use Rattle.circuit.specs.State.{entry}
+use Rattle.rules.specs.State.{entry}
 use Rattle.circuit.specs.Plan.{planned, stateAs, given, opens, ofFunction}
 use Rattle.circuit.proofs.ChainLaws.{rest, ok, first-in}
-use Rattle.table.proofs.Tests.{eqb-yes, eqb-no}
 use Rattle.table.proofs.Copied.{copied-more, copied-all}
 use Rattle.circuit.proofs.ActBy.{own-in, let-in, three-in}
-use Rattle.circuit.proofs.GroupLaws.{GroupsTo, groups-start, groups-next, groups-end, Wiped, wiped-start, wiped-next, wiped-end, WipeTo, head-sought, walk-start, link-sought, walk-next, walk-falls}
+use Rattle.circuit.proofs.GroupLaws.{GroupsTo, groups-start, groups-next, groups-end, Wiped, wiped-start, wiped-next, wiped-end}
+use Rattle.circuit.proofs.GroupLaws.{WipeTo, head-sought, walk-start, link-sought, walk-next, walk-falls}
 use Rattle.circuit.proofs.GiveLaws.{GivenTo, given-start, given-next, given-end}
-use Rattle.circuit.proofs.TakeLaws.{begin-if, begin-let, begin-all, turn-in, enter-in, leave-in, rested, begun, turned, finished, left, entered, restarted}
+use Rattle.circuit.proofs.TakeLaws.{begin-if, begin-let, begin-all, turn-in, enter-in, leave-in, rested, begun, turned, finished}
+use Rattle.circuit.proofs.TakeLaws.{left, entered, restarted}
 use Rattle.circuit.proofs.changes.give.Statement.{statement}
 use Rattle.circuit.proofs.changes.give.Tie as tie
 use Rattle.circuit.proofs.changes.give.Reads as reads
@@ -29,7 +30,8 @@ use Rattle.circuit.proofs.cells.value_at.Reads as value-at-reads
 use Rattle.circuit.proofs.changes.following.Reads as following-reads
 
 abbrev Inv-loop : tie.InvT-loop
-Inv-loop table value registers₀ f base at₀ i₀ registers at i = (i ≤ 8) × GivenTo table value (map (entry value 0) (chain table at₀)) registers₀ registers f i at
+Inv-loop table value registers₀ f base at₀ i₀ registers at i = (i ≤ 8) × GivenTo table value (map (entry value 0) (chain table at₀))
+    registers₀ registers f i at
 
 abbrev μ-loop : tie.MeasureT-loop
 μ-loop table value registers₀ f base at₀ i₀ registers at i = 8 - i
@@ -48,23 +50,48 @@ mul-base c = omega (arith, c .before .before .pre .1 .1, ok (c .before .before .
 
 -- src/changes.rt:44:5
 loop-holds : tie.Need-loop-holds Inv-loop μ-loop
-loop-holds c = (omega arith, given-start (c .before .before .args .table .now) (c .before .before .pre .0) (c .before .before .args .value .now) (c .before .before .args .c .0) (c .before .before .pre .2) (c .before .before .args .registers .now) (c .before .before .args .g .0))
+loop-holds c = (
+  omega arith,
+  given-start (c .before .before .args .table .now) (c .before .before .pre .0)
+      (c .before .before .args .value .now) (c .before .before .args .c .0) (c .before .before .pre .2)
+      (c .before .before .args .registers .now) (c .before .before .args .g .0),
+)
 
 -- src/changes.rt:45:31
 value-at-requires : tie.Need-value-at-requires Inv-loop μ-loop
-value-at-requires c κs = omega (arith, c .before .loop .inv .1 .inside, ok (c .before .before .before .before .args .table .now) (c .before .before .before .before .pre .0) .N-high)
+value-at-requires c κs = omega (
+  arith,
+  c .before .loop .inv .1 .inside,
+  ok (c .before .before .before .before .args .table .now)
+      (c .before .before .before .before .pre .0) .N-high,
+)
 
 -- src/changes.rt:45:19
 add-registers : tie.Need-add-registers Inv-loop μ-loop
-add-registers c = omega (arith, c .before .before .before .before .before .pre .1 .1, ok (c .before .before .before .before .before .args .table .now) (c .before .before .before .before .before .pre .0) .F-high)
+add-registers c = omega (
+  arith,
+  c .before .before .before .before .before .pre .1 .1,
+  ok
+      (c .before .before .before .before .before .args .table .now) (c .before .before .before .before .before .pre .0) .F-high,
+)
 
 -- src/changes.rt:45:9
 mul-registers : tie.Need-mul-registers Inv-loop μ-loop
-mul-registers c = omega (arith, c .before .before .before .before .before .pre .1 .1, ok (c .before .before .before .before .before .args .table .now) (c .before .before .before .before .before .pre .0) .F-high)
+mul-registers c = omega (
+  arith,
+  c .before .before .before .before .before .pre .1 .1,
+  ok
+      (c .before .before .before .before .before .args .table .now) (c .before .before .before .before .before .pre .0) .F-high,
+)
 
 -- src/changes.rt:45:9
 element-write-registers : tie.Need-element-write-registers Inv-loop μ-loop
-element-write-registers c = omega (arith, c .before .before .before .before .before .pre .1 .1, ok (c .before .before .before .before .before .args .table .now) (c .before .before .before .before .before .pre .0) .F-high)
+element-write-registers c = omega (
+  arith,
+  c .before .before .before .before .before .pre .1 .1,
+  ok
+      (c .before .before .before .before .before .args .table .now) (c .before .before .before .before .before .pre .0) .F-high,
+)
 
 -- src/changes.rt:46:13
 following-requires : tie.Need-following-requires Inv-loop μ-loop
@@ -80,11 +107,25 @@ loop-less c = omega arith
 
 -- src/changes.rt:44:5
 loop-again : tie.Need-loop-again Inv-loop μ-loop
-loop-again c = (omega arith, given-next (c .before .before .before .before .before .before .args .table .now) (c .before .before .before .before .before .before .pre .0) (c .before .before .before .before .before .before .args .value .now) (c .before .before .before .before .before .before .args .c .0) (c .before .before .before .before .before .before .pre .2) (c .before .before .before .before .before .before .args .registers .now) (c .before .before .before .before .before .before .args .g .0) (c .before .before .before .loop .registers) (c .before .before .before .loop .i) (c .before .before .before .loop .at) (c .before .before .before .loop .inv .1) (c .before .before .loop-test .taken) (c .before .before .before .before .before .before .pre .1 .0) _ (c .before .value-at .result) (c .following .result .0) refl (c .before .value-at .ensures) (c .following .ensures))
+loop-again c = (
+  omega arith,
+  given-next (c .before .before .before .before .before .before .args .table .now)
+      (c .before .before .before .before .before .before .pre .0) (c .before .before .before .before .before .before .args .value .now)
+      (c .before .before .before .before .before .before .args .c .0) (c .before .before .before .before .before .before .pre .2)
+      (c .before .before .before .before .before .before .args .registers .now)
+      (c .before .before .before .before .before .before .args .g .0) (c .before .before .before .loop .registers)
+      (c .before .before .before .loop .i) (c .before .before .before .loop .at) (c .before .before .before .loop .inv .1)
+      (c .before .before .loop-test .taken) (c .before .before .before .before .before .before .pre .1 .0) _ (c .before .value-at .result)
+      (c .following .result .0) refl (c .before .value-at .ensures) (c .following .ensures),
+)
 
 -- src/changes.rt:35:1
 returns : tie.Need-returns Inv-loop μ-loop
-returns c = given-end (c .before .before .before .before .args .table .now) (c .before .before .before .before .pre .0) (c .before .before .before .before .args .value .now) (c .before .before .before .before .args .c .0) (c .before .before .before .before .pre .2) (c .before .before .before .before .args .registers .now) (c .before .before .before .before .args .g .0) (c .before .loop .registers) (c .before .loop .i) (c .before .loop .at) (c .before .loop .inv .1) (omega arith)
+returns c = given-end (c .before .before .before .before .args .table .now) (c .before .before .before .before .pre .0)
+    (c .before .before .before .before .args .value .now) (c .before .before .before .before .args .c .0)
+    (c .before .before .before .before .pre .2) (c .before .before .before .before .args .registers .now)
+    (c .before .before .before .before .args .g .0) (c .before .loop .registers) (c .before .loop .i) (c .before .loop .at)
+    (c .before .loop .inv .1) (omega arith)
 
 pub give-spec : {M : Type 1} → statement M
 give-spec =

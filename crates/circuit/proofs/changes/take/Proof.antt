@@ -1,4 +1,4 @@
-use Rattle.circuit.specs.State.{entry, write}
+use Rattle.rules.specs.State.{entry, write}
 use borrow.Author.Tests.{eq-eqb, ne-eqb, le-leb, lt-leb, lt-ltb, le-ltb, not-true, not-false}
 use native.Mathlib.Omega.{arith}
 use mathlib.Core.Path.{_≡_, refl, sym, ap, subst, _∙_}
@@ -11,15 +11,16 @@ use lib.Dec.{eqb}
 use mathlib.Core.Bool.{true, false}
 use mathlib.Core.List.{map, _++_}
 use lib.ListN.{take, drop, replicate, length-replicate, length-map, length-set, List·getD-map}
-use Rattle.circuit.specs.State.{entry}
+use Rattle.rules.specs.State.{entry}
 use Rattle.circuit.specs.Plan.{planned, stateAs, given, opens, ofFunction}
 use Rattle.circuit.proofs.ChainLaws.{rest, ok, first-in}
-use Rattle.table.proofs.Tests.{eqb-yes, eqb-no}
 use Rattle.table.proofs.Copied.{copied-more, copied-all}
 use Rattle.circuit.proofs.ActBy.{own-in, let-in, three-in}
-use Rattle.circuit.proofs.GroupLaws.{GroupsTo, groups-start, groups-next, groups-end, Wiped, wiped-start, wiped-next, wiped-end, WipeTo, head-sought, walk-start, link-sought, walk-next, walk-falls}
+use Rattle.circuit.proofs.GroupLaws.{GroupsTo, groups-start, groups-next, groups-end, Wiped, wiped-start, wiped-next, wiped-end}
+use Rattle.circuit.proofs.GroupLaws.{WipeTo, head-sought, walk-start, link-sought, walk-next, walk-falls}
 use Rattle.circuit.proofs.GiveLaws.{GivenTo, given-start, given-next, given-end}
-use Rattle.circuit.proofs.TakeLaws.{begin-if, begin-let, begin-all, turn-in, enter-in, leave-in, rested, begun, turned, finished, left, entered, restarted}
+use Rattle.circuit.proofs.TakeLaws.{begin-if, begin-let, begin-all, turn-in, enter-in, leave-in, rested, begun, turned, finished}
+use Rattle.circuit.proofs.TakeLaws.{left, entered, restarted}
 use borrow.Author.Needs.{needs}
 use Rattle.circuit.proofs.changes.take.Statement.{statement}
 use Rattle.circuit.proofs.changes.take.Tie as tie
@@ -36,7 +37,11 @@ use Rattle.table.proofs.read.first.Reads as first-reads
 
 -- src/changes.rt:130:9
 plan-at-requires : tie.Need-plan-at-requires
-plan-at-requires c κs = (c .before .before .before .before .before .before .pre .0, c .before .before .before .before .before .before .pre .1, c .before .before .before .before .before .before .pre .2)
+plan-at-requires c κs = (
+  c .before .before .before .before .before .before .pre .0,
+  c .before .before .before .before .before .before .pre .1,
+  c .before .before .before .before .before .before .pre .2,
+)
 
 -- src/changes.rt:132:24
 enum-told : tie.Need-enum-told
@@ -52,7 +57,10 @@ enum-told-3 c = search needs
 
 -- src/changes.rt:135:13
 begin-requires : tie.Need-begin-requires
-begin-requires c κs = (c .before .before .before .before .before .before .before .before .before .before .pre .0, c .before .before .before .before .before .before .before .before .before .before .pre .1)
+begin-requires c κs = (
+  c .before .before .before .before .before .before .before .before .before .before .pre .0,
+  c .before .before .before .before .before .before .before .before .before .before .pre .1,
+)
 
 -- src/changes.rt:138:21
 enum-known-p : tie.Need-enum-known-p
@@ -60,11 +68,30 @@ enum-known-p c = search needs
 
 -- src/changes.rt:139:13
 set-status-requires : tie.Need-set-status-requires
-set-status-requires c κs = turn-in (c .before .before .before .before .before .before .before .before .before .before .before .args .table .now) (c .before .before .before .before .before .before .before .before .before .before .before .pre .0) (c .before .before .before .before .before .before .before .before .before .before .before .args .n .0) (c .before .before .before .before .before .before .before .before .before .before .before .pre .1) (c .before .before .before .before .before .before .before .before .before .before .before .args .status .now) (c .before .before .before .before .before .before .before .before .before .before .before .args .second .now) (c .before .before .before .before .before .before .before .before .before .before .before .args .value .now) (c .before .before .before .before .before .before .before .before .before .before .before .args .registers .now) (c .before .before .before .before .before .before .before .before .before .before .before .args .occupant .now) _ (sym (ap (planned (c .before .before .before .before .before .before .before .before .before .before .before .args .table .now) (c .before .before .before .before .before .before .before .before .before .before .before .args .value .now) (c .before .before .before .before .before .before .before .before .before .before .before .args .n .0)) (c .before .before .p .given .1)) ∙ c .before .before .before .before .plan-at .ensures)
+set-status-requires c κs = turn-in
+    (c .before .before .before .before .before .before .before .before .before .before .before .args .table .now)
+    (c .before .before .before .before .before .before .before .before .before .before .before .pre .0)
+    (c .before .before .before .before .before .before .before .before .before .before .before .args .n .0)
+    (c .before .before .before .before .before .before .before .before .before .before .before .pre .1)
+    (c .before .before .before .before .before .before .before .before .before .before .before .args .status .now)
+    (c .before .before .before .before .before .before .before .before .before .before .before .args .second .now)
+    (c .before .before .before .before .before .before .before .before .before .before .before .args .value .now)
+    (c .before .before .before .before .before .before .before .before .before .before .before .args .registers .now)
+    (c .before .before .before .before .before .before .before .before .before .before .before .args .occupant .now) _
+    (sym (ap (planned (c .before .before .before .before .before .before .before .before .before .before .before .args .table .now)
+    (c .before .before .before .before .before .before .before .before .before .before .before .args .value .now)
+    (c .before .before .before .before .before .before .before .before .before .before .before .args .n .0))
+    (c .before .before .p .given .1)) ∙ c .before .before .before .before .plan-at .ensures)
 
 -- src/changes.rt:140:13
 set-second-requires : tie.Need-set-second-requires
-set-second-requires c κs = omega (arith, c .before .before .before .before .before .before .before .before .before .before .before .before .before .pre .1 .1, ok (c .before .before .before .before .before .before .before .before .before .before .before .before .before .args .table .now) (c .before .before .before .before .before .before .before .before .before .before .before .before .before .pre .0) .N-high)
+set-second-requires c κs = omega (
+  arith,
+  c .before .before .before .before .before .before .before .before .before .before .before .before .before .pre .1 .1,
+  ok
+      (c .before .before .before .before .before .before .before .before .before .before .before .before .before .args .table .now)
+      (c .before .before .before .before .before .before .before .before .before .before .before .before .before .pre .0) .N-high,
+)
 
 -- src/changes.rt:143:24
 enum-known-p-2 : tie.Need-enum-known-p-2
@@ -72,7 +99,13 @@ enum-known-p-2 c = search needs
 
 -- src/changes.rt:144:13
 finish-requires : tie.Need-finish-requires
-finish-requires c κs = omega (arith, c .before .before .before .before .before .before .before .before .before .before .before .before .before .pre .1 .1, ok (c .before .before .before .before .before .before .before .before .before .before .before .before .before .args .table .now) (c .before .before .before .before .before .before .before .before .before .before .before .before .before .pre .0) .N-high)
+finish-requires c κs = omega (
+  arith,
+  c .before .before .before .before .before .before .before .before .before .before .before .before .before .pre .1 .1,
+  ok
+      (c .before .before .before .before .before .before .before .before .before .before .before .before .before .args .table .now)
+      (c .before .before .before .before .before .before .before .before .before .before .before .before .before .pre .0) .N-high,
+)
 
 -- src/changes.rt:147:22
 enum-known-p-3 : tie.Need-enum-known-p-3
@@ -84,15 +117,85 @@ first-requires c κs = search needs
 
 -- src/changes.rt:149:13
 reset-requires : tie.Need-reset-requires
-reset-requires c κs = (c .before .before .before .before .before .before .before .before .before .before .before .before .before .before .before .pre .0, c .before .before .before .before .before .before .before .before .before .before .before .before .before .before .before .pre .3, enter-in (c .before .before .before .before .before .before .before .before .before .before .before .before .before .before .before .args .table .now) (c .before .before .before .before .before .before .before .before .before .before .before .before .before .before .before .pre .0) (c .before .before .before .before .before .before .before .before .before .before .before .before .before .before .before .args .n .0) (c .before .before .before .before .before .before .before .before .before .before .before .before .before .before .before .pre .1) (c .before .before .before .before .before .before .before .before .before .before .before .before .before .before .before .args .status .now) (c .before .before .before .before .before .before .before .before .before .before .before .before .before .before .before .args .second .now) (c .before .before .before .before .before .before .before .before .before .before .before .before .before .before .before .args .value .now) (c .before .before .before .before .before .before .before .before .before .before .before .before .before .before .before .args .registers .now) (c .before .before .before .before .before .before .before .before .before .before .before .before .before .before .before .args .occupant .now) _ _ (sym (ap (planned (c .before .before .before .before .before .before .before .before .before .before .before .before .before .before .before .args .table .now) (c .before .before .before .before .before .before .before .before .before .before .before .before .before .before .before .args .value .now) (c .before .before .before .before .before .before .before .before .before .before .before .before .before .before .before .args .n .0)) (c .before .before .before .before .before .before .p3 .given .1)) ∙ c .before .before .before .before .before .before .before .before .plan-at .ensures), first-in (c .before .before .before .before .before .before .before .before .before .before .before .before .before .before .before .args .table .now) (c .before .before .before .before .before .before .before .before .before .before .before .before .before .before .before .pre .0) (c .before .before .before .before .before .before .before .before .before .before .before .before .before .before .before .args .n .0) (c .before .before .before .before .before .before .before .before .before .before .before .before .before .before .before .pre .1) _ (c .before .before .before .before .first .ensures))
+reset-requires c κs = (
+  c .before .before .before .before .before .before .before .before .before .before .before .before .before .before .before .pre .0,
+  c .before .before .before .before .before .before .before .before .before .before .before .before .before .before .before .pre .3,
+  enter-in (c .before .before .before .before .before .before .before .before .before .before .before .before .before .before .before
+      .args .table .now) (c .before .before .before .before .before .before .before .before .before .before .before .before .before
+      .before .before .pre .0)
+      (c .before .before .before .before .before .before .before .before .before .before .before .before .before .before .before .args .n
+      .0) (c .before .before .before .before .before .before .before .before .before .before .before .before .before .before .before .pre
+      .1) (c .before .before .before .before .before .before .before .before .before .before .before .before .before .before .before
+      .args .status .now) (c .before .before .before .before .before .before .before .before .before .before .before .before .before
+      .before .before .args .second .now)
+      (c .before .before .before .before .before .before .before .before .before .before .before .before .before .before .before .args
+      .value .now) (c .before .before .before .before .before .before .before .before .before .before .before .before .before .before
+      .before .args .registers .now)
+      (c .before .before .before .before .before .before .before .before .before .before .before .before .before .before .before .args
+      .occupant .now) _ _ (sym
+      (ap (planned (c .before .before .before .before .before .before .before .before .before .before .before .before .before .before
+      .before .args .table .now)
+      (c .before .before .before .before .before .before .before .before .before .before .before .before .before .before .before .args
+      .value .now) (c .before .before .before .before .before .before .before .before .before .before .before .before .before .before
+      .before .args .n .0)) (c .before .before .before .before .before .before .p3 .given .1)) ∙
+      c .before .before .before .before .before .before .before .before .plan-at .ensures),
+  first-in
+      (c .before .before .before .before .before .before .before .before .before .before .before .before .before .before .before .args
+      .table .now) (c .before .before .before .before .before .before .before .before .before .before .before .before .before .before
+      .before .pre .0) (c .before .before .before .before .before .before .before .before .before .before .before .before .before .before
+      .before .args .n .0) (c .before .before .before .before .before .before .before .before .before .before .before .before .before
+      .before .before .pre .1) _ (c .before .before .before .before .first .ensures),
+)
 
 -- src/changes.rt:150:13
 set-second-requires-2 : tie.Need-set-second-requires-2
-set-second-requires-2 c κs = omega (arith, c .before .before .before .before .before .before .before .before .before .before .before .before .before .before .before .before .before .pre .1 .1, ok (c .before .before .before .before .before .before .before .before .before .before .before .before .before .before .before .before .before .args .table .now) (c .before .before .before .before .before .before .before .before .before .before .before .before .before .before .before .before .before .pre .0) .N-high)
+set-second-requires-2 c κs = omega (
+  arith,
+  c .before .before .before .before .before .before .before .before .before .before .before .before .before .before .before
+      .before .before .pre .1 .1,
+  ok
+      (c .before .before .before .before .before .before .before .before .before .before .before .before .before .before .before .before
+      .before .args .table .now)
+      (c .before .before .before .before .before .before .before .before .before .before .before .before .before .before .before .before
+      .before .pre .0) .N-high,
+)
 
 -- src/changes.rt:151:13
 set-occupant-requires : tie.Need-set-occupant-requires
-set-occupant-requires c κs = omega (arith, enter-in (c .before .before .before .before .before .before .before .before .before .before .before .before .before .before .before .before .before .before .before .args .table .now) (c .before .before .before .before .before .before .before .before .before .before .before .before .before .before .before .before .before .before .before .pre .0) (c .before .before .before .before .before .before .before .before .before .before .before .before .before .before .before .before .before .before .before .args .n .0) (c .before .before .before .before .before .before .before .before .before .before .before .before .before .before .before .before .before .before .before .pre .1) (c .before .before .before .before .before .before .before .before .before .before .before .before .before .before .before .before .before .before .before .args .status .now) (c .before .before .before .before .before .before .before .before .before .before .before .before .before .before .before .before .before .before .before .args .second .now) (c .before .before .before .before .before .before .before .before .before .before .before .before .before .before .before .before .before .before .before .args .value .now) (c .before .before .before .before .before .before .before .before .before .before .before .before .before .before .before .before .before .before .before .args .registers .now) (c .before .before .before .before .before .before .before .before .before .before .before .before .before .before .before .before .before .before .before .args .occupant .now) _ _ (sym (ap (planned (c .before .before .before .before .before .before .before .before .before .before .before .before .before .before .before .before .before .before .before .args .table .now) (c .before .before .before .before .before .before .before .before .before .before .before .before .before .before .before .before .before .before .before .args .value .now) (c .before .before .before .before .before .before .before .before .before .before .before .before .before .before .before .before .before .before .before .args .n .0)) (c .before .before .before .before .before .before .before .before .before .before .p3 .given .1)) ∙ c .before .before .before .before .before .before .before .before .before .before .before .before .plan-at .ensures) .1, ok (c .before .before .before .before .before .before .before .before .before .before .before .before .before .before .before .before .before .before .before .args .table .now) (c .before .before .before .before .before .before .before .before .before .before .before .before .before .before .before .before .before .before .before .pre .0) .F-high)
+set-occupant-requires c κs = omega (
+  arith,
+  enter-in (c .before .before .before .before .before .before .before .before .before .before .before .before .before .before
+      .before .before .before .before .before .args .table .now)
+      (c .before .before .before .before .before .before .before .before .before .before .before .before .before .before .before .before
+      .before .before .before .pre .0)
+      (c .before .before .before .before .before .before .before .before .before .before .before .before .before .before .before .before
+      .before .before .before .args .n .0)
+      (c .before .before .before .before .before .before .before .before .before .before .before .before .before .before .before .before
+      .before .before .before .pre .1)
+      (c .before .before .before .before .before .before .before .before .before .before .before .before .before .before .before .before
+      .before .before .before .args .status .now)
+      (c .before .before .before .before .before .before .before .before .before .before .before .before .before .before .before .before
+      .before .before .before .args .second .now)
+      (c .before .before .before .before .before .before .before .before .before .before .before .before .before .before .before .before
+      .before .before .before .args .value .now)
+      (c .before .before .before .before .before .before .before .before .before .before .before .before .before .before .before .before
+      .before .before .before .args .registers .now)
+      (c .before .before .before .before .before .before .before .before .before .before .before .before .before .before .before .before
+      .before .before .before .args .occupant .now) _ _ (sym (ap
+      (planned (c .before .before .before .before .before .before .before .before .before .before .before .before .before .before .before
+      .before .before .before .before .args .table .now)
+      (c .before .before .before .before .before .before .before .before .before .before .before .before .before .before .before .before
+      .before .before .before .args .value .now)
+      (c .before .before .before .before .before .before .before .before .before .before .before .before .before .before .before .before
+      .before .before .before .args .n .0))
+      (c .before .before .before .before .before .before .before .before .before .before .p3 .given .1)) ∙
+      c .before .before .before .before .before .before .before .before .before .before .before .before .plan-at .ensures) .1,
+  ok
+      (c .before .before .before .before .before .before .before .before .before .before .before .before .before .before .before .before
+      .before .before .before .args .table .now)
+      (c .before .before .before .before .before .before .before .before .before .before .before .before .before .before .before .before
+      .before .before .before .pre .0) .F-high,
+)
 
 -- src/changes.rt:154:22
 enum-known-p-4 : tie.Need-enum-known-p-4
@@ -100,11 +203,42 @@ enum-known-p-4 c = search needs
 
 -- src/changes.rt:155:13
 finish-requires-2 : tie.Need-finish-requires-2
-finish-requires-2 c κs = omega (arith, c .before .before .before .before .before .before .before .before .before .before .before .before .before .pre .1 .1, ok (c .before .before .before .before .before .before .before .before .before .before .before .before .before .args .table .now) (c .before .before .before .before .before .before .before .before .before .before .before .before .before .pre .0) .N-high)
+finish-requires-2 c κs = omega (
+  arith,
+  c .before .before .before .before .before .before .before .before .before .before .before .before .before .pre .1 .1,
+  ok
+      (c .before .before .before .before .before .before .before .before .before .before .before .before .before .args .table .now)
+      (c .before .before .before .before .before .before .before .before .before .before .before .before .before .pre .0) .N-high,
+)
 
 -- src/changes.rt:156:13
 set-occupant-requires-2 : tie.Need-set-occupant-requires-2
-set-occupant-requires-2 c κs = omega (arith, leave-in (c .before .before .before .before .before .before .before .before .before .before .before .before .before .before .before .args .table .now) (c .before .before .before .before .before .before .before .before .before .before .before .before .before .before .before .pre .0) (c .before .before .before .before .before .before .before .before .before .before .before .before .before .before .before .args .n .0) (c .before .before .before .before .before .before .before .before .before .before .before .before .before .before .before .pre .1) (c .before .before .before .before .before .before .before .before .before .before .before .before .before .before .before .args .status .now) (c .before .before .before .before .before .before .before .before .before .before .before .before .before .before .before .args .second .now) (c .before .before .before .before .before .before .before .before .before .before .before .before .before .before .before .args .value .now) (c .before .before .before .before .before .before .before .before .before .before .before .before .before .before .before .args .registers .now) (c .before .before .before .before .before .before .before .before .before .before .before .before .before .before .before .args .occupant .now) _ _ (sym (ap (planned (c .before .before .before .before .before .before .before .before .before .before .before .before .before .before .before .args .table .now) (c .before .before .before .before .before .before .before .before .before .before .before .before .before .before .before .args .value .now) (c .before .before .before .before .before .before .before .before .before .before .before .before .before .before .before .args .n .0)) (c .before .before .before .before .before .before .p4 .given .1)) ∙ c .before .before .before .before .before .before .before .before .plan-at .ensures) .1, ok (c .before .before .before .before .before .before .before .before .before .before .before .before .before .before .before .args .table .now) (c .before .before .before .before .before .before .before .before .before .before .before .before .before .before .before .pre .0) .F-high)
+set-occupant-requires-2 c κs = omega (
+  arith,
+  leave-in (c .before .before .before .before .before .before .before .before .before .before .before .before .before .before
+      .before .args .table .now)
+      (c .before .before .before .before .before .before .before .before .before .before .before .before .before .before .before .pre .0)
+      (c .before .before .before .before .before .before .before .before .before .before .before .before .before .before .before .args .n
+      .0) (c .before .before .before .before .before .before .before .before .before .before .before .before .before .before .before .pre
+      .1) (c .before .before .before .before .before .before .before .before .before .before .before .before .before .before .before
+      .args .status .now) (c .before .before .before .before .before .before .before .before .before .before .before .before .before
+      .before .before .args .second .now)
+      (c .before .before .before .before .before .before .before .before .before .before .before .before .before .before .before .args
+      .value .now) (c .before .before .before .before .before .before .before .before .before .before .before .before .before .before
+      .before .args .registers .now)
+      (c .before .before .before .before .before .before .before .before .before .before .before .before .before .before .before .args
+      .occupant .now) _ _ (sym
+      (ap (planned (c .before .before .before .before .before .before .before .before .before .before .before .before .before .before
+      .before .args .table .now)
+      (c .before .before .before .before .before .before .before .before .before .before .before .before .before .before .before .args
+      .value .now) (c .before .before .before .before .before .before .before .before .before .before .before .before .before .before
+      .before .args .n .0)) (c .before .before .before .before .before .before .p4 .given .1)) ∙
+      c .before .before .before .before .before .before .before .before .plan-at .ensures) .1,
+  ok
+      (c .before .before .before .before .before .before .before .before .before .before .before .before .before .before .before .args
+      .table .now) (c .before .before .before .before .before .before .before .before .before .before .before .before .before .before
+      .before .pre .0) .F-high,
+)
 
 -- src/changes.rt:160:17
 enum-told-4 : tie.Need-enum-told-4
@@ -116,39 +250,252 @@ first-requires-2 c κs = search needs
 
 -- src/changes.rt:161:13
 reset-requires-2 : tie.Need-reset-requires-2
-reset-requires-2 c κs = let o = own-in (c .before .before .before .before .before .before .before .before .before .before .before .before .before .before .args .table .now) (c .before .before .before .before .before .before .before .before .before .before .before .before .before .before .pre .0) (c .before .before .before .before .before .before .before .before .before .before .before .before .before .before .args .n .0) (c .before .before .before .before .before .before .before .before .before .before .before .before .before .before .pre .1) in (c .before .before .before .before .before .before .before .before .before .before .before .before .before .before .pre .0, c .before .before .before .before .before .before .before .before .before .before .before .before .before .before .pre .3, (omega (arith, c .before .before .before .before .before .before .before .before .before .before .before .before .before .before .pre .2, o .0), omega (arith, c .before .before .before .before .before .before .before .before .before .before .before .before .before .before .pre .2, o .1)), first-in (c .before .before .before .before .before .before .before .before .before .before .before .before .before .before .args .table .now) (c .before .before .before .before .before .before .before .before .before .before .before .before .before .before .pre .0) (c .before .before .before .before .before .before .before .before .before .before .before .before .before .before .args .n .0) (c .before .before .before .before .before .before .before .before .before .before .before .before .before .before .pre .1) _ (c .before .before .before .before .first2 .ensures))
+reset-requires-2 c κs = let o = own-in
+    (c .before .before .before .before .before .before .before .before .before .before .before .before .before .before .args .table
+    .now) (c .before .before .before .before .before .before .before .before .before .before .before .before .before .before .pre .0)
+    (c .before .before .before .before .before .before .before .before .before .before .before .before .before .before .args .n .0)
+    (c .before .before .before .before .before .before .before .before .before .before .before .before .before .before .pre .1) in (
+      c .before .before .before .before .before .before .before .before .before .before .before .before .before .before .pre .0,
+      c .before .before .before .before .before .before .before .before .before .before .before .before .before .before .pre .3,
+      (
+        omega (
+          arith,
+          c .before .before .before .before .before .before .before .before .before .before .before .before .before .before
+              .pre .2,
+          o .0,
+        ),
+        omega (
+          arith,
+          c .before .before .before .before .before .before .before .before .before .before .before .before .before .before .pre .2,
+          o .1,
+        ),
+      ),
+      first-in (c .before .before .before .before .before .before .before .before .before .before .before .before .before .before
+          .args .table .now) (c .before .before .before .before .before .before .before .before .before .before .before .before .before
+          .before .pre .0) (c .before .before .before .before .before .before .before .before .before .before .before .before .before .before
+          .args .n .0) (c .before .before .before .before .before .before .before .before .before .before .before .before .before .before
+          .pre .1) _ (c .before .before .before .before .first2 .ensures),
+    )
 
 -- src/changes.rt:109:1
 returns : tie.Need-returns
-returns c = rested (c .before .before .before .before .before .before .before .before .before .args .table .now) (c .before .before .before .before .before .before .before .before .before .pre .0) (c .before .before .before .before .before .before .before .before .before .args .n .0) (c .before .before .before .before .before .before .before .before .before .pre .1) (c .before .before .before .before .before .before .before .before .before .args .status .now) (c .before .before .before .before .before .before .before .before .before .args .second .now) (c .before .before .before .before .before .before .before .before .before .args .value .now) (c .before .before .before .before .before .before .before .before .before .args .registers .now) (c .before .before .before .before .before .before .before .before .before .args .occupant .now) _ 0 (sym (ap (planned (c .before .before .before .before .before .before .before .before .before .args .table .now) (c .before .before .before .before .before .before .before .before .before .args .value .now) (c .before .before .before .before .before .before .before .before .before .args .n .0)) (c .enum-told .given .1)) ∙ c .before .before .plan-at .ensures) (refl, refl)
+returns c = rested (c .before .before .before .before .before .before .before .before .before .args .table .now)
+    (c .before .before .before .before .before .before .before .before .before .pre .0)
+    (c .before .before .before .before .before .before .before .before .before .args .n .0)
+    (c .before .before .before .before .before .before .before .before .before .pre .1)
+    (c .before .before .before .before .before .before .before .before .before .args .status .now)
+    (c .before .before .before .before .before .before .before .before .before .args .second .now)
+    (c .before .before .before .before .before .before .before .before .before .args .value .now)
+    (c .before .before .before .before .before .before .before .before .before .args .registers .now)
+    (c .before .before .before .before .before .before .before .before .before .args .occupant .now) _ 0
+    (sym (ap (planned (c .before .before .before .before .before .before .before .before .before .args .table .now)
+    (c .before .before .before .before .before .before .before .before .before .args .value .now)
+    (c .before .before .before .before .before .before .before .before .before .args .n .0)) (c .enum-told .given .1)) ∙
+    c .before .before .plan-at .ensures) (refl, refl)
 
 -- src/changes.rt:109:1
 returns-2 : tie.Need-returns-2
-returns-2 c = rested (c .before .before .before .before .before .before .before .before .before .args .table .now) (c .before .before .before .before .before .before .before .before .before .pre .0) (c .before .before .before .before .before .before .before .before .before .args .n .0) (c .before .before .before .before .before .before .before .before .before .pre .1) (c .before .before .before .before .before .before .before .before .before .args .status .now) (c .before .before .before .before .before .before .before .before .before .args .second .now) (c .before .before .before .before .before .before .before .before .before .args .value .now) (c .before .before .before .before .before .before .before .before .before .args .registers .now) (c .before .before .before .before .before .before .before .before .before .args .occupant .now) _ 1 (sym (ap (planned (c .before .before .before .before .before .before .before .before .before .args .table .now) (c .before .before .before .before .before .before .before .before .before .args .value .now) (c .before .before .before .before .before .before .before .before .before .args .n .0)) (c .enum-told2 .given .1)) ∙ c .before .before .plan-at .ensures) (refl, refl)
+returns-2 c = rested (c .before .before .before .before .before .before .before .before .before .args .table .now)
+    (c .before .before .before .before .before .before .before .before .before .pre .0)
+    (c .before .before .before .before .before .before .before .before .before .args .n .0)
+    (c .before .before .before .before .before .before .before .before .before .pre .1)
+    (c .before .before .before .before .before .before .before .before .before .args .status .now)
+    (c .before .before .before .before .before .before .before .before .before .args .second .now)
+    (c .before .before .before .before .before .before .before .before .before .args .value .now)
+    (c .before .before .before .before .before .before .before .before .before .args .registers .now)
+    (c .before .before .before .before .before .before .before .before .before .args .occupant .now) _ 1
+    (sym (ap (planned (c .before .before .before .before .before .before .before .before .before .args .table .now)
+    (c .before .before .before .before .before .before .before .before .before .args .value .now)
+    (c .before .before .before .before .before .before .before .before .before .args .n .0)) (c .enum-told2 .given .1)) ∙
+    c .before .before .plan-at .ensures) (refl, refl)
 
 -- src/changes.rt:109:1
 returns-3 : tie.Need-returns-3
-returns-3 c = begun (c .before .before .before .before .before .before .before .before .before .before .before .args .table .now) (c .before .before .before .before .before .before .before .before .before .before .before .pre .0) (c .before .before .before .before .before .before .before .before .before .before .before .args .n .0) (c .before .before .before .before .before .before .before .before .before .before .before .pre .1) (c .before .before .before .before .before .before .before .before .before .before .before .args .status .now) (c .before .before .before .before .before .before .before .before .before .before .before .args .second .now) (c .before .before .before .before .before .before .before .before .before .before .before .args .value .now) (c .before .before .before .before .before .before .before .before .before .before .before .args .registers .now) (c .before .before .before .before .before .before .before .before .before .before .before .args .occupant .now) (sym (ap (planned (c .before .before .before .before .before .before .before .before .before .before .before .args .table .now) (c .before .before .before .before .before .before .before .before .before .before .before .args .value .now) (c .before .before .before .before .before .before .before .before .before .before .before .args .n .0)) (c .before .before .enum-told3 .given .1)) ∙ c .before .before .before .before .plan-at .ensures) _ (c .begin .ensures)
+returns-3 c = begun (c .before .before .before .before .before .before .before .before .before .before .before .args .table .now)
+    (c .before .before .before .before .before .before .before .before .before .before .before .pre .0)
+    (c .before .before .before .before .before .before .before .before .before .before .before .args .n .0)
+    (c .before .before .before .before .before .before .before .before .before .before .before .pre .1)
+    (c .before .before .before .before .before .before .before .before .before .before .before .args .status .now)
+    (c .before .before .before .before .before .before .before .before .before .before .before .args .second .now)
+    (c .before .before .before .before .before .before .before .before .before .before .before .args .value .now)
+    (c .before .before .before .before .before .before .before .before .before .before .before .args .registers .now)
+    (c .before .before .before .before .before .before .before .before .before .before .before .args .occupant .now)
+    (sym (ap (planned (c .before .before .before .before .before .before .before .before .before .before .before .args .table .now)
+    (c .before .before .before .before .before .before .before .before .before .before .before .args .value .now)
+    (c .before .before .before .before .before .before .before .before .before .before .before .args .n .0))
+    (c .before .before .enum-told3 .given .1)) ∙ c .before .before .before .before .plan-at .ensures) _ (c .begin .ensures)
 
 -- src/changes.rt:109:1
 returns-4 : tie.Need-returns-4
-returns-4 c = turned (c .before .before .before .before .before .before .before .before .before .before .before .before .before .before .args .table .now) (c .before .before .before .before .before .before .before .before .before .before .before .before .before .before .pre .0) (c .before .before .before .before .before .before .before .before .before .before .before .before .before .before .args .n .0) (c .before .before .before .before .before .before .before .before .before .before .before .before .before .before .pre .1) (c .before .before .before .before .before .before .before .before .before .before .before .before .before .before .args .status .now) (c .before .before .before .before .before .before .before .before .before .before .before .before .before .before .args .second .now) (c .before .before .before .before .before .before .before .before .before .before .before .before .before .before .args .value .now) (c .before .before .before .before .before .before .before .before .before .before .before .before .before .before .args .registers .now) (c .before .before .before .before .before .before .before .before .before .before .before .before .before .before .args .occupant .now) _ (sym (ap (planned (c .before .before .before .before .before .before .before .before .before .before .before .before .before .before .args .table .now) (c .before .before .before .before .before .before .before .before .before .before .before .before .before .before .args .value .now) (c .before .before .before .before .before .before .before .before .before .before .before .before .before .before .args .n .0)) (c .before .before .before .before .before .p .given .1)) ∙ c .before .before .before .before .before .before .before .plan-at .ensures) _ _ (c .before .before .set-status .ensures) (c .set-second .ensures)
+returns-4 c = turned (c .before .before .before .before .before .before .before .before .before .before .before .before .before .before
+    .args .table .now) (c .before .before .before .before .before .before .before .before .before .before .before .before .before
+    .before .pre .0) (c .before .before .before .before .before .before .before .before .before .before .before .before .before .before
+    .args .n .0) (c .before .before .before .before .before .before .before .before .before .before .before .before .before .before
+    .pre .1) (c .before .before .before .before .before .before .before .before .before .before .before .before .before .before .args
+    .status .now) (c .before .before .before .before .before .before .before .before .before .before .before .before .before .before
+    .args .second .now) (c .before .before .before .before .before .before .before .before .before .before .before .before .before
+    .before .args .value .now)
+    (c .before .before .before .before .before .before .before .before .before .before .before .before .before .before .args .registers
+    .now) (c .before .before .before .before .before .before .before .before .before .before .before .before .before .before .args
+    .occupant .now) _ (sym
+    (ap (planned (c .before .before .before .before .before .before .before .before .before .before .before .before .before .before
+    .args .table .now) (c .before .before .before .before .before .before .before .before .before .before .before .before .before
+    .before .args .value .now)
+    (c .before .before .before .before .before .before .before .before .before .before .before .before .before .before .args .n .0))
+    (c .before .before .before .before .before .p .given .1)) ∙
+    c .before .before .before .before .before .before .before .plan-at .ensures) _ _ (c .before .before .set-status .ensures)
+    (c .set-second .ensures)
 
 -- src/changes.rt:109:1
 returns-5 : tie.Need-returns-5
-returns-5 c = finished (c .before .before .before .before .before .before .before .before .before .before .before .before .before .before .args .table .now) (c .before .before .before .before .before .before .before .before .before .before .before .before .before .before .pre .0) (c .before .before .before .before .before .before .before .before .before .before .before .before .before .before .args .n .0) (c .before .before .before .before .before .before .before .before .before .before .before .before .before .before .pre .1) (c .before .before .before .before .before .before .before .before .before .before .before .before .before .before .args .status .now) (c .before .before .before .before .before .before .before .before .before .before .before .before .before .before .args .second .now) (c .before .before .before .before .before .before .before .before .before .before .before .before .before .before .args .value .now) (c .before .before .before .before .before .before .before .before .before .before .before .before .before .before .args .registers .now) (c .before .before .before .before .before .before .before .before .before .before .before .before .before .before .args .occupant .now) _ _ _ _ (c .finish .ensures .0) (c .finish .ensures .1) (c .finish .ensures .2) (sym (ap (planned (c .before .before .before .before .before .before .before .before .before .before .before .before .before .before .args .table .now) (c .before .before .before .before .before .before .before .before .before .before .before .before .before .before .args .value .now) (c .before .before .before .before .before .before .before .before .before .before .before .before .before .before .args .n .0)) (c .before .before .before .before .before .p2 .given .1)) ∙ c .before .before .before .before .before .before .before .plan-at .ensures)
+returns-5 c = finished
+    (c .before .before .before .before .before .before .before .before .before .before .before .before .before .before .args .table
+    .now) (c .before .before .before .before .before .before .before .before .before .before .before .before .before .before .pre .0)
+    (c .before .before .before .before .before .before .before .before .before .before .before .before .before .before .args .n .0)
+    (c .before .before .before .before .before .before .before .before .before .before .before .before .before .before .pre .1)
+    (c .before .before .before .before .before .before .before .before .before .before .before .before .before .before .args .status
+    .now) (c .before .before .before .before .before .before .before .before .before .before .before .before .before .before .args
+    .second .now) (c .before .before .before .before .before .before .before .before .before .before .before .before .before .before
+    .args .value .now) (c .before .before .before .before .before .before .before .before .before .before .before .before .before
+    .before .args .registers .now)
+    (c .before .before .before .before .before .before .before .before .before .before .before .before .before .before .args .occupant
+    .now) _ _ _ _ (c .finish .ensures .0) (c .finish .ensures .1) (c .finish .ensures .2)
+    (sym (ap (planned (c .before .before .before .before .before .before .before .before .before .before .before .before .before
+    .before .args .table .now)
+    (c .before .before .before .before .before .before .before .before .before .before .before .before .before .before .args .value
+    .now) (c .before .before .before .before .before .before .before .before .before .before .before .before .before .before .args .n
+    .0)) (c .before .before .before .before .before .p2 .given .1)) ∙
+    c .before .before .before .before .before .before .before .plan-at .ensures)
 
 -- src/changes.rt:109:1
 returns-6 : tie.Need-returns-6
-returns-6 c = entered (c .before .before .before .before .before .before .before .before .before .before .before .before .before .before .before .before .before .before .before .before .args .table .now) (c .before .before .before .before .before .before .before .before .before .before .before .before .before .before .before .before .before .before .before .before .pre .0) (c .before .before .before .before .before .before .before .before .before .before .before .before .before .before .before .before .before .before .before .before .args .n .0) (c .before .before .before .before .before .before .before .before .before .before .before .before .before .before .before .before .before .before .before .before .pre .1) (c .before .before .before .before .before .before .before .before .before .before .before .before .before .before .before .before .before .before .before .before .args .status .now) (c .before .before .before .before .before .before .before .before .before .before .before .before .before .before .before .before .before .before .before .before .args .second .now) (c .before .before .before .before .before .before .before .before .before .before .before .before .before .before .before .before .before .before .before .before .args .value .now) (c .before .before .before .before .before .before .before .before .before .before .before .before .before .before .before .before .before .before .before .before .args .registers .now) (c .before .before .before .before .before .before .before .before .before .before .before .before .before .before .before .before .before .before .before .before .args .occupant .now) _ (enter-in (c .before .before .before .before .before .before .before .before .before .before .before .before .before .before .before .before .before .before .before .before .args .table .now) (c .before .before .before .before .before .before .before .before .before .before .before .before .before .before .before .before .before .before .before .before .pre .0) (c .before .before .before .before .before .before .before .before .before .before .before .before .before .before .before .before .before .before .before .before .args .n .0) (c .before .before .before .before .before .before .before .before .before .before .before .before .before .before .before .before .before .before .before .before .pre .1) (c .before .before .before .before .before .before .before .before .before .before .before .before .before .before .before .before .before .before .before .before .args .status .now) (c .before .before .before .before .before .before .before .before .before .before .before .before .before .before .before .before .before .before .before .before .args .second .now) (c .before .before .before .before .before .before .before .before .before .before .before .before .before .before .before .before .before .before .before .before .args .value .now) (c .before .before .before .before .before .before .before .before .before .before .before .before .before .before .before .before .before .before .before .before .args .registers .now) (c .before .before .before .before .before .before .before .before .before .before .before .before .before .before .before .before .before .before .before .before .args .occupant .now) _ _ (sym (ap (planned (c .before .before .before .before .before .before .before .before .before .before .before .before .before .before .before .before .before .before .before .before .args .table .now) (c .before .before .before .before .before .before .before .before .before .before .before .before .before .before .before .before .before .before .before .before .args .value .now) (c .before .before .before .before .before .before .before .before .before .before .before .before .before .before .before .before .before .before .before .before .args .n .0)) (c .before .before .before .before .before .before .before .before .before .before .before .p3 .given .1)) ∙ c .before .before .before .before .before .before .before .before .before .before .before .before .before .plan-at .ensures)) (c .before .before .before .before .before .before .before .before .before .first .result .0) (c .before .before .before .before .before .before .before .before .before .first .ensures) _ _ _ _ (c .before .before .before .before .reset .ensures .0) (c .before .before .before .before .reset .ensures .1) (c .before .before .before .before .reset .ensures .2) (c .before .before .before .before .reset .ensures .3) (sym (ap (planned (c .before .before .before .before .before .before .before .before .before .before .before .before .before .before .before .before .before .before .before .before .args .table .now) (c .before .before .before .before .before .before .before .before .before .before .before .before .before .before .before .before .before .before .before .before .args .value .now) (c .before .before .before .before .before .before .before .before .before .before .before .before .before .before .before .before .before .before .before .before .args .n .0)) (c .before .before .before .before .before .before .before .before .before .before .before .p3 .given .1)) ∙ c .before .before .before .before .before .before .before .before .before .before .before .before .before .plan-at .ensures) _ (c .before .before .set-second2 .ensures) _ (c .set-occupant .ensures)
+returns-6 c = entered
+    (c .before .before .before .before .before .before .before .before .before .before .before .before .before .before .before .before
+    .before .before .before .before .args .table .now)
+    (c .before .before .before .before .before .before .before .before .before .before .before .before .before .before .before .before
+    .before .before .before .before .pre .0)
+    (c .before .before .before .before .before .before .before .before .before .before .before .before .before .before .before .before
+    .before .before .before .before .args .n .0)
+    (c .before .before .before .before .before .before .before .before .before .before .before .before .before .before .before .before
+    .before .before .before .before .pre .1)
+    (c .before .before .before .before .before .before .before .before .before .before .before .before .before .before .before .before
+    .before .before .before .before .args .status .now)
+    (c .before .before .before .before .before .before .before .before .before .before .before .before .before .before .before .before
+    .before .before .before .before .args .second .now)
+    (c .before .before .before .before .before .before .before .before .before .before .before .before .before .before .before .before
+    .before .before .before .before .args .value .now)
+    (c .before .before .before .before .before .before .before .before .before .before .before .before .before .before .before .before
+    .before .before .before .before .args .registers .now)
+    (c .before .before .before .before .before .before .before .before .before .before .before .before .before .before .before .before
+    .before .before .before .before .args .occupant .now) _ (enter-in
+    (c .before .before .before .before .before .before .before .before .before .before .before .before .before .before .before .before
+    .before .before .before .before .args .table .now)
+    (c .before .before .before .before .before .before .before .before .before .before .before .before .before .before .before .before
+    .before .before .before .before .pre .0)
+    (c .before .before .before .before .before .before .before .before .before .before .before .before .before .before .before .before
+    .before .before .before .before .args .n .0)
+    (c .before .before .before .before .before .before .before .before .before .before .before .before .before .before .before .before
+    .before .before .before .before .pre .1)
+    (c .before .before .before .before .before .before .before .before .before .before .before .before .before .before .before .before
+    .before .before .before .before .args .status .now)
+    (c .before .before .before .before .before .before .before .before .before .before .before .before .before .before .before .before
+    .before .before .before .before .args .second .now)
+    (c .before .before .before .before .before .before .before .before .before .before .before .before .before .before .before .before
+    .before .before .before .before .args .value .now)
+    (c .before .before .before .before .before .before .before .before .before .before .before .before .before .before .before .before
+    .before .before .before .before .args .registers .now)
+    (c .before .before .before .before .before .before .before .before .before .before .before .before .before .before .before .before
+    .before .before .before .before .args .occupant .now) _ _
+    (sym (ap (planned (c .before .before .before .before .before .before .before .before .before .before .before .before .before
+    .before .before .before .before .before .before .before .args .table .now)
+    (c .before .before .before .before .before .before .before .before .before .before .before .before .before .before .before .before
+    .before .before .before .before .args .value .now)
+    (c .before .before .before .before .before .before .before .before .before .before .before .before .before .before .before .before
+    .before .before .before .before .args .n .0))
+    (c .before .before .before .before .before .before .before .before .before .before .before .p3 .given .1)) ∙
+    c .before .before .before .before .before .before .before .before .before .before .before .before .before .plan-at .ensures))
+    (c .before .before .before .before .before .before .before .before .before .first .result .0)
+    (c .before .before .before .before .before .before .before .before .before .first .ensures) _ _ _ _
+    (c .before .before .before .before .reset .ensures .0) (c .before .before .before .before .reset .ensures .1)
+    (c .before .before .before .before .reset .ensures .2) (c .before .before .before .before .reset .ensures .3)
+    (sym (ap (planned (c .before .before .before .before .before .before .before .before .before .before .before .before .before
+    .before .before .before .before .before .before .before .args .table .now)
+    (c .before .before .before .before .before .before .before .before .before .before .before .before .before .before .before .before
+    .before .before .before .before .args .value .now)
+    (c .before .before .before .before .before .before .before .before .before .before .before .before .before .before .before .before
+    .before .before .before .before .args .n .0))
+    (c .before .before .before .before .before .before .before .before .before .before .before .p3 .given .1)) ∙
+    c .before .before .before .before .before .before .before .before .before .before .before .before .before .plan-at .ensures) _
+    (c .before .before .set-second2 .ensures) _ (c .set-occupant .ensures)
 
 -- src/changes.rt:109:1
 returns-7 : tie.Need-returns-7
-returns-7 c = left (c .before .before .before .before .before .before .before .before .before .before .before .before .before .before .before .before .args .table .now) (c .before .before .before .before .before .before .before .before .before .before .before .before .before .before .before .before .pre .0) (c .before .before .before .before .before .before .before .before .before .before .before .before .before .before .before .before .args .n .0) (c .before .before .before .before .before .before .before .before .before .before .before .before .before .before .before .before .pre .1) (c .before .before .before .before .before .before .before .before .before .before .before .before .before .before .before .before .args .status .now) (c .before .before .before .before .before .before .before .before .before .before .before .before .before .before .before .before .args .second .now) (c .before .before .before .before .before .before .before .before .before .before .before .before .before .before .before .before .args .value .now) (c .before .before .before .before .before .before .before .before .before .before .before .before .before .before .before .before .args .registers .now) (c .before .before .before .before .before .before .before .before .before .before .before .before .before .before .before .before .args .occupant .now) _ _ _ _ (c .before .before .finish2 .ensures .0) (c .before .before .finish2 .ensures .1) (c .before .before .finish2 .ensures .2) _ (sym (ap (planned (c .before .before .before .before .before .before .before .before .before .before .before .before .before .before .before .before .args .table .now) (c .before .before .before .before .before .before .before .before .before .before .before .before .before .before .before .before .args .value .now) (c .before .before .before .before .before .before .before .before .before .before .before .before .before .before .before .before .args .n .0)) (c .before .before .before .before .before .before .before .p4 .given .1)) ∙ c .before .before .before .before .before .before .before .before .before .plan-at .ensures) _ (c .set-occupant2 .ensures)
+returns-7 c = left (c .before .before .before .before .before .before .before .before .before .before .before .before .before .before
+    .before .before .args .table .now)
+    (c .before .before .before .before .before .before .before .before .before .before .before .before .before .before .before .before
+    .pre .0) (c .before .before .before .before .before .before .before .before .before .before .before .before .before .before .before
+    .before .args .n .0) (c .before .before .before .before .before .before .before .before .before .before .before .before .before
+    .before .before .before .pre .1)
+    (c .before .before .before .before .before .before .before .before .before .before .before .before .before .before .before .before
+    .args .status .now) (c .before .before .before .before .before .before .before .before .before .before .before .before .before
+    .before .before .before .args .second .now)
+    (c .before .before .before .before .before .before .before .before .before .before .before .before .before .before .before .before
+    .args .value .now) (c .before .before .before .before .before .before .before .before .before .before .before .before .before
+    .before .before .before .args .registers .now)
+    (c .before .before .before .before .before .before .before .before .before .before .before .before .before .before .before .before
+    .args .occupant .now) _ _ _ _ (c .before .before .finish2 .ensures .0) (c .before .before .finish2 .ensures .1)
+    (c .before .before .finish2 .ensures .2) _
+    (sym (ap (planned (c .before .before .before .before .before .before .before .before .before .before .before .before .before
+    .before .before .before .args .table .now)
+    (c .before .before .before .before .before .before .before .before .before .before .before .before .before .before .before .before
+    .args .value .now) (c .before .before .before .before .before .before .before .before .before .before .before .before .before
+    .before .before .before .args .n .0)) (c .before .before .before .before .before .before .before .p4 .given .1)) ∙
+    c .before .before .before .before .before .before .before .before .before .plan-at .ensures) _ (c .set-occupant2 .ensures)
 
 -- src/changes.rt:109:1
 returns-8 : tie.Need-returns-8
-returns-8 c = let o = own-in (c .before .before .before .before .before .before .before .before .before .before .before .before .before .before .before .args .table .now) (c .before .before .before .before .before .before .before .before .before .before .before .before .before .before .before .pre .0) (c .before .before .before .before .before .before .before .before .before .before .before .before .before .before .before .args .n .0) (c .before .before .before .before .before .before .before .before .before .before .before .before .before .before .before .pre .1) in restarted (c .before .before .before .before .before .before .before .before .before .before .before .before .before .before .before .args .table .now) (c .before .before .before .before .before .before .before .before .before .before .before .before .before .before .before .pre .0) (c .before .before .before .before .before .before .before .before .before .before .before .before .before .before .before .args .n .0) (c .before .before .before .before .before .before .before .before .before .before .before .before .before .before .before .pre .1) (c .before .before .before .before .before .before .before .before .before .before .before .before .before .before .before .args .status .now) (c .before .before .before .before .before .before .before .before .before .before .before .before .before .before .before .args .second .now) (c .before .before .before .before .before .before .before .before .before .before .before .before .before .before .before .args .value .now) (c .before .before .before .before .before .before .before .before .before .before .before .before .before .before .before .args .registers .now) (c .before .before .before .before .before .before .before .before .before .before .before .before .before .before .before .args .occupant .now) (c .before .before .before .before .before .before .before .before .before .before .before .before .before .before .before .args .own .0) (omega (arith, c .before .before .before .before .before .before .before .before .before .before .before .before .before .before .before .pre .2, o .0), omega (arith, c .before .before .before .before .before .before .before .before .before .before .before .before .before .before .before .pre .2, o .1)) (c .before .before .before .before .before .first2 .result .0) (c .before .before .before .before .before .first2 .ensures) _ _ _ _ (c .reset2 .ensures .0) (c .reset2 .ensures .1) (c .reset2 .ensures .2) (c .reset2 .ensures .3) (c .before .before .before .before .before .before .before .before .before .before .before .before .before .before .before .pre .2) (sym (ap (planned (c .before .before .before .before .before .before .before .before .before .before .before .before .before .before .before .args .table .now) (c .before .before .before .before .before .before .before .before .before .before .before .before .before .before .before .args .value .now) (c .before .before .before .before .before .before .before .before .before .before .before .before .before .before .before .args .n .0)) (c .before .before .before .before .before .before .enum-told4 .given .1)) ∙ c .before .before .before .before .before .before .before .before .plan-at .ensures)
+returns-8 c = let o = own-in
+    (c .before .before .before .before .before .before .before .before .before .before .before .before .before .before .before .args
+    .table .now) (c .before .before .before .before .before .before .before .before .before .before .before .before .before .before
+    .before .pre .0) (c .before .before .before .before .before .before .before .before .before .before .before .before .before .before
+    .before .args .n .0) (c .before .before .before .before .before .before .before .before .before .before .before .before .before
+    .before .before .pre .1) in restarted
+    (c .before .before .before .before .before .before .before .before .before .before .before .before .before .before .before .args
+    .table .now) (c .before .before .before .before .before .before .before .before .before .before .before .before .before .before
+    .before .pre .0) (c .before .before .before .before .before .before .before .before .before .before .before .before .before .before
+    .before .args .n .0) (c .before .before .before .before .before .before .before .before .before .before .before .before .before
+    .before .before .pre .1)
+    (c .before .before .before .before .before .before .before .before .before .before .before .before .before .before .before .args
+    .status .now) (c .before .before .before .before .before .before .before .before .before .before .before .before .before .before
+    .before .args .second .now)
+    (c .before .before .before .before .before .before .before .before .before .before .before .before .before .before .before .args
+    .value .now) (c .before .before .before .before .before .before .before .before .before .before .before .before .before .before
+    .before .args .registers .now)
+    (c .before .before .before .before .before .before .before .before .before .before .before .before .before .before .before .args
+    .occupant .now) (c .before .before .before .before .before .before .before .before .before .before .before .before .before .before
+    .before .args .own .0) (
+      omega (
+        arith,
+        c .before .before .before .before .before .before .before .before .before .before .before .before .before .before
+            .before .pre .2,
+        o .0,
+      ),
+      omega (
+        arith,
+        c .before .before .before .before .before .before .before .before .before .before .before .before .before .before .before
+            .pre .2,
+        o .1,
+      ),
+    ) (c .before .before .before .before .before .first2 .result .0)
+    (c .before .before .before .before .before .first2 .ensures) _ _ _ _ (c .reset2 .ensures .0) (c .reset2 .ensures .1)
+    (c .reset2 .ensures .2) (c .reset2 .ensures .3)
+    (c .before .before .before .before .before .before .before .before .before .before .before .before .before .before .before .pre .2)
+    (sym (ap (planned (c .before .before .before .before .before .before .before .before .before .before .before .before .before
+    .before .before .args .table .now)
+    (c .before .before .before .before .before .before .before .before .before .before .before .before .before .before .before .args
+    .value .now) (c .before .before .before .before .before .before .before .before .before .before .before .before .before .before
+    .before .args .n .0)) (c .before .before .before .before .before .before .enum-told4 .given .1)) ∙
+    c .before .before .before .before .before .before .before .before .plan-at .ensures)
 
 pub take-spec : {M : Type 1} → statement M
 take-spec =

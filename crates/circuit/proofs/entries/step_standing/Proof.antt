@@ -9,12 +9,14 @@ use mathlib.Core.Logic.{⊎-elim}
 use lib.ListN.{drop}
 use Rattle.table.specs.Bytes.{functions, nodes}
 use Rattle.table.specs.Survey.{verdictOf}
-use Rattle.circuit.specs.Step.{Stepped}
-use Rattle.circuit.specs.Circuit.{circuitOf}
-use Rattle.circuit.specs.Runs.{runFrom}
+use Rattle.rules.specs.Step.{Stepped}
+use Rattle.rules.specs.Circuit.{circuitOf}
+use Rattle.rules.specs.Runs.{runFrom}
 use Rattle.circuit.specs.Meaning.{numbers, listsOf, replyOf}
 use Rattle.circuit.specs.Plan.{stateAs, Stands, Agreed}
-use Rattle.circuit.proofs.EntryLaws.{stands-from, agreed-from, stray-standing, stand-standing, refused-standing, plus, run-turned, run-goes, run-stops, run-takes, run-answers, run-stands, run-ends, run-begins, named-state, told-stepped}
+use Rattle.circuit.proofs.EntryLaws.{stands-from, agreed-from, stray-standing, stand-standing, refused-standing, plus, run-turned}
+use Rattle.circuit.proofs.EntryLaws.{run-goes, run-stops, run-takes, run-answers, run-stands, run-ends, run-begins, named-state}
+use Rattle.circuit.proofs.EntryLaws.{told-stepped}
 use Rattle.circuit.proofs.TurnLaws.{fair-from, step-is, step-turned}
 use Rattle.circuit.proofs.entries.step_standing.Statement.{statement}
 use Rattle.circuit.proofs.entries.step_standing.Tie as tie
@@ -40,7 +42,28 @@ plain-requires c κs = search needs
 
 -- src/entries.rt:76:9
 turn-requires : tie.Need-turn-requires
-turn-requires c κs = (c .before .before .before .before .before .before .before .before .before .before .before .before .before .before .before .before .before .before .before .before .before .pre .0, c .before .before .before .before .before .before .before .before .before .before .before .before .before .before .before .before .before .before .owners .ensures, c .before .before .before .before .before .before .before .before .before .before .before .before .before .before .before .before .group .ensures, subst (Stands (c .before .before .before .before .before .before .before .before .before .before .before .before .before .before .before .before .before .before .before .before .before .args .table .now)) (sym (λ i. stateAs (c .before .before .before .before .before .before .before .before .before .before .before .before .before .before .before .before .before .before .before .before .before .args .s .status) (c .before .before .before .before .before .before .before .before .before .before .before .before .before .before .before .before .before .before .before .before .before .args .s .second) (c .before .before .before .before .before .before .before .before .before .before .before .before .before .before .before .before .before .before .before .before .before .args .s .value) (c .before .before .before .before .before .before .before .before .before .before .before .before .before .before .before .before .before .before .before .before .before .args .s .registers) (c .before .before .before .before .before .before .before .before .plain .ensures i))) (c .before .before .before .before .before .before .before .before .before .before .before .before .before .before .before .before .before .before .before .before .before .pre .1))
+turn-requires c κs = (
+  c .before .before .before .before .before .before .before .before .before .before .before .before .before .before
+      .before .before .before .before .before .before .before .pre .0,
+  c .before .before .before .before .before .before .before .before .before .before .before .before .before .before .before .before
+      .before .before .owners .ensures,
+  c .before .before .before .before .before .before .before .before .before .before .before .before .before .before .before .before
+      .group .ensures,
+  subst
+      (Stands (c .before .before .before .before .before .before .before .before .before .before .before .before .before .before .before
+      .before .before .before .before .before .before .args .table .now))
+      (sym (λ i. stateAs (c .before .before .before .before .before .before .before .before .before .before .before .before .before
+      .before .before .before .before .before .before .before .before .args .s .status)
+      (c .before .before .before .before .before .before .before .before .before .before .before .before .before .before .before .before
+      .before .before .before .before .before .args .s .second)
+      (c .before .before .before .before .before .before .before .before .before .before .before .before .before .before .before .before
+      .before .before .before .before .before .args .s .value)
+      (c .before .before .before .before .before .before .before .before .before .before .before .before .before .before .before .before
+      .before .before .before .before .before .args .s .registers)
+      (c .before .before .before .before .before .before .before .before .plain .ensures i)))
+      (c .before .before .before .before .before .before .before .before .before .before .before .before .before .before .before .before
+      .before .before .before .before .before .pre .1),
+)
 
 -- src/entries.rt:89:9
 named-requires : tie.Need-named-requires
@@ -48,7 +71,23 @@ named-requires c κs = search needs
 
 -- src/entries.rt:62:1
 returns : tie.Need-returns
-returns c = told-stepped _ _ _ _ (c .named .result) _ (c .named .ensures) (replyOf (c .before .turn .result)) _ (c .before .turn .ensures ∙ ap (λ s. circuitOf (c .before .before .before .before .before .before .before .before .before .before .before .before .before .before .before .before .before .before .before .before .before .before .before .args .table .now) (c .before .before .before .before .before .before .before .before .before .before .before .before .before .before .before .before .before .before .before .before .before .before .before .args .tags .now) s (c .before .before .before .before .before .before .before .before .before .before .before .before .before .before .before .before .before .before .before .before .before .before .before .args .n .0)) (λ i. stateAs (c .before .before .before .before .before .before .before .before .before .before .before .before .before .before .before .before .before .before .before .before .before .before .before .args .s .status) (c .before .before .before .before .before .before .before .before .before .before .before .before .before .before .before .before .before .before .before .before .before .before .before .args .s .second) (c .before .before .before .before .before .before .before .before .before .before .before .before .before .before .before .before .before .before .before .before .before .before .before .args .s .value) (c .before .before .before .before .before .before .before .before .before .before .before .before .before .before .before .before .before .before .before .before .before .before .before .args .s .registers) (c .before .before .before .before .before .before .before .before .before .before .plain .ensures i)))
+returns c = told-stepped _ _ _ _ (c .named .result) _ (c .named .ensures) (replyOf (c .before .turn .result)) _
+    (c .before .turn .ensures ∙ ap
+    (λ s. circuitOf (c .before .before .before .before .before .before .before .before .before .before .before .before .before .before
+    .before .before .before .before .before .before .before .before .before .args .table .now)
+    (c .before .before .before .before .before .before .before .before .before .before .before .before .before .before .before .before
+    .before .before .before .before .before .before .before .args .tags .now) s
+    (c .before .before .before .before .before .before .before .before .before .before .before .before .before .before .before .before
+    .before .before .before .before .before .before .before .args .n .0))
+    (λ i. stateAs (c .before .before .before .before .before .before .before .before .before .before .before .before .before .before
+    .before .before .before .before .before .before .before .before .before .args .s .status)
+    (c .before .before .before .before .before .before .before .before .before .before .before .before .before .before .before .before
+    .before .before .before .before .before .before .before .args .s .second)
+    (c .before .before .before .before .before .before .before .before .before .before .before .before .before .before .before .before
+    .before .before .before .before .before .before .before .args .s .value)
+    (c .before .before .before .before .before .before .before .before .before .before .before .before .before .before .before .before
+    .before .before .before .before .before .before .before .args .s .registers)
+    (c .before .before .before .before .before .before .before .before .before .before .plain .ensures i)))
 
 pub step-standing-spec : {M : Type 1} → statement M
 step-standing-spec =

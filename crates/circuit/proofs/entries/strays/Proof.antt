@@ -8,7 +8,7 @@ use mathlib.Core.Bool.{true, false, _||_}
 use lib.ListN.{take, drop, replicate, length-replicate, length-map, length-set, List·getD-map}
 use Rattle.table.proofs.Copied.{copied-more, copied-all}
 use Rattle.table.specs.Bytes.{functions, nodes}
-use Rattle.circuit.specs.Step.{over, refusal}
+use Rattle.rules.specs.Step.{over, refusal}
 use Rattle.circuit.specs.Meaning.{numbers, listsOf, replyOf}
 use Rattle.circuit.specs.Plan.{stateAs, strayIn, asNode}
 use Rattle.circuit.proofs.EntryLaws.{numbered, owners-told, stands-from, step-stray}
@@ -32,7 +32,10 @@ strays-requires c κs = search needs
 
 -- src/entries.rt:34:1
 returns : tie.Need-returns
-returns c = c .strays .ensures ∙ ap (λ l. over 3 (nodes (c .before .before .before .before .before .before .before .args .table .now)) (c .before .before .before .before .before .before .before .args .s .status) || over (nodes (c .before .before .before .before .before .before .before .args .table .now)) (functions (c .before .before .before .before .before .before .before .args .table .now)) l) (c .before .before .before .plain .ensures)
+returns c = c .strays .ensures ∙ ap (λ l. over 3 (nodes (c .before .before .before .before .before .before .before .args .table .now))
+    (c .before .before .before .before .before .before .before .args .s .status) || over
+    (nodes (c .before .before .before .before .before .before .before .args .table .now))
+    (functions (c .before .before .before .before .before .before .before .args .table .now)) l) (c .before .before .before .plain .ensures)
 
 pub strays-spec : {M : Type 1} → statement M
 strays-spec = tie.close (tie.spec plain-requires strays-requires returns)

@@ -1,14 +1,21 @@
-use Rattle.circuit.proofs.PlanLaws.{pass-yes, pass-no, self-yes, self-no, prim-yes, prim-no, leave-yes, leave-no, enter-not, enter-held, enter-yes, branch-else, branch-then, branch-small, taken-branch, cond-pass, cond-turn, cond-wait, bind-pass, bind-turn, bind-wait, open-const, open-param, open-bound, open-other, busy-prim, busy-call, busy-if, busy-let, busy-other, at-open, at-busy, at-rest, of-none, of-last, of-two, of-other}
+use Rattle.circuit.proofs.PlanLaws.{pass-yes, pass-no, self-yes, self-no, prim-yes, prim-no, leave-yes, leave-no, enter-not}
+use Rattle.circuit.proofs.PlanLaws.{enter-held, enter-yes, branch-else, branch-then, branch-small, taken-branch, cond-pass}
+use Rattle.circuit.proofs.PlanLaws.{cond-turn, cond-wait, bind-pass, bind-turn, bind-wait, open-const, open-param, open-bound}
+use Rattle.circuit.proofs.PlanLaws.{open-other, busy-prim, busy-call, busy-if, busy-let, busy-other, at-open, at-busy, at-rest}
+use Rattle.circuit.proofs.PlanLaws.{of-none, of-last, of-two, of-other}
 use Rattle.table.specs.Bytes.{nodes, kind, word, first, next, root}
 use Rattle.table.specs.Naming.{owner, chain}
 use Rattle.table.specs.Pick.{pick}
 use lib.Dec.{eqb}
-use Rattle.circuit.specs.State.{entry}
+use Rattle.rules.specs.State.{entry}
 use Rattle.circuit.specs.Plan.{planned, stateAs, openBy, busyBy, selfBy, callBy, actBy}
 use Rattle.circuit.proofs.ChainLaws.{ok, first-in, next-in}
-use Rattle.table.proofs.Tests.{eqb-yes, eqb-no}
 use Rattle.circuit.proofs.ActBy.{own-in, callee-in, three-in, let-in, bound-in, act-is}
-use Rattle.circuit.proofs.PlanLaws.{pass-yes, pass-no, self-yes, self-no, prim-yes, prim-no, leave-yes, leave-no, enter-not, enter-held, enter-yes, branch-else, branch-then, taken-branch, cond-pass, cond-turn, cond-wait, bind-pass, bind-turn, bind-wait, open-const, open-param, open-bound, open-other, busy-prim, busy-call, busy-if, busy-let, busy-other, at-open, at-busy, at-rest, of-none, of-last, of-two, of-other}
+use Rattle.circuit.proofs.PlanLaws.{pass-yes, pass-no, self-yes, self-no, prim-yes, prim-no, leave-yes, leave-no, enter-not}
+use Rattle.circuit.proofs.PlanLaws.{enter-held, enter-yes, branch-else, branch-then, taken-branch, cond-pass, cond-turn, cond-wait}
+use Rattle.circuit.proofs.PlanLaws.{bind-pass, bind-turn, bind-wait, open-const, open-param, open-bound, open-other, busy-prim}
+use Rattle.circuit.proofs.PlanLaws.{busy-call, busy-if, busy-let, busy-other, at-open, at-busy, at-rest, of-none, of-last, of-two}
+use Rattle.circuit.proofs.PlanLaws.{of-other}
 use borrow.Author.Tests.{eq-eqb, ne-eqb, le-leb, lt-leb, lt-ltb, le-ltb, not-true, not-false}
 use native.Mathlib.Omega.{arith}
 use mathlib.Core.Path.{_≡_, refl, sym, ap, subst, _∙_}
@@ -54,7 +61,8 @@ returns c = c .wrapping-add-u32 .ensures ∙ sym (rw (c .before .match .keys1))
 -- src/operations.rt:7:1
 returns-2 : tie.Need-returns-2
 unfolding operateBy
-returns-2 c = subtracted (c .before .before .args .x) (c .before .before .args .y) _ (omega arith) (omega arith) (omega arith) (c .wrapping-sub-u32 .ensures) ∙ sym (rw (c .before .match .keys2))
+returns-2 c = subtracted (c .before .before .args .x) (c .before .before .args .y) _ (omega arith) (omega arith) (omega arith)
+    (c .wrapping-sub-u32 .ensures) ∙ sym (rw (c .before .match .keys2))
 
 -- src/operations.rt:7:1
 returns-3 : tie.Need-returns-3
@@ -98,7 +106,9 @@ returns-10 c = c .number2 .ensures ∙ sym (rw (c .before .match .keys10))
 
 -- src/operations.rt:7:1
 returns-11 : tie.Need-returns-11
-returns-11 c = let m = c .match .rest in of-other (c .before .args .op) (c .before .args .x) (c .before .args .y) (c .before .args .last) (m .0 .0 .0 .0 .0 .0 .0 .0 .0 .1) (m .0 .0 .0 .0 .0 .0 .0 .0 .1) (m .0 .0 .0 .0 .0 .0 .0 .1) (m .0 .0 .0 .0 .0 .0 .1) (m .0 .0 .0 .0 .0 .1) (m .0 .0 .0 .0 .1) (m .0 .0 .0 .1) (m .0 .0 .1) (m .0 .1) (m .1)
+returns-11 c = let m = c .match .rest in of-other (c .before .args .op) (c .before .args .x) (c .before .args .y)
+    (c .before .args .last) (m .0 .0 .0 .0 .0 .0 .0 .0 .0 .1) (m .0 .0 .0 .0 .0 .0 .0 .0 .1) (m .0 .0 .0 .0 .0 .0 .0 .1)
+    (m .0 .0 .0 .0 .0 .0 .1) (m .0 .0 .0 .0 .0 .1) (m .0 .0 .0 .0 .1) (m .0 .0 .0 .1) (m .0 .0 .1) (m .0 .1) (m .1)
 
 pub of-two-spec : {M : Type 1} → statement M
 of-two-spec =

@@ -1,4 +1,8 @@
-use Rattle.circuit.proofs.PlanLaws.{pass-yes, pass-no, self-yes, self-no, prim-yes, prim-no, leave-yes, leave-no, enter-not, enter-held, enter-yes, branch-else, branch-then, branch-small, taken-branch, cond-pass, cond-turn, cond-wait, bind-pass, bind-turn, bind-wait, open-const, open-param, open-bound, open-other, busy-prim, busy-call, busy-if, busy-let, busy-other, at-open, at-busy, at-rest, of-none, of-last, of-two, of-other}
+use Rattle.circuit.proofs.PlanLaws.{pass-yes, pass-no, self-yes, self-no, prim-yes, prim-no, leave-yes, leave-no, enter-not}
+use Rattle.circuit.proofs.PlanLaws.{enter-held, enter-yes, branch-else, branch-then, branch-small, taken-branch, cond-pass}
+use Rattle.circuit.proofs.PlanLaws.{cond-turn, cond-wait, bind-pass, bind-turn, bind-wait, open-const, open-param, open-bound}
+use Rattle.circuit.proofs.PlanLaws.{open-other, busy-prim, busy-call, busy-if, busy-let, busy-other, at-open, at-busy, at-rest}
+use Rattle.circuit.proofs.PlanLaws.{of-none, of-last, of-two, of-other}
 use borrow.Author.Tests.{eq-eqb, ne-eqb, le-leb, lt-leb, lt-ltb, le-ltb, not-true, not-false}
 use native.Mathlib.Omega.{arith}
 use mathlib.Core.Path.{_≡_, refl, sym, ap, subst, _∙_}
@@ -8,12 +12,15 @@ use Rattle.table.specs.Bytes.{nodes, kind, word, first, next, root}
 use Rattle.table.specs.Naming.{owner, chain}
 use Rattle.table.specs.Pick.{pick}
 use lib.Dec.{eqb}
-use Rattle.circuit.specs.State.{entry}
+use Rattle.rules.specs.State.{entry}
 use Rattle.circuit.specs.Plan.{planned, stateAs, openBy, busyBy, selfBy, callBy, actBy}
 use Rattle.circuit.proofs.ChainLaws.{ok, first-in, next-in}
-use Rattle.table.proofs.Tests.{eqb-yes, eqb-no}
 use Rattle.circuit.proofs.ActBy.{own-in, callee-in, three-in, let-in, bound-in, act-is}
-use Rattle.circuit.proofs.PlanLaws.{pass-yes, pass-no, self-yes, self-no, prim-yes, prim-no, leave-yes, leave-no, enter-not, enter-held, enter-yes, branch-else, branch-then, taken-branch, cond-pass, cond-turn, cond-wait, bind-pass, bind-turn, bind-wait, open-const, open-param, open-bound, open-other, busy-prim, busy-call, busy-if, busy-let, busy-other, at-open, at-busy, at-rest, of-none, of-last, of-two, of-other}
+use Rattle.circuit.proofs.PlanLaws.{pass-yes, pass-no, self-yes, self-no, prim-yes, prim-no, leave-yes, leave-no, enter-not}
+use Rattle.circuit.proofs.PlanLaws.{enter-held, enter-yes, branch-else, branch-then, taken-branch, cond-pass, cond-turn, cond-wait}
+use Rattle.circuit.proofs.PlanLaws.{bind-pass, bind-turn, bind-wait, open-const, open-param, open-bound, open-other, busy-prim}
+use Rattle.circuit.proofs.PlanLaws.{busy-call, busy-if, busy-let, busy-other, at-open, at-busy, at-rest, of-none, of-last, of-two}
+use Rattle.circuit.proofs.PlanLaws.{of-other}
 use borrow.Author.Needs.{needs}
 use Rattle.circuit.proofs.plan.across.Statement.{statement}
 use Rattle.circuit.proofs.plan.across.Tie as tie
@@ -37,19 +44,60 @@ root-requires c κs = search needs
 
 -- src/plan.rt:162:12
 status-at-requires : tie.Need-status-at-requires
-status-at-requires c κs = omega (arith, c .root .ensures ∙ ap (root (c .before .before .before .before .args .table .now)) (c .before .before .before .before .pre .3), ok (c .before .before .before .before .args .table .now) (c .before .before .before .before .pre .0) .linking .roots _ (callee-in (c .before .before .before .before .args .table .now) (c .before .before .before .before .pre .0) (c .before .before .before .before .args .n .0) (c .before .before .before .before .pre .1) (c .before .before .before .before .pre .2)) .1, ok (c .before .before .before .before .args .table .now) (c .before .before .before .before .pre .0) .N-high)
+status-at-requires c κs = omega (
+  arith,
+  c .root .ensures ∙ ap (root (c .before .before .before .before .args .table .now))
+      (c .before .before .before .before .pre .3),
+  ok (c .before .before .before .before .args .table .now)
+      (c .before .before .before .before .pre .0) .linking .roots _
+      (callee-in (c .before .before .before .before .args .table .now) (c .before .before .before .before .pre .0)
+      (c .before .before .before .before .args .n .0) (c .before .before .before .before .pre .1)
+      (c .before .before .before .before .pre .2)) .1,
+  ok (c .before .before .before .before .args .table .now)
+      (c .before .before .before .before .pre .0) .N-high,
+)
 
 -- src/plan.rt:163:13
 returns : tie.Need-returns
-returns c = leave-no (c .before .before .before .before .before .before .args .table .now) (c .before .before .before .before .before .before .args .status .now) (c .before .before .before .before .before .before .args .second .now) (c .before .before .before .before .before .before .args .value .now) (c .before .before .before .before .before .before .args .occupant .now) (c .before .before .before .before .before .before .args .n .0) (c .before .before .before .before .before .before .args .g .0) (c .before .before .before .before .before .before .pre .3) (c .before .before .before .before .second-at .result) (c .before .before .before .before .second-at .ensures) (c .before .before .before .if1 .taken) (c .before .before .root .result .0) (c .before .before .root .ensures) (c .before .status-at .result) (c .before .status-at .ensures) (c .if2 .taken)
+returns c = leave-no (c .before .before .before .before .before .before .args .table .now)
+    (c .before .before .before .before .before .before .args .status .now)
+    (c .before .before .before .before .before .before .args .second .now)
+    (c .before .before .before .before .before .before .args .value .now)
+    (c .before .before .before .before .before .before .args .occupant .now)
+    (c .before .before .before .before .before .before .args .n .0) (c .before .before .before .before .before .before .args .g .0)
+    (c .before .before .before .before .before .before .pre .3) (c .before .before .before .before .second-at .result)
+    (c .before .before .before .before .second-at .ensures) (c .before .before .before .if1 .taken) (c .before .before .root .result .0)
+    (c .before .before .root .ensures) (c .before .status-at .result) (c .before .status-at .ensures) (c .if2 .taken)
 
 -- src/plan.rt:165:32
 value-at-requires : tie.Need-value-at-requires
-value-at-requires c κs = omega (arith, c .before .before .root .ensures ∙ ap (root (c .before .before .before .before .before .before .args .table .now)) (c .before .before .before .before .before .before .pre .3), ok (c .before .before .before .before .before .before .args .table .now) (c .before .before .before .before .before .before .pre .0) .linking .roots _ (callee-in (c .before .before .before .before .before .before .args .table .now) (c .before .before .before .before .before .before .pre .0) (c .before .before .before .before .before .before .args .n .0) (c .before .before .before .before .before .before .pre .1) (c .before .before .before .before .before .before .pre .2)) .1, ok (c .before .before .before .before .before .before .args .table .now) (c .before .before .before .before .before .before .pre .0) .N-high)
+value-at-requires c κs = omega (
+  arith,
+  c .before .before .root .ensures ∙ ap (root
+      (c .before .before .before .before .before .before .args .table .now)) (c .before .before .before .before .before .before .pre .3),
+  ok (c .before .before .before .before .before .before .args .table .now)
+      (c .before .before .before .before .before .before .pre .0) .linking .roots _
+      (callee-in (c .before .before .before .before .before .before .args .table .now)
+      (c .before .before .before .before .before .before .pre .0) (c .before .before .before .before .before .before .args .n .0)
+      (c .before .before .before .before .before .before .pre .1) (c .before .before .before .before .before .before .pre .2)) .1,
+  ok
+      (c .before .before .before .before .before .before .args .table .now)
+      (c .before .before .before .before .before .before .pre .0) .N-high,
+)
 
 -- src/plan.rt:165:9
 returns-2 : tie.Need-returns-2
-returns-2 c = leave-yes (c .before .before .before .before .before .before .before .args .table .now) (c .before .before .before .before .before .before .before .args .status .now) (c .before .before .before .before .before .before .before .args .second .now) (c .before .before .before .before .before .before .before .args .value .now) (c .before .before .before .before .before .before .before .args .occupant .now) (c .before .before .before .before .before .before .before .args .n .0) (c .before .before .before .before .before .before .before .args .g .0) (c .before .before .before .before .before .before .before .pre .3) (c .before .before .before .before .before .second-at .result) (c .before .before .before .before .before .second-at .ensures) (c .before .before .before .before .if1 .taken) (c .before .before .before .root .result .0) (c .before .before .before .root .ensures) (c .before .before .status-at .result) (c .before .before .status-at .ensures) (c .before .if2 .left) (c .value-at .result) (c .value-at .ensures)
+returns-2 c = leave-yes (c .before .before .before .before .before .before .before .args .table .now)
+    (c .before .before .before .before .before .before .before .args .status .now)
+    (c .before .before .before .before .before .before .before .args .second .now)
+    (c .before .before .before .before .before .before .before .args .value .now)
+    (c .before .before .before .before .before .before .before .args .occupant .now)
+    (c .before .before .before .before .before .before .before .args .n .0)
+    (c .before .before .before .before .before .before .before .args .g .0)
+    (c .before .before .before .before .before .before .before .pre .3) (c .before .before .before .before .before .second-at .result)
+    (c .before .before .before .before .before .second-at .ensures) (c .before .before .before .before .if1 .taken)
+    (c .before .before .before .root .result .0) (c .before .before .before .root .ensures) (c .before .before .status-at .result)
+    (c .before .before .status-at .ensures) (c .before .if2 .left) (c .value-at .result) (c .value-at .ensures)
 
 -- src/plan.rt:167:9
 first-requires : tie.Need-first-requires
@@ -57,23 +105,70 @@ first-requires c κs = search needs
 
 -- src/plan.rt:168:9
 all-done-requires : tie.Need-all-done-requires
-all-done-requires c κs = (c .before .before .before .before .pre .0, first-in (c .before .before .before .before .args .table .now) (c .before .before .before .before .pre .0) (c .before .before .before .before .args .n .0) (c .before .before .before .before .pre .1) _ (c .first .ensures))
+all-done-requires c κs = (
+  c .before .before .before .before .pre .0,
+  first-in (c .before .before .before .before .args .table .now)
+      (c .before .before .before .before .pre .0) (c .before .before .before .before .args .n .0)
+      (c .before .before .before .before .pre .1) _ (c .first .ensures),
+)
 
 -- src/plan.rt:169:9
 returns-3 : tie.Need-returns-3
-returns-3 c = enter-not (c .before .before .before .before .before .before .args .table .now) (c .before .before .before .before .before .before .args .status .now) (c .before .before .before .before .before .before .args .second .now) (c .before .before .before .before .before .before .args .value .now) (c .before .before .before .before .before .before .args .occupant .now) (c .before .before .before .before .before .before .args .n .0) (c .before .before .before .before .before .before .args .g .0) (c .before .before .before .before .before .before .pre .3) (c .before .before .before .before .second-at .result) (c .before .before .before .before .second-at .ensures) (c .before .before .before .if1 .left) (c .before .before .first .result .0) (c .before .before .first .ensures) (c .before .all-done .result) (c .before .all-done .ensures) (not-true _ (c .if3 .taken))
+returns-3 c = enter-not (c .before .before .before .before .before .before .args .table .now)
+    (c .before .before .before .before .before .before .args .status .now)
+    (c .before .before .before .before .before .before .args .second .now)
+    (c .before .before .before .before .before .before .args .value .now)
+    (c .before .before .before .before .before .before .args .occupant .now)
+    (c .before .before .before .before .before .before .args .n .0) (c .before .before .before .before .before .before .args .g .0)
+    (c .before .before .before .before .before .before .pre .3) (c .before .before .before .before .second-at .result)
+    (c .before .before .before .before .second-at .ensures) (c .before .before .before .if1 .left) (c .before .before .first .result .0)
+    (c .before .before .first .ensures) (c .before .all-done .result) (c .before .all-done .ensures) (not-true _ (c .if3 .taken))
 
 -- src/plan.rt:171:8
 occupant-at-requires : tie.Need-occupant-at-requires
-occupant-at-requires c κs = omega (arith, c .before .before .before .before .before .before .pre .3, (callee-in (c .before .before .before .before .before .before .args .table .now) (c .before .before .before .before .before .before .pre .0) (c .before .before .before .before .before .before .args .n .0) (c .before .before .before .before .before .before .pre .1) (c .before .before .before .before .before .before .pre .2)) .1, ok (c .before .before .before .before .before .before .args .table .now) (c .before .before .before .before .before .before .pre .0) .F-high)
+occupant-at-requires c κs = omega (
+  arith,
+  c .before .before .before .before .before .before .pre .3,
+  (callee-in
+      (c .before .before .before .before .before .before .args .table .now) (c .before .before .before .before .before .before .pre .0)
+      (c .before .before .before .before .before .before .args .n .0) (c .before .before .before .before .before .before .pre .1)
+      (c .before .before .before .before .before .before .pre .2)) .1,
+  ok
+      (c .before .before .before .before .before .before .args .table .now)
+      (c .before .before .before .before .before .before .pre .0) .F-high,
+)
 
 -- src/plan.rt:172:9
 returns-4 : tie.Need-returns-4
-returns-4 c = enter-held (c .before .before .before .before .before .before .before .before .args .table .now) (c .before .before .before .before .before .before .before .before .args .status .now) (c .before .before .before .before .before .before .before .before .args .second .now) (c .before .before .before .before .before .before .before .before .args .value .now) (c .before .before .before .before .before .before .before .before .args .occupant .now) (c .before .before .before .before .before .before .before .before .args .n .0) (c .before .before .before .before .before .before .before .before .args .g .0) (c .before .before .before .before .before .before .before .before .pre .3) (c .before .before .before .before .before .before .second-at .result) (c .before .before .before .before .before .before .second-at .ensures) (c .before .before .before .before .before .if1 .left) (c .before .before .before .before .first .result .0) (c .before .before .before .before .first .ensures) (c .before .before .before .all-done .result) (c .before .before .before .all-done .ensures) (not-false _ (c .before .before .if3 .left)) (c .before .occupant-at .result) (c .before .occupant-at .ensures) (c .if4 .taken)
+returns-4 c = enter-held (c .before .before .before .before .before .before .before .before .args .table .now)
+    (c .before .before .before .before .before .before .before .before .args .status .now)
+    (c .before .before .before .before .before .before .before .before .args .second .now)
+    (c .before .before .before .before .before .before .before .before .args .value .now)
+    (c .before .before .before .before .before .before .before .before .args .occupant .now)
+    (c .before .before .before .before .before .before .before .before .args .n .0)
+    (c .before .before .before .before .before .before .before .before .args .g .0)
+    (c .before .before .before .before .before .before .before .before .pre .3)
+    (c .before .before .before .before .before .before .second-at .result)
+    (c .before .before .before .before .before .before .second-at .ensures) (c .before .before .before .before .before .if1 .left)
+    (c .before .before .before .before .first .result .0) (c .before .before .before .before .first .ensures)
+    (c .before .before .before .all-done .result) (c .before .before .before .all-done .ensures)
+    (not-false _ (c .before .before .if3 .left)) (c .before .occupant-at .result) (c .before .occupant-at .ensures) (c .if4 .taken)
 
 -- src/plan.rt:147:1
 returns-5 : tie.Need-returns-5
-returns-5 c = enter-yes (c .before .before .before .before .before .before .before .before .args .table .now) (c .before .before .before .before .before .before .before .before .args .status .now) (c .before .before .before .before .before .before .before .before .args .second .now) (c .before .before .before .before .before .before .before .before .args .value .now) (c .before .before .before .before .before .before .before .before .args .occupant .now) (c .before .before .before .before .before .before .before .before .args .n .0) (c .before .before .before .before .before .before .before .before .args .g .0) (c .before .before .before .before .before .before .before .before .pre .3) (c .before .before .before .before .before .before .second-at .result) (c .before .before .before .before .before .before .second-at .ensures) (c .before .before .before .before .before .if1 .left) (c .before .before .before .before .first .result .0) (c .before .before .before .before .first .ensures) (c .before .before .before .all-done .result) (c .before .before .before .all-done .ensures) (not-false _ (c .before .before .if3 .left)) (c .before .occupant-at .result) (c .before .occupant-at .ensures) (c .if4 .left)
+returns-5 c = enter-yes (c .before .before .before .before .before .before .before .before .args .table .now)
+    (c .before .before .before .before .before .before .before .before .args .status .now)
+    (c .before .before .before .before .before .before .before .before .args .second .now)
+    (c .before .before .before .before .before .before .before .before .args .value .now)
+    (c .before .before .before .before .before .before .before .before .args .occupant .now)
+    (c .before .before .before .before .before .before .before .before .args .n .0)
+    (c .before .before .before .before .before .before .before .before .args .g .0)
+    (c .before .before .before .before .before .before .before .before .pre .3)
+    (c .before .before .before .before .before .before .second-at .result)
+    (c .before .before .before .before .before .before .second-at .ensures) (c .before .before .before .before .before .if1 .left)
+    (c .before .before .before .before .first .result .0) (c .before .before .before .before .first .ensures)
+    (c .before .before .before .all-done .result) (c .before .before .before .all-done .ensures)
+    (not-false _ (c .before .before .if3 .left)) (c .before .occupant-at .result) (c .before .occupant-at .ensures) (c .if4 .left)
 
 pub across-spec : {M : Type 1} → statement M
 across-spec =

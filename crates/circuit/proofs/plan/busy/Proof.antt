@@ -1,4 +1,8 @@
-use Rattle.circuit.proofs.PlanLaws.{pass-yes, pass-no, self-yes, self-no, prim-yes, prim-no, leave-yes, leave-no, enter-not, enter-held, enter-yes, branch-else, branch-then, branch-small, taken-branch, cond-pass, cond-turn, cond-wait, bind-pass, bind-turn, bind-wait, open-const, open-param, open-bound, open-other, busy-prim, busy-call, busy-if, busy-let, busy-other, at-open, at-busy, at-rest, of-none, of-last, of-two, of-other}
+use Rattle.circuit.proofs.PlanLaws.{pass-yes, pass-no, self-yes, self-no, prim-yes, prim-no, leave-yes, leave-no, enter-not}
+use Rattle.circuit.proofs.PlanLaws.{enter-held, enter-yes, branch-else, branch-then, branch-small, taken-branch, cond-pass}
+use Rattle.circuit.proofs.PlanLaws.{cond-turn, cond-wait, bind-pass, bind-turn, bind-wait, open-const, open-param, open-bound}
+use Rattle.circuit.proofs.PlanLaws.{open-other, busy-prim, busy-call, busy-if, busy-let, busy-other, at-open, at-busy, at-rest}
+use Rattle.circuit.proofs.PlanLaws.{of-none, of-last, of-two, of-other}
 use borrow.Author.Tests.{eq-eqb, ne-eqb, le-leb, lt-leb, lt-ltb, le-ltb, not-true, not-false}
 use native.Mathlib.Omega.{arith}
 use mathlib.Core.Path.{_≡_, refl, sym, ap, subst, _∙_}
@@ -8,12 +12,15 @@ use Rattle.table.specs.Bytes.{nodes, kind, word, first, next, root}
 use Rattle.table.specs.Naming.{owner, chain}
 use Rattle.table.specs.Pick.{pick}
 use lib.Dec.{eqb}
-use Rattle.circuit.specs.State.{entry}
+use Rattle.rules.specs.State.{entry}
 use Rattle.circuit.specs.Plan.{planned, stateAs, openBy, busyBy, selfBy, callBy, actBy}
 use Rattle.circuit.proofs.ChainLaws.{ok, first-in, next-in}
-use Rattle.table.proofs.Tests.{eqb-yes, eqb-no}
 use Rattle.circuit.proofs.ActBy.{own-in, callee-in, three-in, let-in, bound-in, act-is}
-use Rattle.circuit.proofs.PlanLaws.{pass-yes, pass-no, self-yes, self-no, prim-yes, prim-no, leave-yes, leave-no, enter-not, enter-held, enter-yes, branch-else, branch-then, taken-branch, cond-pass, cond-turn, cond-wait, bind-pass, bind-turn, bind-wait, open-const, open-param, open-bound, open-other, busy-prim, busy-call, busy-if, busy-let, busy-other, at-open, at-busy, at-rest, of-none, of-last, of-two, of-other}
+use Rattle.circuit.proofs.PlanLaws.{pass-yes, pass-no, self-yes, self-no, prim-yes, prim-no, leave-yes, leave-no, enter-not}
+use Rattle.circuit.proofs.PlanLaws.{enter-held, enter-yes, branch-else, branch-then, taken-branch, cond-pass, cond-turn, cond-wait}
+use Rattle.circuit.proofs.PlanLaws.{bind-pass, bind-turn, bind-wait, open-const, open-param, open-bound, open-other, busy-prim}
+use Rattle.circuit.proofs.PlanLaws.{busy-call, busy-if, busy-let, busy-other, at-open, at-busy, at-rest, of-none, of-last, of-two}
+use Rattle.circuit.proofs.PlanLaws.{of-other}
 use borrow.Author.Needs.{needs}
 use Rattle.circuit.proofs.plan.busy.Statement.{statement}
 use Rattle.circuit.proofs.plan.busy.Tie as tie
@@ -35,35 +42,66 @@ busy-primitive-requires c κs = (c .before .before .before .pre .0, c .before .b
 
 -- src/plan.rt:89:14
 busy-call-requires : tie.Need-busy-call-requires
-busy-call-requires c κs = (c .before .before .before .pre .0, c .before .before .before .pre .1, c .before .before .before .pre .2, sym (c .before .kind .ensures) ∙ c .match .keys2)
+busy-call-requires c κs = (
+  c .before .before .before .pre .0,
+  c .before .before .before .pre .1,
+  c .before .before .before .pre .2,
+  sym
+      (c .before .kind .ensures) ∙ c .match .keys2,
+)
 
 -- src/plan.rt:90:14
 busy-if-requires : tie.Need-busy-if-requires
-busy-if-requires c κs = (c .before .before .before .pre .0, c .before .before .before .pre .1, sym (c .before .kind .ensures) ∙ c .match .keys3)
+busy-if-requires c κs = (
+  c .before .before .before .pre .0,
+  c .before .before .before .pre .1,
+  sym (c .before .kind .ensures) ∙
+      c .match .keys3,
+)
 
 -- src/plan.rt:91:14
 busy-let-requires : tie.Need-busy-let-requires
-busy-let-requires c κs = (c .before .before .before .pre .0, c .before .before .before .pre .1, sym (c .before .kind .ensures) ∙ c .match .keys4)
+busy-let-requires c κs = (
+  c .before .before .before .pre .0,
+  c .before .before .before .pre .1,
+  sym (c .before .kind .ensures) ∙
+      c .match .keys4,
+)
 
 -- src/plan.rt:73:1
 returns : tie.Need-returns
-returns c = busy-prim (c .before .before .before .before .args .table .now) (c .before .before .before .before .args .status .now) (c .before .before .before .before .args .second .now) (c .before .before .before .before .args .value .now) (c .before .before .before .before .args .occupant .now) (c .before .before .before .before .args .n .0) (c .before .before .kind .result) (c .before .before .kind .ensures) _ (c .before .match .keys1) (c .busy-primitive .ensures)
+returns c = busy-prim (c .before .before .before .before .args .table .now) (c .before .before .before .before .args .status .now)
+    (c .before .before .before .before .args .second .now) (c .before .before .before .before .args .value .now)
+    (c .before .before .before .before .args .occupant .now) (c .before .before .before .before .args .n .0)
+    (c .before .before .kind .result) (c .before .before .kind .ensures) _ (c .before .match .keys1) (c .busy-primitive .ensures)
 
 -- src/plan.rt:73:1
 returns-2 : tie.Need-returns-2
-returns-2 c = busy-call (c .before .before .before .before .args .table .now) (c .before .before .before .before .args .status .now) (c .before .before .before .before .args .second .now) (c .before .before .before .before .args .value .now) (c .before .before .before .before .args .occupant .now) (c .before .before .before .before .args .n .0) (c .before .before .kind .result) (c .before .before .kind .ensures) _ (c .before .match .keys2) (c .busy-call .ensures)
+returns-2 c = busy-call (c .before .before .before .before .args .table .now) (c .before .before .before .before .args .status .now)
+    (c .before .before .before .before .args .second .now) (c .before .before .before .before .args .value .now)
+    (c .before .before .before .before .args .occupant .now) (c .before .before .before .before .args .n .0)
+    (c .before .before .kind .result) (c .before .before .kind .ensures) _ (c .before .match .keys2) (c .busy-call .ensures)
 
 -- src/plan.rt:73:1
 returns-3 : tie.Need-returns-3
-returns-3 c = busy-if (c .before .before .before .before .args .table .now) (c .before .before .before .before .args .status .now) (c .before .before .before .before .args .second .now) (c .before .before .before .before .args .value .now) (c .before .before .before .before .args .occupant .now) (c .before .before .before .before .args .n .0) (c .before .before .kind .result) (c .before .before .kind .ensures) _ (c .before .match .keys3) (c .busy-if .ensures)
+returns-3 c = busy-if (c .before .before .before .before .args .table .now) (c .before .before .before .before .args .status .now)
+    (c .before .before .before .before .args .second .now) (c .before .before .before .before .args .value .now)
+    (c .before .before .before .before .args .occupant .now) (c .before .before .before .before .args .n .0)
+    (c .before .before .kind .result) (c .before .before .kind .ensures) _ (c .before .match .keys3) (c .busy-if .ensures)
 
 -- src/plan.rt:73:1
 returns-4 : tie.Need-returns-4
-returns-4 c = busy-let (c .before .before .before .before .args .table .now) (c .before .before .before .before .args .status .now) (c .before .before .before .before .args .second .now) (c .before .before .before .before .args .value .now) (c .before .before .before .before .args .occupant .now) (c .before .before .before .before .args .n .0) (c .before .before .kind .result) (c .before .before .kind .ensures) _ (c .before .match .keys4) (c .busy-let .ensures)
+returns-4 c = busy-let (c .before .before .before .before .args .table .now) (c .before .before .before .before .args .status .now)
+    (c .before .before .before .before .args .second .now) (c .before .before .before .before .args .value .now)
+    (c .before .before .before .before .args .occupant .now) (c .before .before .before .before .args .n .0)
+    (c .before .before .kind .result) (c .before .before .kind .ensures) _ (c .before .match .keys4) (c .busy-let .ensures)
 
 -- src/plan.rt:73:1
 returns-5 : tie.Need-returns-5
-returns-5 c = busy-other (c .before .before .before .args .table .now) (c .before .before .before .args .status .now) (c .before .before .before .args .second .now) (c .before .before .before .args .value .now) (c .before .before .before .args .occupant .now) (c .before .before .before .args .n .0) (c .before .kind .result) (c .before .kind .ensures) (c .match .rest .0 .0 .0 .1) (c .match .rest .0 .0 .1) (c .match .rest .0 .1) (c .match .rest .1)
+returns-5 c = busy-other (c .before .before .before .args .table .now) (c .before .before .before .args .status .now)
+    (c .before .before .before .args .second .now) (c .before .before .before .args .value .now)
+    (c .before .before .before .args .occupant .now) (c .before .before .before .args .n .0) (c .before .kind .result)
+    (c .before .kind .ensures) (c .match .rest .0 .0 .0 .1) (c .match .rest .0 .0 .1) (c .match .rest .0 .1) (c .match .rest .1)
 
 pub busy-spec : {M : Type 1} → statement M
 busy-spec =

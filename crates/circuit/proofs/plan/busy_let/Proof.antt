@@ -1,4 +1,8 @@
-use Rattle.circuit.proofs.PlanLaws.{pass-yes, pass-no, self-yes, self-no, prim-yes, prim-no, leave-yes, leave-no, enter-not, enter-held, enter-yes, branch-else, branch-then, branch-small, taken-branch, cond-pass, cond-turn, cond-wait, bind-pass, bind-turn, bind-wait, open-const, open-param, open-bound, open-other, busy-prim, busy-call, busy-if, busy-let, busy-other, at-open, at-busy, at-rest, of-none, of-last, of-two, of-other}
+use Rattle.circuit.proofs.PlanLaws.{pass-yes, pass-no, self-yes, self-no, prim-yes, prim-no, leave-yes, leave-no, enter-not}
+use Rattle.circuit.proofs.PlanLaws.{enter-held, enter-yes, branch-else, branch-then, branch-small, taken-branch, cond-pass}
+use Rattle.circuit.proofs.PlanLaws.{cond-turn, cond-wait, bind-pass, bind-turn, bind-wait, open-const, open-param, open-bound}
+use Rattle.circuit.proofs.PlanLaws.{open-other, busy-prim, busy-call, busy-if, busy-let, busy-other, at-open, at-busy, at-rest}
+use Rattle.circuit.proofs.PlanLaws.{of-none, of-last, of-two, of-other}
 use borrow.Author.Tests.{eq-eqb, ne-eqb, le-leb, lt-leb, lt-ltb, le-ltb, not-true, not-false}
 use native.Mathlib.Omega.{arith}
 use mathlib.Core.Path.{_≡_, refl, sym, ap, subst, _∙_}
@@ -8,12 +12,15 @@ use Rattle.table.specs.Bytes.{nodes, kind, word, first, next, root}
 use Rattle.table.specs.Naming.{owner, chain}
 use Rattle.table.specs.Pick.{pick}
 use lib.Dec.{eqb}
-use Rattle.circuit.specs.State.{entry}
+use Rattle.rules.specs.State.{entry}
 use Rattle.circuit.specs.Plan.{planned, stateAs, openBy, busyBy, selfBy, callBy, actBy}
 use Rattle.circuit.proofs.ChainLaws.{ok, first-in, next-in}
-use Rattle.table.proofs.Tests.{eqb-yes, eqb-no}
 use Rattle.circuit.proofs.ActBy.{own-in, callee-in, three-in, let-in, bound-in, act-is}
-use Rattle.circuit.proofs.PlanLaws.{pass-yes, pass-no, self-yes, self-no, prim-yes, prim-no, leave-yes, leave-no, enter-not, enter-held, enter-yes, branch-else, branch-then, taken-branch, cond-pass, cond-turn, cond-wait, bind-pass, bind-turn, bind-wait, open-const, open-param, open-bound, open-other, busy-prim, busy-call, busy-if, busy-let, busy-other, at-open, at-busy, at-rest, of-none, of-last, of-two, of-other}
+use Rattle.circuit.proofs.PlanLaws.{pass-yes, pass-no, self-yes, self-no, prim-yes, prim-no, leave-yes, leave-no, enter-not}
+use Rattle.circuit.proofs.PlanLaws.{enter-held, enter-yes, branch-else, branch-then, taken-branch, cond-pass, cond-turn, cond-wait}
+use Rattle.circuit.proofs.PlanLaws.{bind-pass, bind-turn, bind-wait, open-const, open-param, open-bound, open-other, busy-prim}
+use Rattle.circuit.proofs.PlanLaws.{busy-call, busy-if, busy-let, busy-other, at-open, at-busy, at-rest, of-none, of-last, of-two}
+use Rattle.circuit.proofs.PlanLaws.{of-other}
 use borrow.Author.Needs.{needs}
 use Rattle.circuit.proofs.plan.busy_let.Statement.{statement}
 use Rattle.circuit.proofs.plan.busy_let.Tie as tie
@@ -31,31 +38,76 @@ first-requires c κs = search needs
 
 -- src/plan.rt:214:9
 last-of-requires : tie.Need-last-of-requires
-last-of-requires c κs = (c .before .before .pre .0, first-in (c .before .before .args .table .now) (c .before .before .pre .0) (c .before .before .args .n .0) (c .before .before .pre .1) _ (c .first .ensures))
+last-of-requires c κs = (
+  c .before .before .pre .0,
+  first-in (c .before .before .args .table .now) (c .before .before .pre .0)
+      (c .before .before .args .n .0) (c .before .before .pre .1) _ (c .first .ensures),
+)
 
 -- src/plan.rt:215:8
 second-at-requires : tie.Need-second-at-requires
-second-at-requires c κs = omega (arith, c .before .before .before .pre .1 .1, ok (c .before .before .before .args .table .now) (c .before .before .before .pre .0) .N-high)
+second-at-requires c κs = omega (
+  arith,
+  c .before .before .before .pre .1 .1,
+  ok (c .before .before .before .args .table .now)
+      (c .before .before .before .pre .0) .N-high,
+)
 
 -- src/plan.rt:216:9
 pass-requires : tie.Need-pass-requires
-pass-requires c κs = omega (arith, c .before .before .last-of .ensures .1, ok (c .before .before .before .before .before .args .table .now) (c .before .before .before .before .before .pre .0) .N-high)
+pass-requires c κs = omega (
+  arith,
+  c .before .before .last-of .ensures .1,
+  ok
+      (c .before .before .before .before .before .args .table .now) (c .before .before .before .before .before .pre .0) .N-high,
+)
 
 -- src/plan.rt:216:9
 returns : tie.Need-returns
-returns c = bind-pass (c .before .before .before .before .before .before .args .table .now) (c .before .before .before .before .before .before .args .status .now) (c .before .before .before .before .before .before .args .second .now) (c .before .before .before .before .before .before .args .value .now) (c .before .before .before .before .before .before .args .n .0) (c .before .before .before .before .first .result .0) (c .before .before .before .before .first .ensures) (c .before .before .before .last-of .result .0) (c .before .before .before .last-of .ensures .0) (c .before .before .second-at .result) (c .before .before .second-at .ensures) _ (c .before .if1 .taken) (c .pass .ensures (c .before .before .before .before .before .before .args .table .now) (c .before .before .before .before .before .before .args .n .0))
+returns c = bind-pass (c .before .before .before .before .before .before .args .table .now)
+    (c .before .before .before .before .before .before .args .status .now)
+    (c .before .before .before .before .before .before .args .second .now)
+    (c .before .before .before .before .before .before .args .value .now)
+    (c .before .before .before .before .before .before .args .n .0) (c .before .before .before .before .first .result .0)
+    (c .before .before .before .before .first .ensures) (c .before .before .before .last-of .result .0)
+    (c .before .before .before .last-of .ensures .0) (c .before .before .second-at .result) (c .before .before .second-at .ensures) _
+    (c .before .if1 .taken) (c .pass .ensures (c .before .before .before .before .before .before .args .table .now)
+    (c .before .before .before .before .before .before .args .n .0))
 
 -- src/plan.rt:218:8
 defs-done-requires : tie.Need-defs-done-requires
-defs-done-requires c κs = let i = let-in (c .before .before .before .before .before .args .table .now) (c .before .before .before .before .before .pre .0) (c .before .before .before .before .before .args .n .0) (c .before .before .before .before .before .pre .1) (c .before .before .before .before .before .pre .2) in (c .before .before .before .before .before .pre .0, omega (arith, c .before .before .before .first .ensures, i .0), omega (arith, c .before .before .before .first .ensures, i .1))
+defs-done-requires c κs = let i = let-in (c .before .before .before .before .before .args .table .now)
+    (c .before .before .before .before .before .pre .0) (c .before .before .before .before .before .args .n .0)
+    (c .before .before .before .before .before .pre .1) (c .before .before .before .before .before .pre .2) in (
+      c .before .before .before .before .before .pre .0,
+      omega (arith, c .before .before .before .first .ensures, i .0),
+      omega
+          (arith, c .before .before .before .first .ensures, i .1),
+    )
 
 -- src/plan.rt:219:9
 returns-2 : tie.Need-returns-2
-returns-2 c = bind-turn (c .before .before .before .before .before .before .before .args .table .now) (c .before .before .before .before .before .before .before .args .status .now) (c .before .before .before .before .before .before .before .args .second .now) (c .before .before .before .before .before .before .before .args .value .now) (c .before .before .before .before .before .before .before .args .n .0) (c .before .before .before .before .before .first .result .0) (c .before .before .before .before .before .first .ensures) (c .before .before .before .before .last-of .result .0) (c .before .before .before .before .last-of .ensures .0) (c .before .before .before .second-at .result) (c .before .before .before .second-at .ensures) (c .before .before .if1 .left) (c .before .defs-done .result) (c .before .defs-done .ensures) (c .if2 .taken)
+returns-2 c = bind-turn (c .before .before .before .before .before .before .before .args .table .now)
+    (c .before .before .before .before .before .before .before .args .status .now)
+    (c .before .before .before .before .before .before .before .args .second .now)
+    (c .before .before .before .before .before .before .before .args .value .now)
+    (c .before .before .before .before .before .before .before .args .n .0)
+    (c .before .before .before .before .before .first .result .0) (c .before .before .before .before .before .first .ensures)
+    (c .before .before .before .before .last-of .result .0) (c .before .before .before .before .last-of .ensures .0)
+    (c .before .before .before .second-at .result) (c .before .before .before .second-at .ensures) (c .before .before .if1 .left)
+    (c .before .defs-done .result) (c .before .defs-done .ensures) (c .if2 .taken)
 
 -- src/plan.rt:208:1
 returns-3 : tie.Need-returns-3
-returns-3 c = bind-wait (c .before .before .before .before .before .before .before .args .table .now) (c .before .before .before .before .before .before .before .args .status .now) (c .before .before .before .before .before .before .before .args .second .now) (c .before .before .before .before .before .before .before .args .value .now) (c .before .before .before .before .before .before .before .args .n .0) (c .before .before .before .before .before .first .result .0) (c .before .before .before .before .before .first .ensures) (c .before .before .before .before .last-of .result .0) (c .before .before .before .before .last-of .ensures .0) (c .before .before .before .second-at .result) (c .before .before .before .second-at .ensures) (c .before .before .if1 .left) (c .before .defs-done .result) (c .before .defs-done .ensures) (c .if2 .left)
+returns-3 c = bind-wait (c .before .before .before .before .before .before .before .args .table .now)
+    (c .before .before .before .before .before .before .before .args .status .now)
+    (c .before .before .before .before .before .before .before .args .second .now)
+    (c .before .before .before .before .before .before .before .args .value .now)
+    (c .before .before .before .before .before .before .before .args .n .0)
+    (c .before .before .before .before .before .first .result .0) (c .before .before .before .before .before .first .ensures)
+    (c .before .before .before .before .last-of .result .0) (c .before .before .before .before .last-of .ensures .0)
+    (c .before .before .before .second-at .result) (c .before .before .before .second-at .ensures) (c .before .before .if1 .left)
+    (c .before .defs-done .result) (c .before .defs-done .ensures) (c .if2 .left)
 
 pub busy-let-spec : {M : Type 1} → statement M
 busy-let-spec =

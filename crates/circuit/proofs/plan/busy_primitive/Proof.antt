@@ -1,4 +1,8 @@
-use Rattle.circuit.proofs.PlanLaws.{pass-yes, pass-no, self-yes, self-no, prim-yes, prim-no, leave-yes, leave-no, enter-not, enter-held, enter-yes, branch-else, branch-then, branch-small, taken-branch, cond-pass, cond-turn, cond-wait, bind-pass, bind-turn, bind-wait, open-const, open-param, open-bound, open-other, busy-prim, busy-call, busy-if, busy-let, busy-other, at-open, at-busy, at-rest, of-none, of-last, of-two, of-other}
+use Rattle.circuit.proofs.PlanLaws.{pass-yes, pass-no, self-yes, self-no, prim-yes, prim-no, leave-yes, leave-no, enter-not}
+use Rattle.circuit.proofs.PlanLaws.{enter-held, enter-yes, branch-else, branch-then, branch-small, taken-branch, cond-pass}
+use Rattle.circuit.proofs.PlanLaws.{cond-turn, cond-wait, bind-pass, bind-turn, bind-wait, open-const, open-param, open-bound}
+use Rattle.circuit.proofs.PlanLaws.{open-other, busy-prim, busy-call, busy-if, busy-let, busy-other, at-open, at-busy, at-rest}
+use Rattle.circuit.proofs.PlanLaws.{of-none, of-last, of-two, of-other}
 use borrow.Author.Tests.{eq-eqb, ne-eqb, le-leb, lt-leb, lt-ltb, le-ltb, not-true, not-false}
 use native.Mathlib.Omega.{arith}
 use mathlib.Core.Path.{_≡_, refl, sym, ap, subst, _∙_}
@@ -8,12 +12,15 @@ use Rattle.table.specs.Bytes.{nodes, kind, word, first, next, root}
 use Rattle.table.specs.Naming.{owner, chain}
 use Rattle.table.specs.Pick.{pick}
 use lib.Dec.{eqb}
-use Rattle.circuit.specs.State.{entry}
+use Rattle.rules.specs.State.{entry}
 use Rattle.circuit.specs.Plan.{planned, stateAs, openBy, busyBy, selfBy, callBy, actBy}
 use Rattle.circuit.proofs.ChainLaws.{ok, first-in, next-in}
-use Rattle.table.proofs.Tests.{eqb-yes, eqb-no}
 use Rattle.circuit.proofs.ActBy.{own-in, callee-in, three-in, let-in, bound-in, act-is}
-use Rattle.circuit.proofs.PlanLaws.{pass-yes, pass-no, self-yes, self-no, prim-yes, prim-no, leave-yes, leave-no, enter-not, enter-held, enter-yes, branch-else, branch-then, taken-branch, cond-pass, cond-turn, cond-wait, bind-pass, bind-turn, bind-wait, open-const, open-param, open-bound, open-other, busy-prim, busy-call, busy-if, busy-let, busy-other, at-open, at-busy, at-rest, of-none, of-last, of-two, of-other}
+use Rattle.circuit.proofs.PlanLaws.{pass-yes, pass-no, self-yes, self-no, prim-yes, prim-no, leave-yes, leave-no, enter-not}
+use Rattle.circuit.proofs.PlanLaws.{enter-held, enter-yes, branch-else, branch-then, taken-branch, cond-pass, cond-turn, cond-wait}
+use Rattle.circuit.proofs.PlanLaws.{bind-pass, bind-turn, bind-wait, open-const, open-param, open-bound, open-other, busy-prim}
+use Rattle.circuit.proofs.PlanLaws.{busy-call, busy-if, busy-let, busy-other, at-open, at-busy, at-rest, of-none, of-last, of-two}
+use Rattle.circuit.proofs.PlanLaws.{of-other}
 use borrow.Author.Needs.{needs}
 use Rattle.circuit.proofs.plan.busy_primitive.Statement.{statement}
 use Rattle.circuit.proofs.plan.busy_primitive.Tie as tie
@@ -30,11 +37,18 @@ first-requires c κs = search needs
 
 -- src/plan.rt:103:9
 all-done-requires : tie.Need-all-done-requires
-all-done-requires c κs = (c .before .before .pre .0, first-in (c .before .before .args .table .now) (c .before .before .pre .0) (c .before .before .args .n .0) (c .before .before .pre .1) _ (c .first .ensures))
+all-done-requires c κs = (
+  c .before .before .pre .0,
+  first-in (c .before .before .args .table .now) (c .before .before .pre .0)
+      (c .before .before .args .n .0) (c .before .before .pre .1) _ (c .first .ensures),
+)
 
 -- src/plan.rt:104:9
 returns : tie.Need-returns
-returns c = prim-no (c .before .before .before .before .args .table .now) (c .before .before .before .before .args .status .now) (c .before .before .before .before .args .n .0) (c .before .before .first .result .0) (c .before .before .first .ensures) (c .before .all-done .result) (c .before .all-done .ensures) (c .before .before .before .before .args .value .now) (not-true _ (c .if1 .taken))
+returns c = prim-no (c .before .before .before .before .args .table .now) (c .before .before .before .before .args .status .now)
+    (c .before .before .before .before .args .n .0) (c .before .before .first .result .0) (c .before .before .first .ensures)
+    (c .before .all-done .result) (c .before .all-done .ensures) (c .before .before .before .before .args .value .now)
+    (not-true _ (c .if1 .taken))
 
 -- src/plan.rt:106:51
 extra-requires : tie.Need-extra-requires
@@ -42,11 +56,23 @@ extra-requires c κs = search needs
 
 -- src/plan.rt:106:20
 operation-requires : tie.Need-operation-requires
-operation-requires c κs = (c .before .before .before .before .before .pre .0, first-in (c .before .before .before .before .before .args .table .now) (c .before .before .before .before .before .pre .0) (c .before .before .before .before .before .args .n .0) (c .before .before .before .before .before .pre .1) _ (c .before .before .before .first .ensures))
+operation-requires c κs = (
+  c .before .before .before .before .before .pre .0,
+  first-in
+      (c .before .before .before .before .before .args .table .now) (c .before .before .before .before .before .pre .0)
+      (c .before .before .before .before .before .args .n .0) (c .before .before .before .before .before .pre .1) _
+      (c .before .before .before .first .ensures),
+)
 
 -- src/plan.rt:97:1
 returns-2 : tie.Need-returns-2
-returns-2 c = prim-yes (c .before .before .before .before .before .before .args .table .now) (c .before .before .before .before .before .before .args .status .now) (c .before .before .before .before .before .before .args .n .0) (c .before .before .before .before .first .result .0) (c .before .before .before .before .first .ensures) (c .before .before .before .all-done .result) (c .before .before .before .all-done .ensures) (c .before .before .before .before .before .before .args .value .now) (c .before .extra .result) (c .operation .result) (not-false _ (c .before .before .if1 .left)) (c .before .extra .ensures) (c .operation .ensures)
+returns-2 c = prim-yes (c .before .before .before .before .before .before .args .table .now)
+    (c .before .before .before .before .before .before .args .status .now)
+    (c .before .before .before .before .before .before .args .n .0) (c .before .before .before .before .first .result .0)
+    (c .before .before .before .before .first .ensures) (c .before .before .before .all-done .result)
+    (c .before .before .before .all-done .ensures) (c .before .before .before .before .before .before .args .value .now)
+    (c .before .extra .result) (c .operation .result) (not-false _ (c .before .before .if1 .left)) (c .before .extra .ensures)
+    (c .operation .ensures)
 
 pub busy-primitive-spec : {M : Type 1} → statement M
 busy-primitive-spec =

@@ -1,4 +1,8 @@
-use Rattle.circuit.proofs.PlanLaws.{pass-yes, pass-no, self-yes, self-no, prim-yes, prim-no, leave-yes, leave-no, enter-not, enter-held, enter-yes, branch-else, branch-then, branch-small, taken-branch, cond-pass, cond-turn, cond-wait, bind-pass, bind-turn, bind-wait, open-const, open-param, open-bound, open-other, busy-prim, busy-call, busy-if, busy-let, busy-other, at-open, at-busy, at-rest, of-none, of-last, of-two, of-other}
+use Rattle.circuit.proofs.PlanLaws.{pass-yes, pass-no, self-yes, self-no, prim-yes, prim-no, leave-yes, leave-no, enter-not}
+use Rattle.circuit.proofs.PlanLaws.{enter-held, enter-yes, branch-else, branch-then, branch-small, taken-branch, cond-pass}
+use Rattle.circuit.proofs.PlanLaws.{cond-turn, cond-wait, bind-pass, bind-turn, bind-wait, open-const, open-param, open-bound}
+use Rattle.circuit.proofs.PlanLaws.{open-other, busy-prim, busy-call, busy-if, busy-let, busy-other, at-open, at-busy, at-rest}
+use Rattle.circuit.proofs.PlanLaws.{of-none, of-last, of-two, of-other}
 use borrow.Author.Tests.{eq-eqb, ne-eqb, le-leb, lt-leb, lt-ltb, le-ltb, not-true, not-false}
 use native.Mathlib.Omega.{arith}
 use mathlib.Core.Path.{_≡_, refl, sym, ap, subst, _∙_}
@@ -8,12 +12,15 @@ use Rattle.table.specs.Bytes.{nodes, kind, word, first, next, root}
 use Rattle.table.specs.Naming.{owner, chain}
 use Rattle.table.specs.Pick.{pick}
 use lib.Dec.{eqb}
-use Rattle.circuit.specs.State.{entry}
+use Rattle.rules.specs.State.{entry}
 use Rattle.circuit.specs.Plan.{planned, stateAs, openBy, busyBy, selfBy, callBy, actBy}
 use Rattle.circuit.proofs.ChainLaws.{ok, first-in, next-in}
-use Rattle.table.proofs.Tests.{eqb-yes, eqb-no}
 use Rattle.circuit.proofs.ActBy.{own-in, callee-in, three-in, let-in, bound-in, act-is}
-use Rattle.circuit.proofs.PlanLaws.{pass-yes, pass-no, self-yes, self-no, prim-yes, prim-no, leave-yes, leave-no, enter-not, enter-held, enter-yes, branch-else, branch-then, taken-branch, cond-pass, cond-turn, cond-wait, bind-pass, bind-turn, bind-wait, open-const, open-param, open-bound, open-other, busy-prim, busy-call, busy-if, busy-let, busy-other, at-open, at-busy, at-rest, of-none, of-last, of-two, of-other}
+use Rattle.circuit.proofs.PlanLaws.{pass-yes, pass-no, self-yes, self-no, prim-yes, prim-no, leave-yes, leave-no, enter-not}
+use Rattle.circuit.proofs.PlanLaws.{enter-held, enter-yes, branch-else, branch-then, taken-branch, cond-pass, cond-turn, cond-wait}
+use Rattle.circuit.proofs.PlanLaws.{bind-pass, bind-turn, bind-wait, open-const, open-param, open-bound, open-other, busy-prim}
+use Rattle.circuit.proofs.PlanLaws.{busy-call, busy-if, busy-let, busy-other, at-open, at-busy, at-rest, of-none, of-last, of-two}
+use Rattle.circuit.proofs.PlanLaws.{of-other}
 use borrow.Author.Needs.{needs}
 use Rattle.circuit.proofs.plan.opening.Statement.{statement}
 use Rattle.circuit.proofs.plan.opening.Tie as tie
@@ -39,7 +46,15 @@ extra-requires c κs = search needs
 
 -- src/plan.rt:66:29
 register-at-requires : tie.Need-register-at-requires
-register-at-requires c κs = omega (arith, c .before .before .before .before .pre .2, own-in (c .before .before .before .before .args .table .now) (c .before .before .before .before .pre .0) (c .before .before .before .before .args .n .0) (c .before .before .before .before .pre .1) .1, ok (c .before .before .before .before .args .table .now) (c .before .before .before .before .pre .0) .F-high)
+register-at-requires c κs = omega (
+  arith,
+  c .before .before .before .before .pre .2,
+  own-in
+      (c .before .before .before .before .args .table .now) (c .before .before .before .before .pre .0)
+      (c .before .before .before .before .args .n .0) (c .before .before .before .before .pre .1) .1,
+  ok
+      (c .before .before .before .before .args .table .now) (c .before .before .before .before .pre .0) .F-high,
+)
 
 -- src/plan.rt:67:52
 word-requires-2 : tie.Need-word-requires-2
@@ -47,23 +62,44 @@ word-requires-2 c κs = search needs
 
 -- src/plan.rt:67:29
 value-of-requires : tie.Need-value-of-requires
-value-of-requires c κs = omega (arith, c .word2 .ensures, bound-in (c .before .before .before .before .args .table .now) (c .before .before .before .before .pre .0) (c .before .before .before .before .args .n .0) (c .before .before .before .before .pre .1) (sym (c .before .before .kind .ensures) ∙ c .before .match .keys3) .1, ok (c .before .before .before .before .args .table .now) (c .before .before .before .before .pre .0) .N-high)
+value-of-requires c κs = omega (
+  arith,
+  c .word2 .ensures,
+  bound-in (c .before .before .before .before .args .table .now)
+      (c .before .before .before .before .pre .0) (c .before .before .before .before .args .n .0)
+      (c .before .before .before .before .pre .1) (sym (c .before .before .kind .ensures) ∙ c .before .match .keys3) .1,
+  ok
+      (c .before .before .before .before .args .table .now) (c .before .before .before .before .pre .0) .N-high,
+)
 
 -- src/plan.rt:58:1
 returns : tie.Need-returns
-returns c = open-const (c .before .before .before .before .args .table .now) (c .before .before .before .before .args .value .now) (c .before .before .before .before .args .registers .now) (c .before .before .before .before .args .n .0) (c .before .before .kind .result) (c .before .before .kind .ensures) (c .before .match .keys1) (c .word .result) (c .word .ensures)
+returns c = open-const (c .before .before .before .before .args .table .now) (c .before .before .before .before .args .value .now)
+    (c .before .before .before .before .args .registers .now) (c .before .before .before .before .args .n .0)
+    (c .before .before .kind .result) (c .before .before .kind .ensures) (c .before .match .keys1) (c .word .result) (c .word .ensures)
 
 -- src/plan.rt:58:1
 returns-2 : tie.Need-returns-2
-returns-2 c = open-param (c .before .before .before .before .before .args .table .now) (c .before .before .before .before .before .args .value .now) (c .before .before .before .before .before .args .registers .now) (c .before .before .before .before .before .args .n .0) (c .before .before .before .kind .result) (c .before .before .before .kind .ensures) (c .before .before .match .keys2) (c .before .extra .result) (c .before .before .before .before .before .args .own .0) (c .register-at .result) (c .before .extra .ensures) (c .before .before .before .before .before .pre .2) (c .register-at .ensures)
+returns-2 c = open-param (c .before .before .before .before .before .args .table .now)
+    (c .before .before .before .before .before .args .value .now) (c .before .before .before .before .before .args .registers .now)
+    (c .before .before .before .before .before .args .n .0) (c .before .before .before .kind .result)
+    (c .before .before .before .kind .ensures) (c .before .before .match .keys2) (c .before .extra .result)
+    (c .before .before .before .before .before .args .own .0) (c .register-at .result) (c .before .extra .ensures)
+    (c .before .before .before .before .before .pre .2) (c .register-at .ensures)
 
 -- src/plan.rt:58:1
 returns-3 : tie.Need-returns-3
-returns-3 c = open-bound (c .before .before .before .before .before .args .table .now) (c .before .before .before .before .before .args .value .now) (c .before .before .before .before .before .args .registers .now) (c .before .before .before .before .before .args .n .0) (c .before .before .before .kind .result) (c .before .before .before .kind .ensures) (c .before .before .match .keys3) (c .before .word2 .result) (c .value-of .result) (c .before .word2 .ensures) (c .value-of .ensures)
+returns-3 c = open-bound (c .before .before .before .before .before .args .table .now)
+    (c .before .before .before .before .before .args .value .now) (c .before .before .before .before .before .args .registers .now)
+    (c .before .before .before .before .before .args .n .0) (c .before .before .before .kind .result)
+    (c .before .before .before .kind .ensures) (c .before .before .match .keys3) (c .before .word2 .result) (c .value-of .result)
+    (c .before .word2 .ensures) (c .value-of .ensures)
 
 -- src/plan.rt:58:1
 returns-4 : tie.Need-returns-4
-returns-4 c = open-other (c .before .before .before .args .table .now) (c .before .before .before .args .value .now) (c .before .before .before .args .registers .now) (c .before .before .before .args .n .0) (c .before .kind .result) (c .before .kind .ensures) (c .match .rest .0 .0 .1) (c .match .rest .0 .1) (c .match .rest .1)
+returns-4 c = open-other (c .before .before .before .args .table .now) (c .before .before .before .args .value .now)
+    (c .before .before .before .args .registers .now) (c .before .before .before .args .n .0) (c .before .kind .result)
+    (c .before .kind .ensures) (c .match .rest .0 .0 .1) (c .match .rest .0 .1) (c .match .rest .1)
 
 pub opening-spec : {M : Type 1} → statement M
 opening-spec =

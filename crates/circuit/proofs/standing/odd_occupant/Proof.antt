@@ -8,12 +8,11 @@ use Rattle.table.specs.Bytes.{functions, nodes, root}
 use Rattle.table.specs.Pick.{pick}
 use lib.Dec.{eqb}
 use mathlib.Core.Bool.{true, false, _||_}
-use Rattle.circuit.specs.State.{entry}
-use Rattle.circuit.specs.Step.{over, answered, taken}
-use Rattle.circuit.specs.Circuit.{actOf}
+use Rattle.rules.specs.State.{entry}
+use Rattle.rules.specs.Step.{over, answered, taken}
+use Rattle.rules.specs.Circuit.{actOf}
 use Rattle.circuit.specs.Plan.{stateAs}
 use Rattle.circuit.proofs.ChainLaws.{ok}
-use Rattle.table.proofs.Tests.{eqb-yes, eqb-no}
 use Rattle.circuit.proofs.StandsLaws.{over-here, over-less, over-end}
 use Rattle.circuit.proofs.TurnLaws.{turn-zero, turn-past, turn-over, turn-on, out-stuck, out-held, out-moved}
 use Rattle.circuit.proofs.standing.odd_occupant.Statement.{statement}
@@ -25,7 +24,8 @@ use Rattle.table.proofs.read.functions.Reads as functions-reads
 use Rattle.table.proofs.read.nodes.Reads as nodes-reads
 
 abbrev Inv-loop : tie.InvT-loop
-Inv-loop table occupant limit f₀ f = (f ≤ functions table) × (limit ≡ nodes table) × (over (nodes table) (functions table) occupant ≡ over (nodes table) f occupant)
+Inv-loop table occupant limit f₀ f = (f ≤ functions table) × (limit ≡ nodes table) ×
+    (over (nodes table) (functions table) occupant ≡ over (nodes table) f occupant)
 
 abbrev μ-loop : tie.MeasureT-loop
 μ-loop table occupant limit f₀ f = f
@@ -40,15 +40,30 @@ functions-requires c κs = search needs
 
 -- src/standing.rt:37:5
 loop-holds : tie.Need-loop-holds Inv-loop μ-loop
-loop-holds c = (omega (arith, c .functions .ensures), c .before .nodes .ensures, ap (λ k. over (nodes (c .before .before .before .args .table .now)) k (c .before .before .before .args .occupant .now)) (sym (c .functions .ensures)))
+loop-holds c = (
+  omega (arith, c .functions .ensures),
+  c .before .nodes .ensures,
+  ap
+      (λ k. over (nodes (c .before .before .before .args .table .now)) k (c .before .before .before .args .occupant .now))
+      (sym (c .functions .ensures)),
+)
 
 -- src/standing.rt:38:20
 occupant-at-requires : tie.Need-occupant-at-requires Inv-loop μ-loop
-occupant-at-requires c κs = omega (arith, c .before .loop .inv .0, ok (c .before .before .before .before .before .args .table .now) (c .before .before .before .before .before .pre) .F-high)
+occupant-at-requires c κs = omega (
+  arith,
+  c .before .loop .inv .0,
+  ok (c .before .before .before .before .before .args .table .now)
+      (c .before .before .before .before .before .pre) .F-high,
+)
 
 -- src/standing.rt:39:13
 returns : tie.Need-returns Inv-loop μ-loop
-returns c = sym (c .before .before .before .loop .inv .2 ∙ over-here (nodes (c .before .before .before .before .before .before .before .args .table .now)) (c .before .before .before .before .before .before .before .args .occupant .now) (c .before .before .before .loop .f) (c .before .occupant-at .result) (c .before .before .loop-test .taken) (c .before .occupant-at .ensures) (omega (arith, c .if1 .taken, c .before .before .before .loop .inv .1)))
+returns c = sym (c .before .before .before .loop .inv .2 ∙ over-here
+    (nodes (c .before .before .before .before .before .before .before .args .table .now))
+    (c .before .before .before .before .before .before .before .args .occupant .now) (c .before .before .before .loop .f)
+    (c .before .occupant-at .result) (c .before .before .loop-test .taken) (c .before .occupant-at .ensures)
+    (omega (arith, c .if1 .taken, c .before .before .before .loop .inv .1)))
 
 -- src/standing.rt:41:9
 sub-f : tie.Need-sub-f Inv-loop μ-loop
@@ -60,11 +75,20 @@ loop-less c = omega arith
 
 -- src/standing.rt:37:5
 loop-again : tie.Need-loop-again Inv-loop μ-loop
-loop-again c = (omega (arith, c .before .before .before .loop .inv .0), c .before .before .before .loop .inv .1, c .before .before .before .loop .inv .2 ∙ over-less (nodes (c .before .before .before .before .before .before .before .args .table .now)) (c .before .before .before .before .before .before .before .args .occupant .now) (c .before .before .before .loop .f) (c .before .occupant-at .result) (c .before .before .loop-test .taken) (c .before .occupant-at .ensures) (omega (arith, c .if1 .left, c .before .before .before .loop .inv .1)))
+loop-again c = (
+  omega (arith, c .before .before .before .loop .inv .0),
+  c .before .before .before .loop .inv .1,
+  c .before .before .before .loop .inv .2 ∙ over-less (nodes
+      (c .before .before .before .before .before .before .before .args .table .now))
+      (c .before .before .before .before .before .before .before .args .occupant .now) (c .before .before .before .loop .f)
+      (c .before .occupant-at .result) (c .before .before .loop-test .taken) (c .before .occupant-at .ensures)
+      (omega (arith, c .if1 .left, c .before .before .before .loop .inv .1)),
+)
 
 -- src/standing.rt:29:1
 returns-2 : tie.Need-returns-2 Inv-loop μ-loop
-returns-2 c = sym (c .before .loop .inv .2 ∙ over-end (nodes (c .before .before .before .before .before .args .table .now)) (c .before .before .before .before .before .args .occupant .now) (c .before .loop .f) (omega arith))
+returns-2 c = sym (c .before .loop .inv .2 ∙ over-end (nodes (c .before .before .before .before .before .args .table .now))
+    (c .before .before .before .before .before .args .occupant .now) (c .before .loop .f) (omega arith))
 
 pub odd-occupant-spec : {M : Type 1} → statement M
 odd-occupant-spec =

@@ -8,12 +8,11 @@ use Rattle.table.specs.Bytes.{functions, nodes, root}
 use Rattle.table.specs.Pick.{pick}
 use lib.Dec.{eqb}
 use mathlib.Core.Bool.{true, false, _||_}
-use Rattle.circuit.specs.State.{entry}
-use Rattle.circuit.specs.Step.{over, answered, taken}
-use Rattle.circuit.specs.Circuit.{actOf}
+use Rattle.rules.specs.State.{entry}
+use Rattle.rules.specs.Step.{over, answered, taken}
+use Rattle.rules.specs.Circuit.{actOf}
 use Rattle.circuit.specs.Plan.{stateAs}
 use Rattle.circuit.proofs.ChainLaws.{ok}
-use Rattle.table.proofs.Tests.{eqb-yes, eqb-no}
 use Rattle.circuit.proofs.StandsLaws.{over-here, over-less, over-end}
 use Rattle.circuit.proofs.TurnLaws.{turn-zero, turn-past, turn-over, turn-on, out-stuck, out-held, out-moved}
 use Rattle.circuit.proofs.standing.odd_status.Statement.{statement}
@@ -39,11 +38,18 @@ loop-holds c = (omega (arith, c .nodes .ensures), ap (λ k. over 3 k (c .before 
 
 -- src/standing.rt:20:16
 status-at-requires : tie.Need-status-at-requires Inv-loop μ-loop
-status-at-requires c κs = omega (arith, c .before .loop .inv .0, ok (c .before .before .before .before .args .table .now) (c .before .before .before .before .pre) .N-high)
+status-at-requires c κs = omega (
+  arith,
+  c .before .loop .inv .0,
+  ok (c .before .before .before .before .args .table .now)
+      (c .before .before .before .before .pre) .N-high,
+)
 
 -- src/standing.rt:21:13
 returns : tie.Need-returns Inv-loop μ-loop
-returns c = sym (c .before .before .before .loop .inv .1 ∙ over-here 3 (c .before .before .before .before .before .before .args .status .now) (c .before .before .before .loop .n) (c .before .status-at .result) (c .before .before .loop-test .taken) (c .before .status-at .ensures) (c .if1 .taken))
+returns c = sym (c .before .before .before .loop .inv .1 ∙ over-here 3
+    (c .before .before .before .before .before .before .args .status .now) (c .before .before .before .loop .n)
+    (c .before .status-at .result) (c .before .before .loop-test .taken) (c .before .status-at .ensures) (c .if1 .taken))
 
 -- src/standing.rt:23:9
 sub-n : tie.Need-sub-n Inv-loop μ-loop
@@ -55,11 +61,17 @@ loop-less c = omega arith
 
 -- src/standing.rt:19:5
 loop-again : tie.Need-loop-again Inv-loop μ-loop
-loop-again c = (omega (arith, c .before .before .before .loop .inv .0), c .before .before .before .loop .inv .1 ∙ over-less 3 (c .before .before .before .before .before .before .args .status .now) (c .before .before .before .loop .n) (c .before .status-at .result) (c .before .before .loop-test .taken) (c .before .status-at .ensures) (c .if1 .left))
+loop-again c = (
+  omega (arith, c .before .before .before .loop .inv .0),
+  c .before .before .before .loop .inv .1 ∙ over-less 3
+      (c .before .before .before .before .before .before .args .status .now) (c .before .before .before .loop .n)
+      (c .before .status-at .result) (c .before .before .loop-test .taken) (c .before .status-at .ensures) (c .if1 .left),
+)
 
 -- src/standing.rt:13:1
 returns-2 : tie.Need-returns-2 Inv-loop μ-loop
-returns-2 c = sym (c .before .loop .inv .1 ∙ over-end 3 (c .before .before .before .before .args .status .now) (c .before .loop .n) (omega arith))
+returns-2 c = sym (c .before .loop .inv .1 ∙ over-end 3 (c .before .before .before .before .args .status .now) (c .before .loop .n)
+    (omega arith))
 
 pub odd-status-spec : {M : Type 1} → statement M
 odd-status-spec =

@@ -7,12 +7,11 @@ use Rattle.table.specs.Bytes.{functions, nodes, root}
 use Rattle.table.specs.Pick.{pick}
 use lib.Dec.{eqb}
 use mathlib.Core.Bool.{true, false, _||_}
-use Rattle.circuit.specs.State.{entry}
-use Rattle.circuit.specs.Step.{over, answered, taken}
-use Rattle.circuit.specs.Circuit.{actOf}
+use Rattle.rules.specs.State.{entry}
+use Rattle.rules.specs.Step.{over, answered, taken}
+use Rattle.rules.specs.Circuit.{actOf}
 use Rattle.circuit.specs.Plan.{stateAs}
 use Rattle.circuit.proofs.ChainLaws.{ok}
-use Rattle.table.proofs.Tests.{eqb-yes, eqb-no}
 use Rattle.circuit.proofs.StandsLaws.{over-here, over-less, over-end}
 use Rattle.circuit.proofs.TurnLaws.{turn-zero, turn-past, turn-over, turn-on, out-stuck, out-held, out-moved}
 use borrow.Author.Needs.{needs}
@@ -29,7 +28,9 @@ odd-status-requires c κs = c .before .pre
 
 -- src/standing.rt:52:9
 returns : tie.Need-returns
-returns c = sym (ap (λ b. b || over (nodes (c .before .before .before .args .table .now)) (functions (c .before .before .before .args .table .now)) (c .before .before .before .args .occupant .now)) (sym (c .before .odd-status .ensures) ∙ c .if1 .taken))
+returns c = sym (ap (λ b. b || over (nodes (c .before .before .before .args .table .now))
+    (functions (c .before .before .before .args .table .now)) (c .before .before .before .args .occupant .now))
+    (sym (c .before .odd-status .ensures) ∙ c .if1 .taken))
 
 -- src/standing.rt:54:5
 odd-occupant-requires : tie.Need-odd-occupant-requires
@@ -37,7 +38,9 @@ odd-occupant-requires c κs = c .before .before .before .pre
 
 -- src/standing.rt:46:1
 returns-2 : tie.Need-returns-2
-returns-2 c = c .odd-occupant .ensures ∙ sym (ap (λ b. b || over (nodes (c .before .before .before .before .args .table .now)) (functions (c .before .before .before .before .args .table .now)) (c .before .before .before .before .args .occupant .now)) (sym (c .before .before .odd-status .ensures) ∙ c .before .if1 .left))
+returns-2 c = c .odd-occupant .ensures ∙ sym (ap (λ b. b || over (nodes (c .before .before .before .before .args .table .now))
+    (functions (c .before .before .before .before .args .table .now)) (c .before .before .before .before .args .occupant .now))
+    (sym (c .before .before .odd-status .ensures) ∙ c .before .if1 .left))
 
 pub strays-spec : {M : Type 1} → statement M
 strays-spec = tie.close (tie.spec odd-status-requires returns odd-occupant-requires returns-2)

@@ -7,12 +7,11 @@ use Rattle.table.specs.Bytes.{functions, nodes, root}
 use Rattle.table.specs.Pick.{pick}
 use lib.Dec.{eqb}
 use mathlib.Core.Bool.{true, false, _||_}
-use Rattle.circuit.specs.State.{entry}
-use Rattle.circuit.specs.Step.{over, answered, taken}
-use Rattle.circuit.specs.Circuit.{actOf}
+use Rattle.rules.specs.State.{entry}
+use Rattle.rules.specs.Step.{over, answered, taken}
+use Rattle.rules.specs.Circuit.{actOf}
 use Rattle.circuit.specs.Plan.{stateAs}
 use Rattle.circuit.proofs.ChainLaws.{ok}
-use Rattle.table.proofs.Tests.{eqb-yes, eqb-no}
 use Rattle.circuit.proofs.StandsLaws.{over-here, over-less, over-end}
 use Rattle.circuit.proofs.TurnLaws.{turn-zero, turn-past, turn-over, turn-on, out-stuck, out-held, out-moved}
 use borrow.Author.Needs.{needs}
@@ -33,11 +32,14 @@ value-at-requires c κs = c .before .before .pre
 
 -- src/turn.rt:60:9
 returns : tie.Need-returns
-returns c = ap answered (c .value-at .ensures) ∙ sym (ap (λ b. pick b (answered (entry (c .before .before .before .args .value .now) 0 (c .before .before .before .args .top .0))) taken) (eqb-yes _ 3 (sym (c .before .before .status-at .ensures) ∙ c .before .if1 .taken)))
+returns c = ap answered (c .value-at .ensures) ∙ sym (ap (λ b. pick b
+    (answered (entry (c .before .before .before .args .value .now) 0 (c .before .before .before .args .top .0))) taken)
+    (eq-eqb _ 3 (sym (c .before .before .status-at .ensures) ∙ c .before .if1 .taken)))
 
 -- src/turn.rt:54:1
 returns-2 : tie.Need-returns-2
-returns-2 c = sym (ap (λ b. pick b (answered (entry (c .before .before .args .value .now) 0 (c .before .before .args .top .0))) taken) (eqb-no _ 3 (λ z. c .if1 .left (c .before .status-at .ensures ∙ z))))
+returns-2 c = sym (ap (λ b. pick b (answered (entry (c .before .before .args .value .now) 0 (c .before .before .args .top .0))) taken)
+    (ne-eqb _ 3 (λ z. c .if1 .left (c .before .status-at .ensures ∙ z))))
 
 pub told-spec : {M : Type 1} → statement M
 told-spec = tie.close (tie.spec status-at-requires value-at-requires returns returns-2)

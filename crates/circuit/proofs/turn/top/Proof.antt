@@ -7,12 +7,11 @@ use Rattle.table.specs.Bytes.{functions, nodes, root}
 use Rattle.table.specs.Pick.{pick}
 use lib.Dec.{eqb}
 use mathlib.Core.Bool.{true, false, _||_}
-use Rattle.circuit.specs.State.{entry}
-use Rattle.circuit.specs.Step.{over, answered, taken}
-use Rattle.circuit.specs.Circuit.{actOf}
+use Rattle.rules.specs.State.{entry}
+use Rattle.rules.specs.Step.{over, answered, taken}
+use Rattle.rules.specs.Circuit.{actOf}
 use Rattle.circuit.specs.Plan.{stateAs}
 use Rattle.circuit.proofs.ChainLaws.{ok}
-use Rattle.table.proofs.Tests.{eqb-yes, eqb-no}
 use Rattle.circuit.proofs.StandsLaws.{over-here, over-less, over-end}
 use Rattle.circuit.proofs.TurnLaws.{turn-zero, turn-past, turn-over, turn-on, out-stuck, out-held, out-moved}
 use borrow.Author.Needs.{needs}
@@ -33,7 +32,18 @@ root-requires c κs = search needs
 
 -- src/turn.rt:45:1
 returns : tie.Need-returns
-returns c = let e = c .root .ensures ∙ ap (root (c .before .before .before .args .table .now)) (c .before .functions .ensures) in (e, omega (arith, e, ok (c .before .before .before .args .table .now) (c .before .before .before .pre) .linking .roots (functions (c .before .before .before .args .table .now)) (ok (c .before .before .before .args .table .now) (c .before .before .before .pre) .F-low, omega arith) .1, ok (c .before .before .before .args .table .now) (c .before .before .before .pre) .N-high))
+returns c = let e = c .root .ensures ∙ ap (root (c .before .before .before .args .table .now)) (c .before .functions .ensures) in (
+  e,
+  omega (
+    arith,
+    e,
+    ok (c .before .before .before .args .table .now) (c .before .before .before .pre) .linking .roots
+        (functions (c .before .before .before .args .table .now))
+        (ok (c .before .before .before .args .table .now) (c .before .before .before .pre) .F-low, omega arith) .1,
+    ok
+        (c .before .before .before .args .table .now) (c .before .before .before .pre) .N-high,
+  ),
+)
 
 pub top-spec : {M : Type 1} → statement M
 top-spec = tie.close (tie.spec functions-requires root-requires returns)

@@ -13,16 +13,9 @@ use Rattle.list.proofs.walk.+body_walk+chain_walk+node_walk+side_walk.P
 use Rattle.list.proofs.walk.side_walk.Reads as side-walk
 use Rattle.list.proofs.walk.+body_walk+chain_walk+node_walk+side_walk.Lts-side_walk as side-walk-lts
 use Rattle.list.proofs.walk.+body_walk+chain_walk+node_walk+side_walk.Proof.Side as side
-use Rattle.list.proofs.walk.+body_walk+chain_walk+node_walk+side_walk.Proof.Measures.{
-  μ-body-walk,
-  body-walk-at,
-  μ-chain-walk,
-  chain-walk-at,
-  μ-node-walk,
-  node-walk-at,
-  μ-side-walk,
-  side-walk-at,
-}
+use Rattle.list.proofs.walk.+body_walk+chain_walk+node_walk+side_walk.Proof.Measures.{μ-body-walk, body-walk-at, μ-chain-walk}
+use Rattle.list.proofs.walk.+body_walk+chain_walk+node_walk+side_walk.Proof.Measures.{chain-walk-at, μ-node-walk, node-walk-at}
+use Rattle.list.proofs.walk.+body_walk+chain_walk+node_walk+side_walk.Proof.Measures.{μ-side-walk, side-walk-at}
 mod Measures
 mod Body
 mod Chain

@@ -17,13 +17,9 @@ use Rattle.list.proofs.walk.body_walk.Reads as body-walk
 use Rattle.list.proofs.bits.put.Reads as put-reads
 use Rattle.list.proofs.bits.join_at.Reads as join-at-reads
 use Rattle.list.proofs.walk.+body_walk+chain_walk+node_walk+side_walk.Lts-node_walk as lts
-use Rattle.list.proofs.walk.+body_walk+chain_walk+node_walk+side_walk.Proof.Measures.{
-  node-walk-at,
-  body-walk-below,
-  chain-walk-below,
-  node-walk-below,
-  side-walk-below,
-}
+use Rattle.list.proofs.walk.+body_walk+chain_walk+node_walk+side_walk.Proof.Measures.{node-walk-at, body-walk-below}
+use Rattle.list.proofs.walk.+body_walk+chain_walk+node_walk+side_walk.Proof.Measures.{chain-walk-below, node-walk-below}
+use Rattle.list.proofs.walk.+body_walk+chain_walk+node_walk+side_walk.Proof.Measures.{side-walk-below}
 
 module _ (t : ℕ) where
   abbrev pub given : lts.Claims

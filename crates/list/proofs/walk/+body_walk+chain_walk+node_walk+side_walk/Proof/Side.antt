@@ -13,11 +13,8 @@ use Rattle.list.proofs.walk.chain_walk.Reads as chain-walk
 use Rattle.list.proofs.bits.meet.Reads as meet-reads
 use Rattle.list.proofs.bits.join.Reads as join-reads
 use Rattle.list.proofs.walk.+body_walk+chain_walk+node_walk+side_walk.Lts-side_walk as lts
-use Rattle.list.proofs.walk.+body_walk+chain_walk+node_walk+side_walk.Proof.Measures.{
-  side-walk-at,
-  chain-walk-below,
-  node-walk-below,
-}
+use Rattle.list.proofs.walk.+body_walk+chain_walk+node_walk+side_walk.Proof.Measures.{side-walk-at, chain-walk-below}
+use Rattle.list.proofs.walk.+body_walk+chain_walk+node_walk+side_walk.Proof.Measures.{node-walk-below}
 
 module _ (t : ℕ) where
   abbrev pub given : lts.Claims

@@ -1,0 +1,228 @@
+-- the third demand, and what holds under any tags, of every table, tags and arguments that start takes
+use Prim.Native.Nat.{ℕ, _≤_}
+use mathlib.Core.Bool.{Bool, true, false, _&&_, not, true≢false}
+use mathlib.Core.Path.{_≡_, refl, subst, sym, ap, _∙_}
+use mathlib.Core.Logic.{inl, inr, ⊎-elim}
+use mathlib.Core.List.{List, [], _∷_}
+use native.Mathlib.Omega.{arith}
+use lib.Dec.{T, eqb, eqb→eq}
+use lib.ListN.{length, take}
+use Rattle.rules.specs.State.{State512, In, view, circuitStart}
+use Rattle.rules.specs.Step.{refused, over, circuitStep}
+use Rattle.rules.specs.Play.{Ask, asks, Log, Accepted, played, count}
+use Rattle.rules.specs.Operations.{operate}
+use Rattle.rules.specs.Circuit.{started, checkStart, startAfter, startOf, circuitOf, stepAfter, stepOf, playsOf, playOf, entriesOf}
+use Rattle.rules.specs.Circuit.{leavingsOf, Possible}
+use Rattle.rules.specs.Demand.{Answers, DemandThree, ThirdDemand}
+use Rattle.rules.specs.Companions.{UnderAnyTags}
+use Rattle.rules.specs.Reading.{ReadsTo}
+use Rattle.rules.specs.Runs.{standing}
+use Rattle.table.specs.Bytes.{functions, nodes, params}
+use Rattle.table.specs.Naming.{owner}
+use Rattle.table.specs.Check.{Verdict, accepted, stage, checkOf}
+use Rattle.table.specs.Expressions.{exprAt, bodyOf}
+use Rattle.table.specs.Well.{Laid}
+use Rattle.table.proofs.Passed.{passes, passed, goes-on, params-small}
+use Rattle.table.proofs.LaidOut.{laid}
+use Rattle.list.specs.Tags.{tagged, after, tagLength, nonePast, tagsRefusal, checkWith, Holding}
+use Rattle.list.proofs.Callees.{listed-exactly}
+use Rattle.rules.proofs.Levels.{readings-unique}
+use Rattle.rules.proofs.Logs.{begin, logged, more, plays, plays-alike}
+use Rattle.rules.proofs.Kept.{Kept, refused-kept, start-kept, kept-alike, kept-right, kept-balance, kept-one, kept-over}
+use Rattle.rules.proofs.Kept.{kept-main-free, kept-lively, kept-phases, kept-silent}
+use Rattle.rules.proofs.StepFacts.{Good}
+use Rattle.rules.proofs.Bounded.{over-none, status-bound, occupant-bound}
+use Rattle.rules.proofs.Kept as Steps
+use Rattle.table.specs.Check as TableCheck
+
+-- what a start that was taken has passed
+pub record Passes (t tags args : List ℕ) (s : State512) : Type 0 where
+  pub check : checkOf t ≡ accepted (functions t) (nodes t)
+  pub check-tags : checkWith t tags ≡ accepted (functions t) (nodes t)
+  pub count : length args ≡ params t (functions t)
+  pub state : s ≡ circuitStart (functions t) (bodyOf t) args
+
+pub after-both : (c : Verdict) (rest : Unit {0} → Verdict) (F N : ℕ) → after c rest ≡ accepted F N
+    → ((F′ N′ : ℕ) × (c ≡ accepted F′ N′)) × (rest tt ≡ accepted F N)
+unfolding after
+after-both (accepted F′ N′) rest F N e = ((F′, N′, refl), e)
+after-both (TableCheck.refused k p) rest F N e = absurd (let z : _≡_ {A = ℕ} 0 1 = cc in omega arith)
+
+start-both : (c : Verdict) (s r : State512) → startAfter c s ≡ started r → ((F N : ℕ) × (c ≡ accepted F N)) × (r ≡ s)
+unfolding startAfter
+start-both (accepted F N) s r e = ((F, N, refl), cc)
+start-both (TableCheck.refused k p) s r e = absurd (let z : _≡_ {A = ℕ} 0 1 = cc in omega arith)
+
+own-size : (t : List ℕ) (F N : ℕ) → checkOf t ≡ accepted F N → checkOf t ≡ accepted (functions t) (nodes t)
+own-size t F N e = let p = passed t F N e in e ∙ sym (λ i. accepted (p .1 i) (p .2 i))
+
+pub start-passes : (t tags args : List ℕ) (s : State512) → startOf t tags args ≡ started s → Passes t tags args s
+unfolding startOf checkStart checkWith tagsRefusal
+start-passes t tags args s e =
+    let a = start-both (checkStart t tags args) (circuitStart (functions t) (bodyOf t) args) s e in
+    let b = after-both (checkWith t tags) _ (a .0 .0) (a .0 .1) (a .0 .2) in
+    let c = after-both (checkOf t) _ (b .0 .0) (b .0 .1) (b .0 .2) in
+    let d = passes 11 (eqb (length args) (params t (functions t))) 0 _ (a .0 .0) (a .0 .1) (b .1) in
+    let f = passes 10 (eqb (length tags) (tagLength t) && nonePast t tags) _ _ (b .0 .0) (b .0 .1) (c .1) in
+    record {
+      check = own-size t (c .0 .0) (c .0 .1) (c .0 .2);
+      check-tags = b .0 .2 ∙ sym (f .2);
+      count = eqb→eq (length args) (params t (functions t)) (d .0);
+      state = a .1;
+    }
+
+-- the circuit's proof over a table
+module _ (t : List ℕ) (F N : ℕ) (check : checkOf t ≡ accepted F N) where
+  abbrev pub lay : Laid (functions t) (nodes t) (bodyOf t) (exprAt t) (owner t)
+  lay = laid t F N check
+
+  -- a step whose tags are taken is the circuit's
+  pub step-same : (tags : List ℕ) (F N : ℕ) → checkWith t tags ≡ accepted F N → (s : State512) (n : ℕ)
+      → stepOf t tags s n ≡ circuitStep operate (functions t) (nodes t) (bodyOf t) (exprAt t) (owner t) (tagged tags) s n
+  unfolding stepOf stepAfter circuitOf
+  step-same tags F N e s n = ap (λ c. stepAfter c s (circuitOf t tags s n)) e
+
+  -- a step that isn't refused is the circuit's
+  possible-same : (tags : List ℕ) (s : State512) (n : ℕ) → Possible t tags s n
+      → Accepted (circuitStep operate (functions t) (nodes t) (bodyOf t) (exprAt t) (owner t) (tagged tags) s n .answer)
+  unfolding stepOf stepAfter circuitOf
+  possible-same tags s n = go (checkWith t tags)
+    where
+      go : (c : Verdict) → Accepted (stepAfter c s (circuitOf t tags s n) .answer)
+          → Accepted (circuitStep operate (functions t) (nodes t) (bodyOf t) (exprAt t) (owner t) (tagged tags) s n .answer)
+      go (accepted F N) x = x
+      go (TableCheck.refused i p) x = absurd x
+
+  -- a sound state is never refused 24
+  stands-well : (tags : List ℕ) (F N : ℕ) → checkWith t tags ≡ accepted F N → (s : State512) → Good operate lay s
+      → standing t tags s ≡ accepted (functions t) (nodes t)
+  unfolding standing after
+  stands-well tags F N e s g =
+      ap (λ c. after c rest) e
+      ∙ goes-on 24 (not (over 3 (nodes t) (s .status))) 0 _ (not-over (over 3 (nodes t) (s .status))
+      (over-none 3 (nodes t) (s .status) (status-bound operate lay (view s) (g .sound)))) refl
+      ∙ goes-on 24 (not (over (nodes t) (functions t) (s .occupant))) 0 _ (not-over (over (nodes t) (functions t) (s .occupant))
+      (over-none (nodes t) (functions t) (s .occupant) (occupant-bound operate lay (view s) (g .sound)))) refl
+    where
+      rest : Unit {0} → Verdict
+      rest _ =
+          stage 24 (not (over 3 (nodes t) (s .status))) 0 λ _.
+          stage 24 (not (over (nodes t) (functions t) (s .occupant))) 0 λ _.
+          accepted (functions t) (nodes t)
+
+      not-over : (b : Bool) → b ≡ false → T (not b)
+      not-over true e = absurd (true≢false e)
+      not-over false e = tt
+
+  main-few : (args : List ℕ) → length args ≡ params t (functions t) → length args ≤ 8
+  main-few args e = let p = passed t F N check .0 in omega (arith, params-small t p (functions t) (p .F-low, omega arith))
+
+  module _ (args : List ℕ) (number : length args ≡ params t (functions t)) where
+    abbrev s₀ : State512
+    s₀ = circuitStart (functions t) (bodyOf t) args
+
+    -- what holds after any list of steps
+    abbrev pub KeptFrom : Log → Type 0
+    KeptFrom l = Kept operate lay (view s₀) l
+
+    -- a step with tags that are not taken changes nothing, another is the circuit's
+    more-kept : (l : Log) → KeptFrom l → (a : Ask (List ℕ)) → KeptFrom (more (stepOf t) l a)
+    unfolding stepOf stepAfter circuitOf
+    more-kept l k a = go (checkWith t (a .tags))
+      where
+        go : (c : Verdict) → KeptFrom (logged l (a .node) (stepAfter c (l .state) (circuitOf t (a .tags) (l .state) (a .node))))
+        go (accepted F N) = Steps.more-kept operate lay (view s₀) l k (record { tags = tagged (a .tags); node = a .node })
+        go (TableCheck.refused i p) = refused-kept operate lay (view s₀) l k (a .node) i p
+
+    plays-kept : (l : Log) → KeptFrom l → (asked : List (Ask (List ℕ))) → KeptFrom (plays (stepOf t) l asked)
+    plays-kept l k [] = k
+    plays-kept l k (a ∷ asked) = plays-kept (more (stepOf t) l a) (more-kept l k a) asked
+
+    table-kept : (asked : List (Ask (List ℕ))) → KeptFrom (played (stepOf t) s₀ asked)
+    table-kept asked = kept-alike operate lay (view s₀) (plays (stepOf t) (begin s₀) asked) (played (stepOf t) s₀ asked)
+        (plays-alike (stepOf t) s₀ asked)
+        (plays-kept (begin s₀) (start-kept operate lay args (main-few args number)) asked)
+
+    any-tags : (asked : List (Ask (List ℕ))) → UnderAnyTags t args s₀ asked
+    unfolding entriesOf leavingsOf playsOf
+    any-tags asked = record {
+      balance = kept-balance operate lay args (main-few args number) l k;
+      phases = λ c f p q e tags a.
+          let x = kept-phases operate lay (view s₀) l k c f p q e (tagged tags) (possible-same tags (l .state) c a) in
+          record { entering = x .entering; entered = x .entered; leaving = x .leaving; left = x .left };
+      answered-done = k .said;
+      done-answered = λ e. let x = k .says e in subst (λ v. Answers l v) (sym (k .said (x .0) (x .1) .1)) (x .1);
+      lively = λ F N tags c.
+          ⊎-elim inl (λ x. inr (x .0, subst (λ r. Accepted (r .answer)) (sym (step-same tags F N c (l .state) (x .0))) (x .1)))
+          (kept-lively operate lay (view s₀) l k (tagged tags));
+      stands = λ F N tags c. stands-well tags F N c (l .state) (k .good);
+      main-free = kept-main-free operate lay (view s₀) l k;
+      right = right;
+      never = λ h v i. h v (length (l .nodes)) (right v i);
+      over = λ v n F N tags i p q c. step-same tags F N c (l .state) n ∙ kept-over operate lay (view s₀) l k v n (tagged tags) i p q;
+    }
+      where
+        l : Log
+        l = played (stepOf t) s₀ asked
+
+        k : KeptFrom l
+        k = table-kept asked
+
+        right : (v : ℕ) → Answers l v → ReadsTo t args v (length (l .nodes))
+        right = kept-right operate lay args (main-few args number) l k
+
+    -- under the tags of the start
+    module _ (tags : List ℕ) (F′ N′ : ℕ) (taken : checkWith t tags ≡ accepted F′ N′) where
+      -- where the tags hold the list, a step after any list of steps is not refused 23
+      silent : Holding t tags → (l : Log) → KeptFrom l → (n p : ℕ) → refused 23 p ≡ stepOf t tags (l .state) n .answer → ⊥
+      silent holds l k n p e =
+          kept-silent operate lay (tagged tags) (λ n x. holds n (listed-exactly t F N check n .1 x)) (view s₀) l k n p
+          (e ∙ ap (λ r. r .answer) (step-same tags F′ N′ taken (l .state) n))
+
+      plays-silent : Holding t tags → (l : Log) → KeptFrom l → ((p : ℕ) → In (refused 23 p) (l .answers) → ⊥) → (ns : List ℕ)
+          → (p : ℕ) → In (refused 23 p) (plays (stepOf t) l (asks tags ns) .answers) → ⊥
+      plays-silent holds l k h [] p i = h p i
+      plays-silent holds l k h (n ∷ ns) p i =
+          let a : Ask (List ℕ) = record { tags = tags; node = n } in
+          plays-silent holds (more (stepOf t) l a) (more-kept l k a) (λ q. ⊎-elim (silent holds l k n q) (h q)) ns p i
+
+      no-23 : Holding t tags → (ns : List ℕ) (p : ℕ) → In (refused 23 p) (playOf t tags s₀ ns .answers) → ⊥
+      unfolding playOf
+      no-23 holds ns p i = plays-silent holds (begin s₀) (start-kept operate lay args (main-few args number)) (λ q z. z) ns p
+          (plays-alike (stepOf t) s₀ (asks tags ns) .into (refused 23 p) i)
+
+      -- the rest of the third demand, from the state that start makes
+      from-start : (ns : List ℕ) → ((p : ℕ) → In (refused 23 p) (playOf t tags s₀ ns .answers) → ⊥) → DemandThree t tags args s₀ ns
+      unfolding playOf entriesOf leavingsOf
+      from-start ns quiet = record {
+        arbitrated = quiet;
+        exclusive = λ k f p q. kept-one operate lay args (main-few args number) (played (stepOf t) s₀ (asks tags (take k ns)))
+            (table-kept (asks tags (take k ns))) f p q;
+        lively = ⊎-elim inl (λ x. inr (x .0, subst (λ r. Accepted (r .answer)) (sym (step-same tags F′ N′ taken (l .state) (x .0))) (x .1)))
+            (kept-lively operate lay (view s₀) l (table-kept (asks tags ns)) (tagged tags));
+        right = kept-right operate lay args (main-few args number) l (table-kept (asks tags ns));
+      }
+        where
+          l : Log
+          l = played (stepOf t) s₀ (asks tags ns)
+
+-- the third demand: of every table, tags and arguments that start takes, the tags holding the list, and every list of asked numbers
+pub demand : ThirdDemand
+demand t tags args s e holds ns =
+    let p = start-passes t tags args s e in
+    let F = functions t in
+    let N = nodes t in
+    subst (λ r. DemandThree t tags args r ns) (sym (p .state))
+    (from-start t F N (p .check) args (p .count) tags F N (p .check-tags) ns
+    (no-23 t F N (p .check) args (p .count) tags F N (p .check-tags) holds ns))
+
+-- and its companion
+pub under-any-tags : (t tags args : List ℕ) (s : State512) → startOf t tags args ≡ started s → (asked : List (Ask (List ℕ)))
+    → UnderAnyTags t args s asked
+under-any-tags t tags args s e asked =
+    let p = start-passes t tags args s e in
+    subst (λ r. UnderAnyTags t args r asked) (sym (p .state)) (any-tags t (functions t) (nodes t) (p .check) args (p .count) asked)
+
+-- the reading has one value and one count
+pub reading-unique : (t args : List ℕ) (v w k l : ℕ) → ReadsTo t args v k → ReadsTo t args w l → (v ≡ w) × (k ≡ l)
+reading-unique t args v w k l x y = readings-unique operate (bodyOf t) (functions t) (functions t) args v w k l x y

@@ -1,0 +1,387 @@
+-- a move inside a part: what is left outside stays, and what is left of a body is d more before the move than after it
+use Prim.Native.Nat.{ℕ, zero, suc, _+_}
+use mathlib.Core.Bool.{Bool, true, false, true≢false}
+use mathlib.Core.Path.{_≡_, refl, subst, sym, ap, _∙_}
+use mathlib.Core.Logic.{inl, inr, ⊎-elim}
+use mathlib.Core.List.{List, _∷_}
+use native.Mathlib.Omega.{arith}
+use Rattle.table.specs.Syntax.{Expr, Exprs, const, param, prim, call, self, cond, bind, bound, none, some, id, Every, Node, Node*, Sub}
+use Rattle.table.specs.Syntax.{Sub*}
+use Rattle.rules.specs.State.{View}
+use Rattle.table.specs.Environment.{values, extend}
+use Rattle.rules.proofs.Shape.{Still, Idle, Busy, Live, Opened*, Opened}
+use Rattle.rules.specs.Reading.{Chosen, Outcome, val, Readings}
+use Rattle.table.specs.Well.{Apart, Apart*, Fits, Fits*}
+use Rattle.rules.proofs.Frame.{Same}
+use Rattle.table.proofs.SyntaxLaws.{node-id, sub-node, sub-node*}
+use Rattle.rules.proofs.Within.{idle-not, idle-not*, done-not, done-not*}
+use Rattle.rules.proofs.Left.{Over, Fresh, Left, Left*}
+
+-- what is left outside
+module _ (apply : ℕ → List ℕ → ℕ) (K : Readings) (s s′ : View) (W W′ : ℕ → ℕ) (args : ℕ → ℕ) (X : ℕ → Type 0)
+    (keeps : (m : ℕ) → (X m → ⊥) → Same s s′ m) (expects : (m : ℕ) → (X m → ⊥) → W′ m ≡ W m) where
+  abbrev After : Expr → (ℕ → ℕ) → Outcome → ℕ → Type 0
+  After = Left apply K s′ W′ args
+
+  abbrev Before : Expr → (ℕ → ℕ) → Outcome → ℕ → Type 0
+  Before = Left apply K s W args
+
+  abbrev After* : Exprs → (ℕ → ℕ) → List ℕ → ℕ → Type 0
+  After* = Left* apply K s′ W′ args
+
+  abbrev Before* : Exprs → (ℕ → ℕ) → List ℕ → ℕ → Type 0
+  Before* = Left* apply K s W args
+
+  abbrev Clear : Expr → Type 0
+  Clear e = (m : ℕ) → Node m e → X m → ⊥
+
+  abbrev Clear* : Exprs → Type 0
+  Clear* es = (m : ℕ) → Node* m es → X m → ⊥
+
+  over-over : (n : ℕ) (o : Outcome) (k : ℕ) → (X n → ⊥) → Over apply K s′ W′ args n o k → Over apply K s W args n o k
+  over-over n o k x h = (sym (keeps n x .0) ∙ h .0, h .1 ∙ ap val (keeps n x .2), h .2)
+
+  fresh-over : (e : Expr) (ρ : ℕ → ℕ) (o : Outcome) (k : ℕ) → (X (id e) → ⊥) → Fresh apply K s′ W′ args e ρ o k
+      → Fresh apply K s W args e ρ o k
+  fresh-over e ρ o k x h = (⊎-elim (λ p. inl (sym (keeps (id e) x .0) ∙ p)) (λ p. inr (sym (keeps (id e) x .0) ∙ p)) (h .0), h .1)
+
+  busy-over : (n : ℕ) (p : Bool) → (X n → ⊥) → Busy s′ n p → Busy s n p
+  busy-over n p x h = (sym (keeps n x .0) ∙ h .0, sym (keeps n x .1) ∙ h .1)
+
+  values-over : (es : Exprs) → Clear* es → values (s′ .value) es ≡ values (s .value) es
+  values-over none c = refl
+  values-over (some e es) c = λ i. keeps (id e) (c (id e) (inl (node-id e))) .2 i ∷ values-over es (λ m k. c m (inr k)) i
+
+  taken-back : (X₁ Y₁ X₂ Y₂ : Type 0) → (X₁ → X₂) → (Y₁ → Y₂) → (v w : ℕ) → v ≡ w → Chosen X₁ Y₁ v → Chosen X₂ Y₂ w
+  taken-back X₁ Y₁ X₂ Y₂ f g v w e t = subst (Chosen X₂ Y₂) e (at v t)
+    where
+      at : (v : ℕ) → Chosen X₁ Y₁ v → Chosen X₂ Y₂ v
+      at zero t = g t
+      at (suc k) t = f t
+
+  mutual
+    pub left-over : (e : Expr) → Clear e → (ρ : ℕ → ℕ) (o : Outcome) (k : ℕ) → After e ρ o k → Before e ρ o k
+    left-over (const n v) c ρ o k (inl h) = inl (over-over n o k (c n refl) h)
+    left-over (const n v) c ρ o k (inr h) = inr (fresh-over (const n v) ρ o k (c n refl) h)
+    left-over (param n i) c ρ o k (inl h) = inl (over-over n o k (c n refl) h)
+    left-over (param n i) c ρ o k (inr h) = inr (fresh-over (param n i) ρ o k (c n refl) h)
+    left-over (prim n op es) c ρ o k (inl h) = inl (over-over n o k (c n (inl refl)) h)
+    left-over (prim n op es) c ρ o k (inr (inl h)) = inr (inl (fresh-over (prim n op es) ρ o k (c n (inl refl)) h))
+    left-over (prim n op es) c ρ o k (inr (inr h)) =
+        inr (inr (
+          sym (keeps n (c n (inl refl)) .0) ∙ h .0,
+          (h .1 .0, h .1 .1, left-over* es (λ m q. c m (inr q)) ρ (h .1 .0) (h .1 .1) (h .1 .2), h .1 .3, h .1 .4),
+        ))
+    left-over (call n g es) c ρ o k (inl h) = inl (over-over n o k (c n (inl refl)) h)
+    left-over (call n g es) c ρ o k (inr (inl h)) = inr (inl (fresh-over (call n g es) ρ o k (c n (inl refl)) h))
+    left-over (call n g es) c ρ o k (inr (inr (inl h))) =
+        inr (inr (inl (
+          busy-over n false (c n (inl refl)) (h .0),
+          (
+            h .1 .0,
+            h .1 .1,
+            h .1 .2,
+            h .1 .3,
+            left-over* es (λ m q. c m (inr q)) ρ (h .1 .0) (h .1 .2) (h .1 .4),
+            h .1 .5,
+            h .1 .6,
+            h .1 .7,
+          ),
+        )))
+    left-over (call n g es) c ρ o k (inr (inr (inr h))) =
+        inr (inr (inr (busy-over n true (c n (inl refl)) (h .0), h .1 ∙ ap val (expects n (c n (inl refl))), h .2)))
+    left-over (self n es) c ρ o k (inl h) = inl (over-over n o k (c n (inl refl)) h)
+    left-over (self n es) c ρ o k (inr (inl h)) = inr (inl (fresh-over (self n es) ρ o k (c n (inl refl)) h))
+    left-over (self n es) c ρ o k (inr (inr h)) =
+        inr (inr (
+          sym (keeps n (c n (inl refl)) .0) ∙ h .0,
+          (h .1 .0, h .1 .1, left-over* es (λ m q. c m (inr q)) ρ (h .1 .0) (h .1 .1) (h .1 .2), h .1 .3, h .1 .4),
+        ))
+    left-over (cond n a b d) c ρ o k (inl h) = inl (over-over n o k (c n (inl refl)) h)
+    left-over (cond n a b d) c ρ o k (inr (inl h)) = inr (inl (fresh-over (cond n a b d) ρ o k (c n (inl refl)) h))
+    left-over (cond n a b d) c ρ o k (inr (inr (inl h))) =
+        inr (inr (inl (
+          busy-over n false (c n (inl refl)) (h .0),
+          (h .1 .0, h .1 .1, h .1 .2, left-over a (λ m q. c m (inr (inl q))) ρ (val (h .1 .0)) (h .1 .1) (h .1 .3), h .1 .4, h .1 .5),
+        )))
+    left-over (cond n a b d) c ρ o k (inr (inr (inr h))) =
+        inr (inr (inr (
+          busy-over n true (c n (inl refl)) (h .0),
+          (
+            h .1 .0,
+            taken-back (After b ρ o (h .1 .0)) (After d ρ o (h .1 .0)) (Before b ρ o (h .1 .0)) (Before d ρ o (h .1 .0))
+                (λ t. left-over b (λ m q. c m (inr (inr (inl q)))) ρ o (h .1 .0) t) (λ t. left-over d (λ m q. c m (inr (inr (inr q)))) ρ o
+                (h .1 .0) t)
+                (s′ .value (id a)) (s .value (id a)) (keeps (id a) (c (id a) (inr (inl (node-id a)))) .2) (h .1 .1),
+            h .1 .2,
+          ),
+        )))
+    left-over (bind n ds b) c ρ o k (inl h) = inl (over-over n o k (c n (inl refl)) h)
+    left-over (bind n ds b) c ρ o k (inr (inl h)) = inr (inl (fresh-over (bind n ds b) ρ o k (c n (inl refl)) h))
+    left-over (bind n ds b) c ρ o k (inr (inr (inl h))) =
+        inr (inr (inl (
+          busy-over n false (c n (inl refl)) (h .0),
+          (h .1 .0, h .1 .1, h .1 .2, left-over* ds (λ m q. c m (inr (inl q))) ρ (h .1 .0) (h .1 .1) (h .1 .3), h .1 .4, h .1 .5),
+        )))
+    left-over (bind n ds b) c ρ o k (inr (inr (inr h))) =
+        inr (inr (inr (
+          busy-over n true (c n (inl refl)) (h .0),
+          (
+            h .1 .0,
+            subst (λ vs. Before b (extend ds vs ρ) o (h .1 .0)) (values-over ds (λ m q. c m (inr (inl q))))
+                (left-over b (λ m q. c m (inr (inr q))) (extend ds (values (s′ .value) ds) ρ) o (h .1 .0) (h .1 .1)),
+            h .1 .2,
+          ),
+        )))
+    left-over (bound n d) c ρ o k (inl h) = inl (over-over n o k (c n refl) h)
+    left-over (bound n d) c ρ o k (inr h) = inr (fresh-over (bound n d) ρ o k (c n refl) h)
+
+    pub left-over* : (es : Exprs) → Clear* es → (ρ : ℕ → ℕ) (vs : List ℕ) (j : ℕ) → After* es ρ vs j → Before* es ρ vs j
+    left-over* none c ρ vs j h = h
+    left-over* (some e es) c ρ vs j h = (
+      h .0,
+      h .1,
+      h .2,
+      h .3,
+      left-over e (λ m q. c m (inl q)) ρ (val (h .0)) (h .2) (h .4),
+      left-over* es (λ m q. c m (inr q)) ρ (h .1) (h .3) (h .5),
+      h .6,
+      h .7,
+    )
+
+-- what is left of a body
+module _ (apply : ℕ → List ℕ → ℕ) (K : Readings) (s s′ : View) (W W′ : ℕ → ℕ) (args : ℕ → ℕ) (u : Expr) (d : ℕ)
+    (keeps : (m : ℕ) → (Node m u → ⊥) → Same s s′ m) (expects : (m : ℕ) → (Node m u → ⊥) → W′ m ≡ W m)
+    (moving : Still s (id u) → ⊥)
+    (local : (ρ : ℕ → ℕ) (o : Outcome) (k : ℕ) → Live s u → Fits (s .value) u ρ → Left apply K s′ W′ args u ρ o k
+    → Left apply K s W args u ρ o (d + k)) where
+  abbrev Back : Expr → Type 0
+  Back e = (ρ : ℕ → ℕ) (o : Outcome) (k : ℕ) → Live s e → Fits (s .value) e ρ → Left apply K s′ W′ args e ρ o k
+      → Left apply K s W args e ρ o (d + k)
+
+  abbrev Y : ℕ → Type 0
+  Y m = Node m u
+
+  here : (e : Expr) → u ≡ e → Back e
+  here e p = subst Back p local
+
+  back-opened : (e : Expr) → Back e → Sub u e → (ρ : ℕ → ℕ) (o : Outcome) (k : ℕ) → Opened s e → Fits (s .value) e ρ
+      → Left apply K s′ W′ args e ρ o k → Left apply K s W args e ρ o (d + k)
+  back-opened e f p ρ o k (inl l) g h = f ρ o k l g h
+  back-opened e f p ρ o k (inr x) g h = absurd (done-not s u moving e x p)
+
+  not-over : (n : ℕ) (o : Outcome) (k : ℕ) → (Node n u → ⊥) → s .status n ≡ 2 → Over apply K s′ W′ args n o k → ⊥
+  not-over n o k x b h = omega (arith, keeps n x .0, h .0, b)
+
+  not-fresh : (e : Expr) (ρ : ℕ → ℕ) (o : Outcome) (k : ℕ) → (Node (id e) u → ⊥) → s .status (id e) ≡ 2 → Fresh apply K s′ W′ args e ρ o k
+      → ⊥
+  not-fresh e ρ o k x b h = ⊎-elim (λ p. omega (arith, keeps (id e) x .0, p, b)) (λ p. omega (arith, keeps (id e) x .0, p, b)) (h .0)
+
+  phases : (n : ℕ) → (Node n u → ⊥) → s .second n ≡ false → s′ .second n ≡ true → ⊥
+  phases n x p q = true≢false (sym q ∙ keeps n x .1 ∙ p)
+
+  phases′ : (n : ℕ) → (Node n u → ⊥) → s .second n ≡ true → s′ .second n ≡ false → ⊥
+  phases′ n x p q = true≢false (sym p ∙ sym (keeps n x .1) ∙ q)
+
+  branch : (L₁ L₂ A₁ A₂ B₁ B₂ : Type 0) → (L₁ → A₁ → B₁) → (L₂ → A₂ → B₂) → (v w : ℕ) → w ≡ v → Chosen L₁ L₂ v → Chosen A₁ A₂ w
+      → Chosen B₁ B₂ v
+  branch L₁ L₂ A₁ A₂ B₁ B₂ f g v w e l t = at v l (subst (Chosen A₁ A₂) e t)
+    where
+      at : (v : ℕ) → Chosen L₁ L₂ v → Chosen A₁ A₂ v → Chosen B₁ B₂ v
+      at zero l t = g l t
+      at (suc k) l t = f l t
+
+  mutual
+    pub left-within : (e : Expr) → Apart e → Sub u e → Back e
+    left-within (const n v) a p ρ o k l f g = here (const n v) p ρ o k l f g
+    left-within (param n i) a p ρ o k l f g = here (param n i) p ρ o k l f g
+    left-within (prim n op es) a (inl p) ρ o k l f g = here (prim n op es) p ρ o k l f g
+    left-within (prim n op es) a (inr p) ρ o k (inl l) f h = absurd (idle-not* s u moving es (l .1) p)
+    left-within (prim n op es) a (inr p) ρ o k (inr l) f (inl h) = absurd (not-over n o k (λ x. a .0 (sub-node* u n es p x)) (l .0 .0) h)
+    left-within (prim n op es) a (inr p) ρ o k (inr l) f (inr (inl h)) =
+        absurd (not-fresh (prim n op es) ρ o k (λ x. a .0 (sub-node* u n es p x)) (l .0 .0) h)
+    left-within (prim n op es) a (inr p) ρ o k (inr l) f (inr (inr h)) =
+        inr (inr (
+          l .0 .0,
+          (
+            h .1 .0,
+            d + h .1 .1,
+            left-within* es (a .1) p ρ (h .1 .0) (h .1 .1) (l .1) f (h .1 .2),
+            h .1 .3,
+            omega (arith, h .1 .4),
+          ),
+        ))
+    left-within (call n q es) a (inl p) ρ o k l f g = here (call n q es) p ρ o k l f g
+    left-within (call n g es) a (inr p) ρ o k (inl l) f h = absurd (idle-not* s u moving es (l .1) p)
+    left-within (call n g es) a (inr p) ρ o k (inr (inl l)) f (inl h) =
+        absurd (not-over n o k (λ x. a .0 (sub-node* u n es p x)) (l .0 .0) h)
+    left-within (call n g es) a (inr p) ρ o k (inr (inl l)) f (inr (inl h)) =
+        absurd (not-fresh (call n g es) ρ o k (λ x. a .0 (sub-node* u n es p x)) (l .0 .0) h)
+    left-within (call n g es) a (inr p) ρ o k (inr (inl l)) f (inr (inr (inl h))) =
+        inr (inr (inl (
+          l .0,
+          (
+            h .1 .0,
+            h .1 .1,
+            d + h .1 .2,
+            h .1 .3,
+            left-within* es (a .1) p ρ (h .1 .0) (h .1 .2) (l .1) f (h .1 .4),
+            h .1 .5,
+            h .1 .6,
+            omega (arith, h .1 .7),
+          ),
+        )))
+    left-within (call n g es) a (inr p) ρ o k (inr (inl l)) f (inr (inr (inr h))) =
+        absurd (phases n (λ x. a .0 (sub-node* u n es p x)) (l .0 .1) (h .0 .1))
+    left-within (call n g es) a (inr p) ρ o k (inr (inr l)) f h = absurd (done-not* s u moving es (l .1) p)
+    left-within (self n es) a (inl p) ρ o k l f g = here (self n es) p ρ o k l f g
+    left-within (self n es) a (inr p) ρ o k (inl l) f h = absurd (idle-not* s u moving es (l .1) p)
+    left-within (self n es) a (inr p) ρ o k (inr l) f (inl h) = absurd (not-over n o k (λ x. a .0 (sub-node* u n es p x)) (l .0 .0) h)
+    left-within (self n es) a (inr p) ρ o k (inr l) f (inr (inl h)) =
+        absurd (not-fresh (self n es) ρ o k (λ x. a .0 (sub-node* u n es p x)) (l .0 .0) h)
+    left-within (self n es) a (inr p) ρ o k (inr l) f (inr (inr h)) =
+        inr (inr (
+          l .0 .0,
+          (
+            h .1 .0,
+            d + h .1 .1,
+            left-within* es (a .1) p ρ (h .1 .0) (h .1 .1) (l .1) f (h .1 .2),
+            h .1 .3,
+            omega (arith, h .1 .4),
+          ),
+        ))
+    left-within (cond n a b c) h (inl p) ρ o k l f g = here (cond n a b c) p ρ o k l f g
+    left-within (cond n a b c) h (inr (inl p)) ρ o k (inl l) f g = absurd (idle-not s u moving a (l .1) p)
+    left-within (cond n a b c) h (inr (inl p)) ρ o k (inr (inl l)) f (inl g) =
+        absurd (not-over n o k (λ x. h .0 (sub-node u n a p x)) (l .0 .0) g)
+    left-within (cond n a b c) h (inr (inl p)) ρ o k (inr (inl l)) f (inr (inl g)) =
+        absurd (not-fresh (cond n a b c) ρ o k (λ x. h .0 (sub-node u n a p x)) (l .0 .0) g)
+    left-within (cond n a b c) h (inr (inl p)) ρ o k (inr (inl l)) f (inr (inr (inl g))) =
+        inr (inr (inl (
+          l .0,
+          (
+            g .1 .0,
+            d + g .1 .1,
+            g .1 .2,
+            back-opened a (λ ρ′ o′ k′ l′ f′ h′. left-within a (h .3) p ρ′ o′ k′ l′ f′ h′) p ρ (val (g .1 .0)) (g .1 .1) (l .1) (f .0)
+                (g .1 .3),
+            g .1 .4,
+            omega (arith, g .1 .5),
+          ),
+        )))
+    left-within (cond n a b c) h (inr (inl p)) ρ o k (inr (inl l)) f (inr (inr (inr g))) =
+        absurd (phases n (λ x. h .0 (sub-node u n a p x)) (l .0 .1) (g .0 .1))
+    left-within (cond n a b c) h (inr (inl p)) ρ o k (inr (inr l)) f g = absurd (done-not s u moving a (l .1) p)
+    left-within (cond n a b c) h (inr (inr p)) ρ o k (inl l) f g =
+        absurd (⊎-elim (λ x. idle-not s u moving b (l .2) x) (λ x. idle-not s u moving c (l .3) x) p)
+    left-within (cond n a b c) h (inr (inr p)) ρ o k (inr (inl l)) f g =
+        absurd (⊎-elim (λ x. idle-not s u moving b (l .2) x) (λ x. idle-not s u moving c (l .3) x) p)
+    left-within (cond n a b c) h (inr (inr (inl p))) ρ o k (inr (inr l)) f (inl g) =
+        absurd (not-over n o k (λ x. h .1 (sub-node u n b p x)) (l .0 .0) g)
+    left-within (cond n a b c) h (inr (inr (inl p))) ρ o k (inr (inr l)) f (inr (inl g)) =
+        absurd (not-fresh (cond n a b c) ρ o k (λ x. h .1 (sub-node u n b p x)) (l .0 .0) g)
+    left-within (cond n a b c) h (inr (inr (inl p))) ρ o k (inr (inr l)) f (inr (inr (inl g))) =
+        absurd (phases′ n (λ x. h .1 (sub-node u n b p x)) (l .0 .1) (g .0 .1))
+    left-within (cond n a b c) h (inr (inr (inl p))) ρ o k (inr (inr l)) f (inr (inr (inr g))) =
+        inr (inr (inr (
+          l .0,
+          (
+            d + g .1 .0,
+            branch (Opened s b × Every (Idle s) c) (Opened s c × Every (Idle s) b) (Left apply K s′ W′ args b ρ o (g .1 .0))
+                (Left apply K s′ W′ args c ρ o (g .1 .0)) (Left apply K s W args b ρ o (d + g .1 .0))
+                (Left apply K s W args c ρ o (d + g .1 .0))
+                (λ x t. back-opened b (λ ρ′ o′ k′ l′ f′ h′. left-within b (h .4) p ρ′ o′ k′ l′ f′ h′) p ρ o (g .1 .0) (x .0) (f .1) t)
+                (λ x t. absurd (idle-not s u moving b (x .1) p))
+                (s .value (id a)) (s′ .value (id a)) (keeps (id a) (λ x. h .6 (id a) (node-id a) (sub-node u (id a) b p x)) .2) (l .2)
+                (g .1 .1),
+            omega (arith, g .1 .2),
+          ),
+        )))
+    left-within (cond n a b c) h (inr (inr (inr p))) ρ o k (inr (inr l)) f (inl g) =
+        absurd (not-over n o k (λ x. h .2 (sub-node u n c p x)) (l .0 .0) g)
+    left-within (cond n a b c) h (inr (inr (inr p))) ρ o k (inr (inr l)) f (inr (inl g)) =
+        absurd (not-fresh (cond n a b c) ρ o k (λ x. h .2 (sub-node u n c p x)) (l .0 .0) g)
+    left-within (cond n a b c) h (inr (inr (inr p))) ρ o k (inr (inr l)) f (inr (inr (inl g))) =
+        absurd (phases′ n (λ x. h .2 (sub-node u n c p x)) (l .0 .1) (g .0 .1))
+    left-within (cond n a b c) h (inr (inr (inr p))) ρ o k (inr (inr l)) f (inr (inr (inr g))) =
+        inr (inr (inr (
+          l .0,
+          (
+            d + g .1 .0,
+            branch (Opened s b × Every (Idle s) c) (Opened s c × Every (Idle s) b) (Left apply K s′ W′ args b ρ o (g .1 .0))
+                (Left apply K s′ W′ args c ρ o (g .1 .0)) (Left apply K s W args b ρ o (d + g .1 .0))
+                (Left apply K s W args c ρ o (d + g .1 .0))
+                (λ x t. absurd (idle-not s u moving c (x .1) p))
+                (λ x t. back-opened c (λ ρ′ o′ k′ l′ f′ h′. left-within c (h .5) p ρ′ o′ k′ l′ f′ h′) p ρ o (g .1 .0) (x .0) (f .2) t)
+                (s .value (id a)) (s′ .value (id a)) (keeps (id a) (λ x. h .7 (id a) (node-id a) (sub-node u (id a) c p x)) .2) (l .2)
+                (g .1 .1),
+            omega (arith, g .1 .2),
+          ),
+        )))
+    left-within (bind n ds b) h (inl p) ρ o k l f g = here (bind n ds b) p ρ o k l f g
+    left-within (bind n ds b) h (inr (inl p)) ρ o k (inl l) f g = absurd (idle-not* s u moving ds (l .1) p)
+    left-within (bind n ds b) h (inr (inl p)) ρ o k (inr (inl l)) f (inl g) =
+        absurd (not-over n o k (λ x. h .0 (sub-node* u n ds p x)) (l .0 .0) g)
+    left-within (bind n ds b) h (inr (inl p)) ρ o k (inr (inl l)) f (inr (inl g)) =
+        absurd (not-fresh (bind n ds b) ρ o k (λ x. h .0 (sub-node* u n ds p x)) (l .0 .0) g)
+    left-within (bind n ds b) h (inr (inl p)) ρ o k (inr (inl l)) f (inr (inr (inl g))) =
+        inr (inr (inl (
+          l .0,
+          (
+            g .1 .0,
+            d + g .1 .1,
+            g .1 .2,
+            left-within* ds (h .2) p ρ (g .1 .0) (g .1 .1) (l .1) (f .0) (g .1 .3),
+            g .1 .4,
+            omega (arith, g .1 .5),
+          ),
+        )))
+    left-within (bind n ds b) h (inr (inl p)) ρ o k (inr (inl l)) f (inr (inr (inr g))) =
+        absurd (phases n (λ x. h .0 (sub-node* u n ds p x)) (l .0 .1) (g .0 .1))
+    left-within (bind n ds b) h (inr (inl p)) ρ o k (inr (inr l)) f g = absurd (done-not* s u moving ds (l .1) p)
+    left-within (bind n ds b) h (inr (inr p)) ρ o k (inl l) f g = absurd (idle-not s u moving b (l .2) p)
+    left-within (bind n ds b) h (inr (inr p)) ρ o k (inr (inl l)) f g = absurd (idle-not s u moving b (l .2) p)
+    left-within (bind n ds b) h (inr (inr p)) ρ o k (inr (inr l)) f (inl g) =
+        absurd (not-over n o k (λ x. h .1 (sub-node u n b p x)) (l .0 .0) g)
+    left-within (bind n ds b) h (inr (inr p)) ρ o k (inr (inr l)) f (inr (inl g)) =
+        absurd (not-fresh (bind n ds b) ρ o k (λ x. h .1 (sub-node u n b p x)) (l .0 .0) g)
+    left-within (bind n ds b) h (inr (inr p)) ρ o k (inr (inr l)) f (inr (inr (inl g))) =
+        absurd (phases′ n (λ x. h .1 (sub-node u n b p x)) (l .0 .1) (g .0 .1))
+    left-within (bind n ds b) h (inr (inr p)) ρ o k (inr (inr l)) f (inr (inr (inr g))) =
+        inr (inr (inr (
+          l .0,
+          (
+            d + g .1 .0,
+            back-opened b (λ ρ′ o′ k′ l′ f′ h′. left-within b (h .3) p ρ′ o′ k′ l′ f′ h′) p (extend ds (values (s .value) ds) ρ) o
+                (g .1 .0) (l .2)
+                (f .1)
+                (subst (λ vs. Left apply K s′ W′ args b (extend ds vs ρ) o (g .1 .0))
+                (values-over apply K s s′ W W′ args Y keeps expects ds (λ m k x. h .4 m k (sub-node u m b p x))) (g .1 .1)),
+            omega (arith, g .1 .2),
+          ),
+        )))
+    left-within (bound n i) a p ρ o k l f g = here (bound n i) p ρ o k l f g
+
+    pub left-within* : (es : Exprs) → Apart* es → Sub* u es → (ρ : ℕ → ℕ) (vs : List ℕ) (j : ℕ) → Opened* s es → Fits* (s .value) es ρ
+        → Left* apply K s′ W′ args es ρ vs j → Left* apply K s W args es ρ vs (d + j)
+    left-within* none a p ρ vs j l f h = absurd p
+    left-within* (some e es) a (inl p) ρ vs j l f h = (
+      h .0,
+      h .1,
+      d + h .2,
+      h .3,
+      back-opened e (λ ρ′ o′ k′ l′ f′ h′. left-within e (a .0) p ρ′ o′ k′ l′ f′ h′) p ρ (val (h .0)) (h .2) (l .0) (f .0) (h .4),
+      left-over* apply K s s′ W W′ args Y keeps expects es (λ m k x. a .2 m (sub-node u m e p x) k) ρ (h .1) (h .3) (h .5),
+      h .6,
+      omega (arith, h .7),
+    )
+    left-within* (some e es) a (inr p) ρ vs j l f h = (
+      h .0,
+      h .1,
+      h .2,
+      d + h .3,
+      left-over apply K s s′ W W′ args Y keeps expects e (λ m k x. a .2 m k (sub-node* u m es p x)) ρ (val (h .0)) (h .2) (h .4),
+      left-within* es (a .1) p ρ (h .1) (h .3) (l .1) (f .1) (h .5),
+      h .6,
+      omega (arith, h .7),
+    )

@@ -1,0 +1,60 @@
+-- for a reader: the theorems, then the designs of document 01
+pub mod Theorems
+pub mod Cases
+pub mod OddStates
+pub mod OperationCases
+-- from bytes to the abstract circuit: the demand over tables, the own list, any state, the runs, 32-bit values
+pub mod Demands
+pub mod OwnList
+pub mod AnyState
+-- the code: entries, chains, plans
+pub mod RunFacts
+pub mod Fits
+pub mod ReadingFits
+-- the step on lists: what a write reads as, what a move changes, the cases of a step, when it is refused, what it keeps
+pub mod StateLaws
+pub mod Performed
+pub mod LaidFacts
+pub mod ActCases
+pub mod StepSound
+pub mod Numbered
+pub mod Bounded
+pub mod StepTaken
+pub mod StepFacts
+pub mod Past
+pub mod ListsAgree
+pub mod Ignores
+-- lists of steps: each call's three phases, entries minus leavings, the start, what every list keeps
+pub mod Thirds
+pub mod Occupied
+pub mod Phases
+pub mod StartFacts
+pub mod Logs
+pub mod Kept
+-- the abstract circuit: its states and moves, and what is left to read
+pub mod Shape
+pub mod Frame
+pub mod Within
+pub mod Left
+pub mod LeftFacts
+pub mod Moves
+pub mod Counts
+pub mod Places
+pub mod SelfCalls
+pub mod Mix
+-- its invariant, and the four kinds of step that keep it
+pub mod Invariant
+pub mod Enter
+pub mod Leave
+pub mod Again
+-- some node has a step; a call that waits is listed
+pub mod Progress
+pub mod Exclusive
+pub mod Collide
+-- the whole rest falls by one with each step, and the answer is the reading's, which is unique
+pub mod SumLaws
+pub mod Remaining
+pub mod TotalEnter
+pub mod Total
+pub mod Answers
+pub mod Levels

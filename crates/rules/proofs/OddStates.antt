@@ -1,0 +1,78 @@
+-- states that no start leads to: the rules to the letter, on f(x) = x, main(x) = f(f(x)) and on mult
+use Prim.Native.Nat.{ℕ}
+use mathlib.Core.Path.{_≡_, refl}
+use mathlib.Core.List.{List, [], _∷_}
+use mathlib.Core.Bool.{true}
+use Rattle.rules.specs.State.{State512, entry, write}
+use Rattle.rules.specs.Step.{Reply, taken, answered, refused, with-status, with-second, with-occupant}
+use Rattle.rules.specs.Circuit.{playOf, stepOf}
+use Rattle.rules.specs.Runs.{whole, stopped, runOf}
+use Rattle.table.specs.Designs.{twice, mult}
+use Rattle.rules.proofs.Cases.{from, circuit-open}
+
+-- a state with another status at node n, another phase, another occupant
+abbrev status-at : ℕ → ℕ → State512 → State512
+status-at n v s = with-status s (write (s .status) n v)
+
+abbrev second-at : ℕ → State512 → State512
+second-at n s = with-second s (write (s .second) n true)
+
+abbrev occupant-at : ℕ → ℕ → State512 → State512
+occupant-at f c s = with-occupant s (write (s .occupant) f c)
+
+-- main's root is node 2, a call of f; N is 4, F is 2
+abbrev start : State512
+start = from twice (0 ∷ []) (9 ∷ [])
+
+abbrev says : State512 → List ℕ → List Reply
+says s ns = playOf twice (0 ∷ []) s ns .answers
+
+-- 24 for a status over 3 or an occupant over N, after 12 and before 20; entries past N and F are not looked at
+bad-status : says (status-at 2 3 (status-at 4 4 start)) (0 ∷ 2 ∷ 5 ∷ []) ≡ refused 12 0 ∷ refused 24 0 ∷ refused 12 0 ∷ []
+unfolding circuit-open
+bad-status = refl
+
+bad-occupant : says (occupant-at 1 5 start) (2 ∷ []) ≡ refused 24 0 ∷ []
+unfolding circuit-open
+bad-occupant = refl
+
+past : says (occupant-at 3 5 (status-at 5 4 start)) (2 ∷ []) ≡ taken ∷ []
+unfolding circuit-open
+past = refl
+
+-- a run says 24 before the 12 of its first step, also over an empty list
+run-first : runOf twice (0 ∷ []) (status-at 4 4 start) (0 ∷ []) .halt ≡ stopped 24 0
+unfolding circuit-open
+run-first = refl
+
+run-empty : runOf twice (0 ∷ []) (status-at 4 4 start) [] .halt ≡ stopped 24 0
+unfolding circuit-open
+run-empty = refl
+
+run-nothing : runOf twice (0 ∷ []) start [] ≡ record { taken = 0; halt = whole; state = start }
+unfolding circuit-open
+run-nothing = refl
+
+-- a busy parameter has no step, an idle call none, an open call steps whatever its flag, and keeps it
+letter : says (second-at 2 (status-at 4 2 start)) (4 ∷ 3 ∷ 2 ∷ 2 ∷ []) ≡ refused 21 4 ∷ refused 21 3 ∷ taken ∷ refused 21 2 ∷ []
+unfolding circuit-open
+letter = refl
+
+-- a call in its second phase leaves when its callee's root is done, whoever occupies it, and frees the resource
+stranger : says (status-at 1 3 (occupant-at 1 3 (second-at 2 (status-at 2 2 start)))) (2 ∷ 2 ∷ []) ≡ answered 0 ∷ refused 20 2 ∷ []
+unfolding circuit-open
+stranger = refl
+
+-- a self call ignores its flag and its function's occupant, which stays; node 10 of mult is the self call, 11, 13, 15 its arguments
+abbrev ready : State512
+ready =
+    let s = from mult (0 ∷ 0 ∷ 0 ∷ []) (3 ∷ 0 ∷ 7 ∷ []) in
+    occupant-at 1 10 (second-at 10 (status-at 10 2 (status-at 11 3 (status-at 13 3 (status-at 15 3 s)))))
+
+self-call : playOf mult (0 ∷ 0 ∷ 0 ∷ []) ready (10 ∷ []) .answers ≡ taken ∷ []
+unfolding circuit-open
+self-call = refl
+
+self-stays : entry (stepOf mult (0 ∷ 0 ∷ 0 ∷ []) ready 10 .state .occupant) 0 1 ≡ 10
+unfolding circuit-open
+self-stays = refl

@@ -1,0 +1,243 @@
+-- when a step is taken, when it is refused, and that a step taken is one of the abstract circuit
+use Prim.Native.Nat.{ℕ, zero, suc, _≤_, _<_}
+use mathlib.Core.Bool.{Bool, true, false}
+use mathlib.Core.Path.{_≡_, refl, subst, sym}
+use mathlib.Core.Logic.{inl, inr, ⊎-elim}
+use mathlib.Core.List.{List}
+use native.Mathlib.Omega.{arith}
+use lib.Dec.{eqb, ltb}
+use borrow.Author.Tests.{eqb-true, eq-eqb, eqb-false, ltb-true, ltb-false}
+use Rattle.table.specs.Syntax.{Expr, Exprs, const, param, prim, call, self, cond, bind, bound, id, Node, Sub}
+use Rattle.rules.specs.State.{View, State512, view}
+use Rattle.table.specs.Environment.{values}
+use Rattle.rules.proofs.Shape.{Busy}
+use Rattle.rules.specs.Reading.{Chosen}
+use Rattle.table.proofs.SyntaxLaws.{node-id, apart-sub, sub-node}
+use Rattle.rules.proofs.Moves.{Finished*}
+use Rattle.table.proofs.CallPlaces.{sub-call}
+use Rattle.table.specs.Pick.{pick, Range}
+use Rattle.rules.proofs.Invariant.{Fn}
+use Rattle.rules.proofs.Progress.{Able}
+use Rattle.rules.specs.Step.{Act, stuck, blocked, does, Move, turns, finishes, restarts, done, all-done, branch, by-status, act}
+use Rattle.rules.specs.Step.{refused, Stepped, told, outcome, over, perform, circuitStep}
+use Rattle.rules.proofs.Performed.{Owns, FairAct}
+use Rattle.table.specs.Well.{Laid}
+use Rattle.rules.proofs.LaidFacts.{length-values, root-node, all-done-finished, finished-all-done}
+use Rattle.rules.proofs.ActCases.{by-pick, by-state}
+
+abbrev pub Moves : Act → Type 0
+Moves stuck = ⊥
+Moves blocked = ⊥
+Moves (does m) = Unit {0}
+
+abbrev pub Blocks : Act → Type 0
+Blocks stuck = ⊥
+Blocks blocked = Unit {0}
+Blocks (does m) = ⊥
+
+-- a call that waits at an occupied resource, its arguments done
+abbrev pub Waits : View → Expr → Type 0
+Waits s u = (n g : ℕ) × (es : Exprs) × (u ≡ call n g es) × Busy s n false × Finished* s es × (s .occupant g ≡ 0 → ⊥)
+
+-- the case that a test takes
+module _ (P : Act → Type 0) where
+  pick-true : (b : Bool) (x y : Act) → b ≡ true → P x → P (pick b x y)
+  pick-true b x y e h = subst (λ c. P (pick c x y)) (sym e) h
+
+  pick-false : (b : Bool) (x y : Act) → b ≡ false → P y → P (pick b x y)
+  pick-false b x y e h = subst (λ c. P (pick c x y)) (sym e) h
+
+  at-open : (t : ℕ) (o b : Act) → t ≡ 1 → P o → P (by-status t o b)
+  at-open t o b e h = pick-true (eqb t 1) o (pick (eqb t 2) b stuck) (eq-eqb t 1 e) h
+
+  at-busy : (t : ℕ) (o b : Act) → t ≡ 2 → P b → P (by-status t o b)
+  at-busy t o b e h = subst (λ c. P (by-status c o b)) (sym e) h
+
+module _ (apply : ℕ → List ℕ → ℕ) {F N : ℕ} {body at : ℕ → Expr} {home : ℕ → ℕ} (laid : Laid F N body at home) where
+  module _ (s : View) (h : ℕ) (r : Fn apply F body h) where
+    range : (u : Expr) → Sub u (body h) → (m : ℕ) → Node m u → Range N m
+    range u p m k = let i = laid .inside h m (r .0) (r .1) (sub-node u m (body h) p k) in (i .1, i .2)
+
+    own-root : (g : ℕ) → Fn apply F body g → Owns N home g (id (body g))
+    own-root g q = let i = laid .inside g (id (body g)) (q .0) (q .1) (node-id (body g)) in (i .1, i .2, i .0)
+
+    pub act-fair : (u : Expr) → Sub u (body h) → FairAct F N home body (id u) (act apply body h s u)
+    act-fair (const n v) p = by-state (FairAct F N home body n) (s .status n) _ _ (λ o. tt) (λ b. tt) tt
+    act-fair (param n i) p = by-state (FairAct F N home body n) (s .status n) _ _ (λ o. tt) (λ b. tt) tt
+    act-fair (bound n d) p = by-state (FairAct F N home body n) (s .status n) _ _ (λ o. tt) (λ b. tt) tt
+    act-fair (prim n op es) p = by-state (FairAct F N home body n) (s .status n) _ _
+        (λ o. (
+          λ m i. range (prim n op es) p m (inr (root-node m es i)),
+          λ i. apart-sub (prim n op es) (body h) (laid .well .apart h (r .0) (r .1)) p .0 (root-node n es i),
+        ))
+        (λ b. by-pick (FairAct F N home body n) (all-done s es) _ _ (λ e. tt) (λ e. tt)) tt
+    act-fair (call n g es) p = by-state (FairAct F N home body n) (s .status n) _ _
+        (λ o. (
+          λ m i. range (call n g es) p m (inr (root-node m es i)),
+          λ i. apart-sub (call n g es) (body h) (laid .well .apart h (r .0) (r .1)) p .0 (root-node n es i),
+        ))
+        (λ b. by-pick (FairAct F N home body n) (s .second n) _ _
+        (λ e. by-pick (FairAct F N home body n) (done s (id (body g))) _ _ (λ e. (g<h .0, fn-g .1)) (λ e. tt))
+        (λ e. by-pick (FairAct F N home body n) (all-done s es) _ _
+        (λ e. by-pick (FairAct F N home body n) (eqb (s .occupant g) 0) _ _
+        (λ e. (
+          g<h .0,
+          fn-g .1,
+          omega (arith, length-values s es, laid .narrow h (call n g es) (r .0) (r .1) p),
+          own-root g fn-g,
+          elsewhere,
+        )) (λ e. tt))
+        (λ e. tt)))
+        tt
+      where
+        g<h : (1 ≤ g) × (g < h)
+        g<h = laid .well .below h n g (r .0) (r .1) (sub-call n g es (body h) p)
+
+        fn-g : Fn apply F body g
+        fn-g = (g<h .0, omega (arith, g<h .1, r .1))
+
+        elsewhere : Owns N home g n → ⊥
+        elsewhere o = omega (arith, o .2, laid .inside h n (r .0) (r .1) (sub-node (call n g es) n (body h) p (inl refl)) .0, g<h .1)
+    act-fair (self n es) p = by-state (FairAct F N home body n) (s .status n) _ _
+        (λ o. (
+          λ m i. range (self n es) p m (inr (root-node m es i)),
+          λ i. apart-sub (self n es) (body h) (laid .well .apart h (r .0) (r .1)) p .0 (root-node n es i),
+        ))
+        (λ b. by-pick (FairAct F N home body n) (all-done s es) _ _
+        (λ e. (r .0, r .1, omega (arith, length-values s es, laid .narrow h (self n es) (r .0) (r .1) p), own-root h r)) (λ e. tt)) tt
+    act-fair (cond n a b c) p = by-state (FairAct F N home body n) (s .status n) _ _
+        (λ o. (
+          λ m i. ⊎-elim (λ e. range (cond n a b c) p m (inr (inl (subst (λ y. Node y a) (sym e) (node-id a))))) absurd i,
+          λ i. ⊎-elim (λ e. apart-sub (cond n a b c) (body h) (laid .well .apart h (r .0) (r .1)) p .0
+              (subst (λ y. Node y a) (sym e) (node-id a)))
+              absurd i,
+        ))
+        (λ t. by-pick (FairAct F N home body n) (s .second n) _ _
+        (λ e. by-pick (FairAct F N home body n) (done s (id (branch (s .value (id a)) b c))) _ _ (λ e. tt) (λ e. tt))
+        (λ e. by-pick (FairAct F N home body n) (done s (id a)) _ _ (λ e. chosen (s .value (id a))) (λ e. tt)))
+        tt
+      where
+        chosen : (v : ℕ) → Range N (id (branch v b c))
+        chosen zero = range (cond n a b c) p (id c) (inr (inr (inr (node-id c))))
+        chosen (suc v) = range (cond n a b c) p (id b) (inr (inr (inl (node-id b))))
+    act-fair (bind n ds b) p = by-state (FairAct F N home body n) (s .status n) _ _
+        (λ o. (
+          λ m i. range (bind n ds b) p m (inr (inl (root-node m ds i))),
+          λ i. apart-sub (bind n ds b) (body h) (laid .well .apart h (r .0) (r .1)) p .0 (root-node n ds i),
+        ))
+        (λ t. by-pick (FairAct F N home body n) (s .second n) _ _
+        (λ e. by-pick (FairAct F N home body n) (done s (id b)) _ _ (λ e. tt) (λ e. tt))
+        (λ e. by-pick (FairAct F N home body n) (all-done s ds) _ _ (λ e. range (bind n ds b) p (id b) (inr (inr (node-id b))))
+        (λ e. tt)))
+        tt
+
+    -- a node that has a step in the abstract circuit moves
+    pub able-moves : (u : Expr) → Able apply F body s u → Moves (act apply body h s u)
+    able-moves (const n v) o = at-open Moves (s .status n) _ _ (o .0) tt
+    able-moves (param n i) o = at-open Moves (s .status n) _ _ (o .0) tt
+    able-moves (bound n d) o = at-open Moves (s .status n) _ _ (o .0) tt
+    able-moves (prim n op es) (inl o) = at-open Moves (s .status n) _ _ (o .0) tt
+    able-moves (prim n op es) (inr b) = at-busy Moves (s .status n) _ _ (b .0)
+        (pick-true Moves (all-done s es) _ _ (finished-all-done s es (b .1)) tt)
+    able-moves (call n g es) (inl o) = at-open Moves (s .status n) _ _ (o .0) tt
+    able-moves (call n g es) (inr (inl b)) = at-busy Moves (s .status n) _ _ (b .0 .0) (pick-false Moves (s .second n) _ _ (b .0 .1)
+        (pick-true Moves (all-done s es) _ _ (finished-all-done s es (b .1))
+        (pick-true Moves (eqb (s .occupant g) 0) _ _ (eq-eqb (s .occupant g) 0 (b .2)) tt)))
+    able-moves (call n g es) (inr (inr b)) = at-busy Moves (s .status n) _ _ (b .0 .0) (pick-true Moves (s .second n) _ _ (b .0 .1)
+        (pick-true Moves (done s (id (body g))) _ _ (eq-eqb (s .status (id (body g))) 3 (b .1)) tt))
+    able-moves (self n es) (inl o) = at-open Moves (s .status n) _ _ (o .0) tt
+    able-moves (self n es) (inr b) = at-busy Moves (s .status n) _ _ (b .0)
+        (pick-true Moves (all-done s es) _ _ (finished-all-done s es (b .1)) tt)
+    able-moves (cond n a b c) (inl o) = at-open Moves (s .status n) _ _ (o .0) tt
+    able-moves (cond n a b c) (inr (inl x)) = at-busy Moves (s .status n) _ _ (x .0 .0) (pick-false Moves (s .second n) _ _ (x .0 .1)
+        (pick-true Moves (done s (id a)) _ _ (eq-eqb (s .status (id a)) 3 (x .1)) tt))
+    able-moves (cond n a b c) (inr (inr x)) = at-busy Moves (s .status n) _ _ (x .0 .0) (pick-true Moves (s .second n) _ _ (x .0 .1)
+        (pick-true Moves (done s (id (branch (s .value (id a)) b c))) _ _ (chosen (s .value (id a)) (x .1)) tt))
+      where
+        chosen : (v : ℕ) → Chosen (s .status (id b) ≡ 3) (s .status (id c) ≡ 3) v → done s (id (branch v b c)) ≡ true
+        chosen zero e = eq-eqb (s .status (id c)) 3 e
+        chosen (suc v) e = eq-eqb (s .status (id b)) 3 e
+    able-moves (bind n ds b) (inl o) = at-open Moves (s .status n) _ _ (o .0) tt
+    able-moves (bind n ds b) (inr (inl x)) = at-busy Moves (s .status n) _ _ (x .0 .0) (pick-false Moves (s .second n) _ _ (x .0 .1)
+        (pick-true Moves (all-done s ds) _ _ (finished-all-done s ds (x .1)) tt))
+    able-moves (bind n ds b) (inr (inr x)) = at-busy Moves (s .status n) _ _ (x .0 .0) (pick-true Moves (s .second n) _ _ (x .0 .1)
+        (pick-true Moves (done s (id b)) _ _ (eq-eqb (s .status (id b)) 3 (x .1)) tt))
+
+    -- a node is blocked only so
+    free : (n : ℕ) (u : Expr) (t : ℕ) (o b : Act) → (Blocks o → ⊥) → (Blocks b → ⊥) → Blocks (by-status t o b) → Waits s u
+    free n u t o b f g = by-state (λ x. Blocks x → Waits s u) t o b (λ e k. absurd (f k)) (λ e k. absurd (g k)) absurd
+
+    open-test : (b : Bool) (m : Move) → Blocks (pick b (does m) stuck) → ⊥
+    open-test true m k = k
+    open-test false m k = k
+
+    two-tests : (b c d : Bool) (m l : Move) → Blocks (pick b (pick c (does m) stuck) (pick d (does l) stuck)) → ⊥
+    two-tests true c d m l k = open-test c m k
+    two-tests false c d m l k = open-test d l k
+
+    pub blocked-waits : (u : Expr) → Blocks (act apply body h s u) → Waits s u
+    blocked-waits (const n v) = free n (const n v) (s .status n) _ _ (λ z. z) (λ z. z)
+    blocked-waits (param n i) = free n (param n i) (s .status n) _ _ (λ z. z) (λ z. z)
+    blocked-waits (bound n d) = free n (bound n d) (s .status n) _ _ (λ z. z) (λ z. z)
+    blocked-waits (prim n op es) = free n (prim n op es) (s .status n) _ _ (λ z. z)
+        (open-test (all-done s es) (finishes (apply op (values (s .value) es))))
+    blocked-waits (self n es) = free n (self n es) (s .status n) _ _ (λ z. z)
+        (open-test (all-done s es) (restarts h (values (s .value) es)))
+    blocked-waits (cond n a b c) =
+        let r : Expr = branch (s .value (id a)) b c in
+        free n (cond n a b c) (s .status n) _ _ (λ z. z) (two-tests (s .second n) (done s (id r)) (done s (id a))
+        (finishes (s .value (id r))) (turns (id r)))
+    blocked-waits (bind n ds b) = free n (bind n ds b) (s .status n) _ _ (λ z. z)
+        (two-tests (s .second n) (done s (id b)) (all-done s ds) (finishes (s .value (id b))) (turns (id b)))
+    blocked-waits (call n g es) = by-state (λ x. Blocks x → Waits s (call n g es)) (s .status n) _ _ (λ e. absurd)
+        (λ t. by-pick (λ x. Blocks x → Waits s (call n g es)) (s .second n) _ _
+        (λ w k. absurd (open-test (done s (id (body g))) _ k))
+        (λ w. by-pick (λ x. Blocks x → Waits s (call n g es)) (all-done s es) _ _
+        (λ f. by-pick (λ x. Blocks x → Waits s (call n g es)) (eqb (s .occupant g) 0) _ _ (λ e. absurd)
+        (λ e k. (n, g, es, refl, (t, w), all-done-finished s es f, eqb-false (s .occupant g) 0 e)))
+        (λ e. absurd)))
+        absurd
+
+  -- the cases of a step, in the order of document 01
+  module _ (tags : ℕ → Bool) (s : State512) (n : ℕ) (P : Stepped → Type 0) where
+    abbrev Refuses : ℕ → ℕ → Type 0
+    Refuses k p = P (record { answer = refused k p; state = s })
+
+    abbrev Main : Bool
+    Main = done (view s) (id (body F))
+
+    abbrev Here : Act
+    Here = act apply body (home n) (view s) (at n)
+
+    by-test : (b : Bool) (x y : Stepped) → (b ≡ true → P x) → (b ≡ false → P y) → P (pick b x y)
+    by-test true x y f g = f refl
+    by-test false x y f g = g refl
+
+    pub by-outcome : (a : Act) → (a ≡ stuck → Refuses 21 n) → (a ≡ blocked → Refuses (pick (tags n) 22 23) n)
+        → ((m : Move) → a ≡ does m → P (record {
+          answer = told (id (body F)) (view (perform N home body s n m));
+          state = perform N home body s n m;
+        }))
+        → P (outcome apply F N body at home tags s n a)
+    by-outcome stuck f g h = f refl
+    by-outcome blocked f g h = g refl
+    by-outcome (does m) f g h = h m refl
+
+    pub step-cases : ((Range N n → ⊥) → Refuses 12 0)
+        → (over 3 N (s .status) ≡ true → Refuses 24 0) → (over N F (s .occupant) ≡ true → Refuses 24 0)
+        → (Range N n → Main ≡ true → Refuses 20 n)
+        → (Range N n → Main ≡ false → Here ≡ stuck → Refuses 21 n)
+        → (Range N n → Main ≡ false → Here ≡ blocked → Refuses (pick (tags n) 22 23) n)
+        → (Range N n → Main ≡ false → (m : Move) → Here ≡ does m
+        → P (record { answer = told (id (body F)) (view (perform N home body s n m)); state = perform N home body s n m }))
+        → P (circuitStep apply F N body at home tags s n)
+    unfolding circuitStep
+    step-cases c12 c24 c24′ c20 c21 c22 c =
+        by-test (eqb n 0) _ _ (λ e. c12 (λ r. omega (arith, r .0, eqb-true n 0 e)))
+        (λ e0. by-test (ltb N n) _ _ (λ e. c12 (λ r. omega (arith, r .1, ltb-true N n e)))
+        (λ e1. by-test (over 3 N (s .status)) _ _ c24 (λ e2. by-test (over N F (s .occupant)) _ _ c24′
+        (λ e3. by-test Main _ _ (c20 (there e0 e1)) (λ e4. by-outcome Here (c21 (there e0 e1) e4) (c22 (there e0 e1) e4)
+        (c (there e0 e1) e4))))))
+      where
+        there : eqb n 0 ≡ false → ltb N n ≡ false → Range N n
+        there a b = (omega (arith, eqb-false n 0 a), ltb-false N n b)

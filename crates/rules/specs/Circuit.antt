@@ -1,0 +1,72 @@
+-- start, step and play over the bytes of a table and of tags, with the refusals in document 01's order
+use Prim.Native.Nat.{ℕ}
+use mathlib.Core.List.{List}
+use lib.Dec.{eqb}
+use lib.ListN.{length}
+use Rattle.rules.specs.State.{State512, view, circuitStart, zeros}
+use Rattle.rules.specs.Step.{Act, act, Stepped, refusal, circuitStep}
+use Rattle.rules.specs.Play.{Ask, asks, Log, Accepted, played, entries, leavings}
+use Rattle.rules.specs.Operations.{operate}
+use Rattle.table.specs.Bytes.{functions, nodes, params}
+use Rattle.table.specs.Naming.{owner}
+use Rattle.table.specs.Check.{Verdict, accepted, refused, stage}
+use Rattle.table.specs.Expressions.{exprAt, bodyOf}
+use Rattle.list.specs.Tags.{tagged, after, checkWith}
+
+-- a start's answer
+pub data Started : Type 0 where
+  started : State512 → Started
+  turned : (number place : ℕ) → Started
+
+-- "start checks the table, tags, 11": "argument count isn't main's parameter count"
+unfoldable pub checkStart : List ℕ → List ℕ → List ℕ → Verdict
+checkStart t tags args = after (checkWith t tags) λ _.
+    stage 11 (eqb (length args) (params t (functions t))) 0 λ _.
+    accepted (functions t) (nodes t)
+
+unfoldable pub startAfter : Verdict → State512 → Started
+startAfter (accepted F N) s = started s
+startAfter (refused number place) s = turned number place
+
+unfoldable pub startOf : (t tags args : List ℕ) → Started
+startOf t tags args = startAfter (checkStart t tags args) (circuitStart (functions t) (bodyOf t) args)
+
+-- the state that a start returns: all zero where it is refused
+abbrev pub stateOf : Started → State512
+stateOf (started s) = s
+stateOf (turned number place) = zeros
+
+-- the step that node n has in state s
+abbrev pub actOf : (t : List ℕ) → State512 → ℕ → Act
+actOf t s n = act operate (bodyOf t) (owner t n) (view s) (exprAt t n)
+
+-- the circuit of a table, whatever was checked: 12, 24, 20, then 21 to 23
+unfoldable pub circuitOf : (t tags : List ℕ) → State512 → ℕ → Stepped
+circuitOf t tags s n = circuitStep operate (functions t) (nodes t) (bodyOf t) (exprAt t) (owner t) (tagged tags) s n
+
+unfoldable pub stepAfter : Verdict → State512 → Stepped → Stepped
+stepAfter (accepted F N) s r = r
+stepAfter (refused number place) s r = refusal s number place
+
+-- "A step checks the table, tags, 12, 24, 20, then 21 to 23"
+unfoldable pub stepOf : (t tags : List ℕ) → State512 → ℕ → Stepped
+stepOf t tags s n = stepAfter (checkWith t tags) s (circuitOf t tags s n)
+
+-- "Some step would be taken next if a step asked then at some node isn't refused"
+abbrev pub Possible : (t tags : List ℕ) → State512 → ℕ → Type 0
+Possible t tags s n = Accepted (stepOf t tags s n .answer)
+
+-- steps asked one after the other, "its table being the table of every step", each with tags of its own
+unfoldable pub playsOf : (t : List ℕ) → State512 → List (Ask (List ℕ)) → Log
+playsOf t s asked = played (stepOf t) s asked
+
+-- a list of numbers, "0 and above N too", asked under one tag list
+unfoldable pub playOf : (t tags : List ℕ) → State512 → List ℕ → Log
+playOf t tags s ns = played (stepOf t) s (asks tags ns)
+
+-- a resource's entries and leavings among the steps taken, function f
+unfoldable pub entriesOf : (t : List ℕ) → ℕ → List ℕ → ℕ
+entriesOf t f ns = entries (nodes t) (exprAt t) f ns
+
+unfoldable pub leavingsOf : (t : List ℕ) → ℕ → List ℕ → ℕ
+leavingsOf t f ns = leavings (nodes t) (exprAt t) f ns

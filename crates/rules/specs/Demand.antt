@@ -1,0 +1,36 @@
+-- the third demand over bytes (document 01, "What the third demand speaks of")
+use Prim.Native.Nat.{ℕ, _+_, _≤_}
+use mathlib.Core.Path.{_≡_}
+use mathlib.Core.Logic.{_⊎_}
+use mathlib.Core.List.{List}
+use lib.ListN.{length, take}
+use Rattle.table.specs.Bytes.{functions}
+use Rattle.list.specs.Tags.{Holding}
+use Rattle.rules.specs.Reading.{ReadsTo}
+use Rattle.rules.specs.State.{State512, In}
+use Rattle.rules.specs.Step.{answered, refused}
+use Rattle.rules.specs.Play.{Log}
+use Rattle.rules.specs.Circuit.{started, startOf, playOf, entriesOf, leavingsOf, Possible}
+
+-- "Main has answered if a step of the list did, and its value is the one in that answer"
+abbrev pub Answers : Log → ℕ → Type 0
+Answers l v = In (answered v) (l .answers)
+
+-- "It is one claim about the whole list of steps": ns "may be empty or go on past the answer, and a step may be asked at any number,
+-- 0 and above N too"; s is the state of a start with these arguments
+pub record DemandThree (t tags args : List ℕ) (s : State512) (ns : List ℕ) : Type 0 where
+  -- no step is refused 23: no call that waits at an occupied resource is without an arbiter
+  pub arbitrated : (place : ℕ) → In (refused 23 place) (playOf t tags s ns .answers) → ⊥
+  -- "a resource's entries are never more than one above its leavings": after every prefix of the list
+  pub exclusive : (k f : ℕ) → 1 ≤ f → f ≤ functions t
+      → entriesOf t f (playOf t tags s (take k ns) .nodes) ≤ leavingsOf t f (playOf t tags s (take k ns) .nodes) + 1
+  -- main has answered, or "some step would be taken next"
+  pub lively : ((v : ℕ) × Answers (playOf t tags s ns) v) ⊎ ((n : ℕ) × Possible t tags (playOf t tags s ns .state) n)
+  -- main's value is the reading's, and the reading's count is the number of steps taken
+  pub right : (v : ℕ) → Answers (playOf t tags s ns) v → ReadsTo t args v (length (playOf t tags s ns .nodes))
+
+-- the whole demand: its premises are that start takes table, tags and arguments, and that the tags hold the arbiter list
+abbrev pub ThirdDemand : Type 0
+ThirdDemand = (t tags args : List ℕ) (s : State512) → startOf t tags args ≡ started s
+    → Holding t tags
+    → (ns : List ℕ) → DemandThree t tags args s ns

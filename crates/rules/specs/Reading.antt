@@ -1,0 +1,71 @@
+-- the plain reading with its count (document 01, "The plain reading and its count"): "a definition and no entry"
+use Prim.Native.Nat.{ℕ, zero, suc, _+_}
+use mathlib.Core.Path.{_≡_}
+use mathlib.Core.List.{List, [], _∷_}
+use native.Mathlib.Decide.{ℕ-discrete}
+use lib.ListN.{getD}
+use Rattle.table.specs.Syntax.{Expr, Exprs, const, param, prim, call, self, cond, bind, bound, none, some}
+use Rattle.table.specs.Environment.{extend}
+use Rattle.table.specs.Pick.{mixed}
+use Rattle.table.specs.Bytes.{functions}
+use Rattle.table.specs.Expressions.{bodyOf}
+use Rattle.rules.specs.Operations.{operate}
+
+-- what an expression comes to: a value, or its function read anew with these arguments
+pub data Outcome : Type 0 where
+  val : ℕ → Outcome
+  again : List ℕ → Outcome
+
+-- "An if or let whose last part ended in a self call counts 2 instead of 3"
+abbrev pub last : Outcome → ℕ
+last (val v) = 1
+last (again vs) = 0
+
+-- "An if takes "then" when the condition isn't 0": X if v is not 0, else Y
+abbrev pub Chosen : Type 0 → Type 0 → ℕ → Type 0
+Chosen X Y zero = Y
+Chosen X Y (suc v) = X
+
+-- function g, read with these arguments, has this value and this count
+abbrev pub Readings : Type 1
+Readings = (g : ℕ) → List ℕ → (value count : ℕ) → Type 0
+
+-- K reads the callees, `args` are the arguments of this function, ρ the values of the definientia in scope
+module _ (apply : ℕ → List ℕ → ℕ) (K : Readings) (args : ℕ → ℕ) where
+  abbrev mutual
+    pub Reads : Expr → (ℕ → ℕ) → Outcome → (count : ℕ) → Type 0
+    -- "A constant, parameter or bound counts 1"
+    Reads (const n v) ρ o k = (o ≡ val v) × (k ≡ 1)
+    Reads (param n i) ρ o k = (o ≡ val (args i)) × (k ≡ 1)
+    Reads (bound n d) ρ o k = (o ≡ val (ρ d)) × (k ≡ 1)
+    -- "primitive 2 plus children"
+    Reads (prim n op es) ρ o k = (vs : List ℕ) × (j : ℕ) × Reads* es ρ vs j × (o ≡ val (apply op vs)) × (k ≡ 2 + j)
+    -- "call 3 plus arguments plus the callee's body"
+    Reads (call n g es) ρ o k = (vs : List ℕ) × (v j i : ℕ) × Reads* es ρ vs j × K g vs v i × (o ≡ val v) × (k ≡ 3 + j + i)
+    -- "self call 2 plus arguments, then the body again" (`Round`)
+    Reads (self n es) ρ o k = (vs : List ℕ) × (j : ℕ) × Reads* es ρ vs j × (o ≡ again vs) × (k ≡ 2 + j)
+    -- "if and let 3 plus what was evaluated"
+    Reads (cond n a b c) ρ o k = (v j i : ℕ) × Reads a ρ (val v) j × Chosen (Reads b ρ o i) (Reads c ρ o i) v × (k ≡ 2 + last o + j + i)
+    Reads (bind n ds b) ρ o k = (vs : List ℕ) × (j i : ℕ) × Reads* ds ρ vs j × Reads b (extend ds vs ρ) o i × (k ≡ 2 + last o + j + i)
+
+    -- children, definientia, arguments: "Arguments by value"
+    pub Reads* : Exprs → (ℕ → ℕ) → List ℕ → (count : ℕ) → Type 0
+    Reads* none ρ vs j = (vs ≡ []) × (j ≡ 0)
+    Reads* (some e es) ρ vs j = (v : ℕ) × (ws : List ℕ) × (i i′ : ℕ) × Reads e ρ (val v) i × Reads* es ρ ws i′ × (vs ≡ v ∷ ws)
+        × (j ≡ i + i′)
+
+-- "a self call that of its own function's root read anew": body e until it comes to a value
+pub data Round (apply : ℕ → List ℕ → ℕ) (K : Readings) (e : Expr) : List ℕ → ℕ → ℕ → Type 0 where
+  stops : {vs : List ℕ} {v k : ℕ} → Reads apply K (λ x. getD vs x 0) e (λ d. 0) (val v) k → Round apply K e vs v k
+  goes : {vs : List ℕ} {v k : ℕ} (ws : List ℕ) (j i : ℕ) → Reads apply K (λ x. getD vs x 0) e (λ d. 0) (again ws) j
+      → Round apply K e ws v i → k ≡ j + i → Round apply K e vs v k
+
+module _ (apply : ℕ → List ℕ → ℕ) (body : ℕ → Expr) where
+  -- "a call that of the callee's root read with the values of its arguments": the functions 1 to t, a callee being lower than its caller
+  abbrev pub readings : ℕ → Readings
+  readings zero g vs v k = ⊥
+  readings (suc t) g vs v k = mixed (ℕ-discrete g (suc t)) (Round apply (readings t) (body g) vs v k) (readings t g vs v k)
+
+-- "Main's root is read with the arguments of the start; nothing is taken from the circuit": it ends with value v, counting k
+abbrev pub ReadsTo : (t args : List ℕ) → (v k : ℕ) → Type 0
+ReadsTo t args v k = readings operate (bodyOf t) (functions t) (functions t) args v k
