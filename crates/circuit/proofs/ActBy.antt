@@ -1,7 +1,7 @@
 -- the step of a node, read off its record, is the step of its expression; and where the numbers in a record lead
-use Prim.Native.Nat.{ℕ, zero, suc, _≤_, _<_}
-use mathlib.Core.Bool.{Bool, true, false, _&&_}
-use mathlib.Core.Path.{_≡_, refl, subst, sym, ap, ap₂, _∙_}
+use Prim.Native.Nat.{ℕ, zero, suc}
+use mathlib.Core.Bool.{false, _&&_}
+use mathlib.Core.Path.{_≡_, refl, sym, ap, ap₂, _∙_}
 use mathlib.Core.List.{List, [], _∷_, _++_, map}
 use native.Mathlib.Omega.{arith}
 use lib.Dec.{eqb}
@@ -9,23 +9,23 @@ use borrow.Author.Tests.{eq-eqb, ne-eqb}
 use Rattle.table.specs.Pick.{pick}
 use Rattle.table.specs.Environment.{values}
 use Rattle.table.specs.Syntax.{Expr, Exprs, none, some, id, roots, const, param, prim, call, self, cond, bind, bound}
-use Rattle.table.specs.Bytes.{functions, nodes, root, kind, extra, word, first, next}
+use Rattle.table.specs.Bytes.{root, kind, extra, word, first}
 use Rattle.table.specs.Naming.{owner, chain, children}
 use Rattle.table.specs.Expressions.{exprsAt, exprAt, bodyOf, defsAt, finalAt, thenAt, elseAt}
-use Rattle.table.specs.Working.{IsNode, IsFunction, Linked}
+use Rattle.table.specs.Working.{IsNode, IsFunction}
 use Rattle.table.proofs.Passed.{Passed}
 use Rattle.table.proofs.Family.{owner-in}
 use Rattle.table.proofs.View.{View as NodeView, view as node-view, id-at, is-const, is-param, is-prim, is-call, is-self, is-cond, is-bind}
 use Rattle.table.proofs.View.{is-bound}
 use Rattle.table.proofs.Children.{values-are, roots-kids, Final, final}
 use Rattle.table.proofs.Accepted.{id-body}
-use Rattle.rules.specs.State.{State512, View, view, entry, register}
-use Rattle.rules.specs.Step.{Act, stuck, blocked, does, begins, turns, finishes, enters, leaves, restarts, done, all-done, branch}
-use Rattle.rules.specs.Step.{by-status, act}
+use Rattle.rules.specs.State.{State512, View, view, entry}
+use Rattle.rules.specs.Step.{Act, stuck, blocked, does, begins, turns, finishes, enters, leaves, restarts, all-done, branch, by-status}
+use Rattle.rules.specs.Step.{act}
 use Rattle.rules.specs.Operations.{operate}
 use Rattle.rules.specs.Circuit.{actOf}
-use Rattle.circuit.specs.Plan.{Fair, allDone, initial, lastFrom, given, opens, openBy, passBy, primBy, selfBy, callBy, branchBy}
-use Rattle.circuit.specs.Plan.{condBy, bindBy, busyBy, actBy}
+use Rattle.circuit.specs.Plan.{Fair, allDone, initial, lastFrom, given, opens, openBy, primBy, selfBy, callBy, branchBy, condBy}
+use Rattle.circuit.specs.Plan.{bindBy, busyBy, actBy}
 use Rattle.circuit.proofs.ChainLaws.{ok}
 use Rattle.rules.proofs.AnyState.{bound-node}
 

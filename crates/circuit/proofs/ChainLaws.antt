@@ -1,8 +1,8 @@
 -- a chain of siblings, node by node: all done, the last one, opened one after the other
-use Prim.Native.Nat.{ℕ, zero, suc, _+_, _-_, _≤_, _<_}
-use mathlib.Core.Bool.{Bool, true, false, _&&_}
+use Prim.Native.Nat.{ℕ, _+_, _-_, _≤_, _<_}
+use mathlib.Core.Bool.{true, false, _&&_}
 use mathlib.Core.Path.{_≡_, refl, sym, ap, _∙_}
-use mathlib.Core.List.{List, [], _∷_, map}
+use mathlib.Core.List.{List, [], _∷_}
 use native.Mathlib.Omega.{arith}
 use native.Mathlib.Decide.{ℕ-discrete}
 use lib.Dec.{eqb}
@@ -16,7 +16,7 @@ use Rattle.table.proofs.Passed.{Passed, passed}
 use Rattle.table.proofs.Links.{link}
 use Rattle.table.proofs.Tree.{chain-none, chain-some, first-or, next-or}
 use mathlib.Core.Logic.{_⊎_, inl, inr}
-use Rattle.rules.specs.State.{entry, write, opened}
+use Rattle.rules.specs.State.{write, opened}
 use Rattle.rules.specs.Operations.{lastValue, wrap, operate}
 use Rattle.circuit.specs.Plan.{Fair, allDone, initial, lastFrom, operateBy}
 

@@ -1,5 +1,5 @@
 -- the entries: occupants as numbers, the owners that a survey tells, 24, and the steps of a run
-use Prim.Native.Nat.{ℕ, zero, suc, _+_, _-_, _≤_, _<_}
+use Prim.Native.Nat.{ℕ, suc, _+_, _-_, _≤_, _<_}
 use mathlib.Core.Bool.{Bool, true, false, _&&_, _||_, not}
 use mathlib.Core.Path.{_≡_, refl, subst, sym, ap, _∙_}
 use mathlib.Core.List.{List, [], _∷_, map}
@@ -9,7 +9,7 @@ use lib.Dec.{eqb}
 use lib.ListN.{length, getD, drop, drop-of-length-le, List·getD-map}
 use lib.Seq.{drop-cons}
 use Rattle.table.specs.Bytes.{functions, nodes}
-use Rattle.table.specs.Check.{Verdict, accepted, stage, checkOf}
+use Rattle.table.specs.Check.{accepted, stage, checkOf}
 use Rattle.table.specs.Survey.{ownersOf}
 use Rattle.table.specs.declared.Function.{Function}
 use Rattle.table.specs.declared.Node.{Node}
@@ -19,7 +19,7 @@ use Rattle.list.proofs.Owners.{owner-of}
 use Rattle.rules.specs.State.{State512}
 use Rattle.rules.specs.Step.{Reply, taken, answered, refused, Stepped, refusal, over}
 use Rattle.rules.specs.Circuit.{circuitOf, stepOf}
-use Rattle.rules.specs.Runs.{standing, Ran, Halt, whole, stopped, andThen, runFrom, runAfter, runOf}
+use Rattle.rules.specs.Runs.{standing, Ran, whole, stopped, andThen, runFrom, runOf}
 use Rattle.circuit.specs.Meaning.{numbers}
 use Rattle.circuit.specs.Plan.{Fair, Owners, Stands, Agreed, strayIn, ofFunction, asNode, stateAs}
 use Rattle.circuit.proofs.ChainLaws.{ok}

@@ -1,14 +1,13 @@
 -- the registers of a function, filled from a chain's values
-use Prim.Native.Nat.{ℕ, zero, suc, _+_, _-_, _*_, _/_, _%_, _≤_, _<_}
+use Prim.Native.Nat.{ℕ, _+_, _-_, _*_, _/_, _%_, _≤_, _<_}
 use mathlib.Core.Bool.{Bool, true, false, _&&_}
 use mathlib.Core.Path.{_≡_, refl, subst, sym, ap, _∙_}
-use mathlib.Core.List.{List, [], _∷_, map}
+use mathlib.Core.List.{List, map}
 use native.Mathlib.Omega.{arith}
-use native.Mathlib.Numerals.{add-one}
 use native.Mathlib.Decide.{ℕ-discrete, decLt}
 use lib.Dec.{eqb, ltb}
 use lib.ListN.{length, getD, set, drop, length-set}
-use lib.Seq.{getD-set-same, getD-set-other, ext-getD, getD-drop, drop-drop, drop-nil}
+use lib.Seq.{getD-set-same, getD-set-other, ext-getD, getD-drop, drop-drop}
 use borrow.Author.Tests.{eq-eqb, ne-eqb, lt-ltb}
 use Rattle.table.proofs.Tests.{ltb-no}
 use Rattle.table.specs.Pick.{pick}
@@ -23,16 +22,75 @@ use Rattle.rules.proofs.StateLaws.{length-fill, getD-alter}
 abbrev filledBy : ℕ → ℕ → ℕ → Bool
 filledBy g i k = eqb (k / 8 + 1) g && ltb (k % 8) i
 
--- the first i registers of g are filled; those after the last value with 0
-pub record GivenTo (t value vs l₀ l : List ℕ) (g i at : ℕ) : Type 0 where
-  pub inside : at ≤ nodes t
-  pub tail : drop i vs ≡ map (entry value 0) (chain t at)
+-- the first i registers of g are filled
+pub record FilledTo (vs l₀ l : List ℕ) (g i : ℕ) : Type 0 where
   pub sized : length l ≡ length l₀
   pub each : (k : ℕ) → k < length l₀ → getD l k 0 ≡ pick (filledBy g i k) (getD vs (k % 8) 0) (getD l₀ k 0)
 
 both-no : (b : Bool) → (b && false) ≡ false
 both-no true = refl
 both-no false = refl
+
+pub filled-start : (vs l₀ : List ℕ) (g : ℕ) → FilledTo vs l₀ l₀ g 0
+filled-start vs l₀ g = record {
+  sized = refl;
+  each = λ k h. sym (ap (λ b. pick b (getD vs (k % 8) 0) (getD l₀ k 0))
+      (ap (λ b. eqb (k / 8 + 1) g && b) (ltb-no (k % 8) 0 (λ x. omega arith)) ∙ both-no (eqb (k / 8 + 1) g)));
+}
+
+module _ (vs l₀ l : List ℕ) (g i : ℕ) (h : FilledTo vs l₀ l g i) (few : i < 8) (some : 1 ≤ g) (base x : ℕ) (eb : base ≡ 8 * (g - 1))
+    (value-is : x ≡ getD vs i 0) where
+  each-next : (k : ℕ) → k < length l₀ → Dec (k ≡ base + i)
+      → getD (set l (base + i) x) k 0 ≡ pick (filledBy g (i + 1) k) (getD vs (k % 8) 0) (getD l₀ k 0)
+  each-next k q (yes e) =
+      let a : k / 8 + 1 ≡ g = omega arith in
+      let b : k % 8 ≡ i = omega arith in
+      rw (eq-eqb (k / 8 + 1) g a, lt-ltb (k % 8) (i + 1) (omega arith))
+      (subst (λ j. getD (set l (base + i) x) j 0 ≡ getD vs (k % 8) 0) (sym e)
+      (getD-set-same l (base + i) x 0 (omega (arith, h .sized)) ∙ value-is ∙ ap (λ j. getD vs j 0) (sym b)))
+  each-next k q (no e) = getD-set-other l (base + i) k x 0 e ∙ h .each k q ∙ ap (λ b. pick b (getD vs (k % 8) 0) (getD l₀ k 0))
+      (go (ℕ-discrete (k / 8 + 1) g))
+    where
+      near : k / 8 + 1 ≡ g → ltb (k % 8) i ≡ ltb (k % 8) (i + 1)
+      near a = go′ (decLt (k % 8) i)
+        where
+          go′ : Dec (k % 8 < i) → ltb (k % 8) i ≡ ltb (k % 8) (i + 1)
+          go′ (yes y) = lt-ltb (k % 8) i y ∙ sym (lt-ltb (k % 8) (i + 1) (omega arith))
+          go′ (no y) = ltb-no (k % 8) i y ∙ sym (ltb-no (k % 8) (i + 1) (λ z. e (omega arith)))
+
+      go : Dec (k / 8 + 1 ≡ g) → filledBy g i k ≡ filledBy g (i + 1) k
+      go (yes a) = ap (λ b. eqb (k / 8 + 1) g && b) (near a)
+      go (no a) = ap (λ b. b && ltb (k % 8) i) (ne-eqb (k / 8 + 1) g a) ∙ sym (ap (λ b. b && ltb (k % 8) (i + 1)) (ne-eqb (k / 8 + 1) g a))
+
+  pub filled-next : FilledTo vs l₀ (set l (base + i) x) g (i + 1)
+  filled-next = record {
+    sized = length-set l (base + i) x ∙ h .sized;
+    each = λ k q. each-next k q (ℕ-discrete k (base + i));
+  }
+
+pub filled-end : (vs l₀ l : List ℕ) (g i : ℕ) → FilledTo vs l₀ l g i → 8 ≤ i → l ≡ fill g vs l₀
+unfolding fill
+filled-end vs l₀ l g i h q = ext-getD 0 l (fill g vs l₀) (h .sized ∙ sym (length-fill g vs l₀)) (λ k r. each k (omega (arith, h .sized)))
+  where
+    and-true : (b : Bool) → (b && true) ≡ b
+    and-true true = refl
+    and-true false = refl
+
+    plain : (k : ℕ) → 0 + k ≡ k
+    plain k = omega arith
+
+    each : (k : ℕ) → k < length l₀ → getD l k 0 ≡ getD (fill g vs l₀) k 0
+    each k r = h .each k r
+        ∙ ap (λ b. pick b (getD vs (k % 8) 0) (getD l₀ k 0))
+        (ap (λ b. eqb (k / 8 + 1) g && b) (lt-ltb (k % 8) i (omega arith)) ∙ and-true (eqb (k / 8 + 1) g))
+        ∙ sym (getD-alter (λ j x. pick (eqb (j / 8 + 1) g) (getD vs (j % 8) 0) x) 0 l₀ k 0 r
+        ∙ ap (λ j. pick (eqb (j / 8 + 1) g) (getD vs (j % 8) 0) (getD l₀ k 0)) (plain k))
+
+-- .. from the values of a chain, of which `at` comes next; those after the last value with 0
+pub record GivenTo (t value vs l₀ l : List ℕ) (g i at : ℕ) : Type 0 where
+  pub inside : at ≤ nodes t
+  pub tail : drop i vs ≡ map (entry value 0) (chain t at)
+  pub filled : FilledTo vs l₀ l g i
 
 module _ (t : List ℕ) (fair : Fair t) (value : List ℕ) (c : ℕ) (low : c ≤ nodes t) (l₀ : List ℕ) (g : ℕ) where
   abbrev vs : List ℕ
@@ -42,9 +100,7 @@ module _ (t : List ℕ) (fair : Fair t) (value : List ℕ) (c : ℕ) (low : c �
   given-start = record {
     inside = low;
     tail = refl;
-    sized = refl;
-    each = λ k h. sym (ap (λ b. pick b (getD vs (k % 8) 0) (getD l₀ k 0))
-        (ap (λ b. eqb (k / 8 + 1) g && b) (ltb-no (k % 8) 0 (λ x. omega arith)) ∙ both-no (eqb (k / 8 + 1) g)));
+    filled = filled-start vs l₀ g;
   }
 
   module _ (l : List ℕ) (i at : ℕ) (h : GivenTo t value vs l₀ l g i at) (few : i < 8) (some : 1 ≤ g) (base x on : ℕ)
@@ -78,51 +134,12 @@ module _ (t : List ℕ) (fair : Fair t) (value : List ℕ) (c : ℕ) (low : c �
             let o : on ≡ next t at = eo ∙ ap (λ b. pick b 0 (next t at)) (ne-eqb at 0 z) in
             (next-in t fair at z (h .inside) on o, ap (λ m. drop 1 (map (entry value 0) m)) (chain-here t fair at z (h .inside) on o))
 
-    each-next : (k : ℕ) → k < length l₀ → Dec (k ≡ base + i)
-        → getD (set l (base + i) x) k 0 ≡ pick (filledBy g (i + 1) k) (getD vs (k % 8) 0) (getD l₀ k 0)
-    each-next k q (yes e) =
-        let a : k / 8 + 1 ≡ g = omega arith in
-        let b : k % 8 ≡ i = omega arith in
-        rw (eq-eqb (k / 8 + 1) g a, lt-ltb (k % 8) (i + 1) (omega arith))
-        (subst (λ j. getD (set l (base + i) x) j 0 ≡ getD vs (k % 8) 0) (sym e)
-        (getD-set-same l (base + i) x 0 (omega (arith, h .sized)) ∙ value-is ∙ ap (λ j. getD vs j 0) (sym b)))
-    each-next k q (no e) = getD-set-other l (base + i) k x 0 e ∙ h .each k q ∙ ap (λ b. pick b (getD vs (k % 8) 0) (getD l₀ k 0))
-        (go (ℕ-discrete (k / 8 + 1) g))
-      where
-        near : k / 8 + 1 ≡ g → ltb (k % 8) i ≡ ltb (k % 8) (i + 1)
-        near a = go′ (decLt (k % 8) i)
-          where
-            go′ : Dec (k % 8 < i) → ltb (k % 8) i ≡ ltb (k % 8) (i + 1)
-            go′ (yes y) = lt-ltb (k % 8) i y ∙ sym (lt-ltb (k % 8) (i + 1) (omega arith))
-            go′ (no y) = ltb-no (k % 8) i y ∙ sym (ltb-no (k % 8) (i + 1) (λ z. e (omega arith)))
-
-        go : Dec (k / 8 + 1 ≡ g) → filledBy g i k ≡ filledBy g (i + 1) k
-        go (yes a) = ap (λ b. eqb (k / 8 + 1) g && b) (near a)
-        go (no a) = ap (λ b. b && ltb (k % 8) i) (ne-eqb (k / 8 + 1) g a) ∙ sym
-            (ap (λ b. b && ltb (k % 8) (i + 1)) (ne-eqb (k / 8 + 1) g a))
-
     pub given-next : GivenTo t value vs l₀ (set l (base + i) x) g (i + 1) on
     given-next = record {
       inside = on-is .0;
       tail = sym (drop-drop 1 i vs) ∙ ap (drop 1) (h .tail) ∙ on-is .1;
-      sized = length-set l (base + i) x ∙ h .sized;
-      each = λ k q. each-next k q (ℕ-discrete k (base + i));
+      filled = filled-next vs l₀ l g i (h .filled) few some base x eb value-is;
     }
 
   pub given-end : (l : List ℕ) (i at : ℕ) → GivenTo t value vs l₀ l g i at → 8 ≤ i → l ≡ fill g vs l₀
-  unfolding fill
-  given-end l i at h q = ext-getD 0 l (fill g vs l₀) (h .sized ∙ sym (length-fill g vs l₀)) (λ k r. each k (omega (arith, h .sized)))
-    where
-      and-true : (b : Bool) → (b && true) ≡ b
-      and-true true = refl
-      and-true false = refl
-
-      plain : (k : ℕ) → 0 + k ≡ k
-      plain k = omega arith
-
-      each : (k : ℕ) → k < length l₀ → getD l k 0 ≡ getD (fill g vs l₀) k 0
-      each k r = h .each k r
-          ∙ ap (λ b. pick b (getD vs (k % 8) 0) (getD l₀ k 0))
-          (ap (λ b. eqb (k / 8 + 1) g && b) (lt-ltb (k % 8) i (omega arith)) ∙ and-true (eqb (k / 8 + 1) g))
-          ∙ sym (getD-alter (λ j x. pick (eqb (j / 8 + 1) g) (getD vs (j % 8) 0) x) 0 l₀ k 0 r
-          ∙ ap (λ j. pick (eqb (j / 8 + 1) g) (getD vs (j % 8) 0) (getD l₀ k 0)) (plain k))
+  given-end l i at h q = filled-end vs l₀ l g i (h .filled) q

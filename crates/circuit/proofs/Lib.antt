@@ -10,3 +10,7 @@ pub mod TakeLaws
 pub mod StandsLaws
 pub mod TurnLaws
 pub mod EntryLaws
+pub mod SearchLaws
+pub mod BeginLaws
+pub mod DriveLaws
+pub mod EntryDemand

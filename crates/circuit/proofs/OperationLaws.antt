@@ -1,6 +1,6 @@
 -- the machine's wrapping sums are those of the operations
-use Prim.Native.Nat.{ℕ, _+_, _-_, _*_, _%_, _^_, _≤_, _<_}
-use mathlib.Core.Path.{_≡_, refl, ap}
+use Prim.Native.Nat.{ℕ, _+_, _-_, _*_, _%_, _^_, _<_}
+use mathlib.Core.Path.{_≡_}
 use native.Mathlib.Omega.{arith}
 
 pub doubled : (x : ℕ) → (x + x) % 2 ^ 32 ≡ (2 * x) % 2 ^ 32

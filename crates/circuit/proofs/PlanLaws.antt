@@ -1,6 +1,6 @@
 -- each way that the code takes to a plan, with what it read on the way
 use Prim.Native.Nat.{ℕ, zero, suc, _≤_, _<_}
-use mathlib.Core.Bool.{Bool, true, false, not}
+use mathlib.Core.Bool.{Bool, true, false}
 use mathlib.Core.Path.{_≡_, refl, sym, ap, ap₂, _∙_}
 use mathlib.Core.List.{List, [], _∷_, map}
 use native.Mathlib.Omega.{arith}
@@ -9,14 +9,13 @@ use lib.Dec.{eqb}
 use lib.ListN.{getD}
 use borrow.Author.Tests.{eq-eqb, ne-eqb}
 use Rattle.table.specs.Pick.{pick}
-use Rattle.table.specs.Bytes.{functions, nodes, root, kind, extra, word, first, next}
+use Rattle.table.specs.Bytes.{nodes, root, kind, extra, word, first, next}
 use Rattle.table.specs.Naming.{owner, chain, children}
-use Rattle.table.specs.Expressions.{thenAt, elseAt}
 use Rattle.rules.specs.State.{State512, entry, register}
 use Rattle.rules.specs.Step.{Act, stuck, blocked, does, begins, turns, finishes, enters, leaves, restarts, by-status}
 use Rattle.rules.specs.Operations.{lastValue, operate}
 use Rattle.circuit.specs.Plan.{Fair, allDone, initial, lastFrom, given, opens, openBy, passBy, primBy, selfBy, callBy, branchBy}
-use Rattle.circuit.specs.Plan.{condBy, bindBy, busyBy, actBy, operateBy}
+use Rattle.circuit.specs.Plan.{condBy, bindBy, busyBy, operateBy}
 use Rattle.circuit.proofs.ChainLaws.{chain-end, chain-here, next-in, operate-by}
 
 module _ (status value : List ℕ) (r x : ℕ) (ex : x ≡ entry status 0 r) where

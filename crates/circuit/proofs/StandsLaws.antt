@@ -1,16 +1,16 @@
 -- 24: how a state is looked through, and that a step keeps what it asks
-use Prim.Native.Nat.{ℕ, zero, suc, _+_, _-_, _≤_, _<_}
-use mathlib.Core.Bool.{Bool, true, false, _||_}
+use Prim.Native.Nat.{ℕ, zero, suc, _-_, _≤_, _<_}
+use mathlib.Core.Bool.{Bool, true, false}
 use mathlib.Core.Path.{_≡_, refl, subst, sym, ap, _∙_}
 use mathlib.Core.List.{List, [], _∷_}
 use native.Mathlib.Omega.{arith}
 use native.Mathlib.Decide.{ℕ-discrete, decLe}
-use lib.Dec.{eqb, ltb}
+use lib.Dec.{ltb}
 use lib.ListN.{length, List·getD-eq-default}
 use borrow.Author.Tests.{lt-ltb, ltb-false}
 use Rattle.table.proofs.Tests.{ltb-no}
 use Rattle.table.specs.Pick.{pick}
-use Rattle.table.specs.Syntax.{Expr, id}
+use Rattle.table.specs.Syntax.{id}
 use Rattle.table.specs.Bytes.{functions, nodes}
 use Rattle.table.specs.Naming.{owner}
 use Rattle.table.specs.Expressions.{bodyOf}

@@ -5,16 +5,16 @@ use mathlib.Core.Path.{_≡_, refl, subst, sym, ap, _∙_}
 use mathlib.Core.List.{List}
 use native.Mathlib.Omega.{arith}
 use native.Mathlib.Decide.{ℕ-discrete, decLe}
-use lib.Dec.{eqb, ltb}
-use borrow.Author.Tests.{eq-eqb, ne-eqb, eqb-true, lt-ltb}
+use lib.Dec.{eqb}
+use borrow.Author.Tests.{eq-eqb, ne-eqb, lt-ltb}
 use Rattle.table.proofs.Tests.{ltb-no}
 use Rattle.table.specs.Pick.{pick}
 use Rattle.table.specs.Syntax.{id}
 use Rattle.table.specs.Bytes.{functions, nodes, root}
 use Rattle.table.specs.Naming.{owner}
-use Rattle.table.specs.Check.{Verdict, accepted, checkOf}
+use Rattle.table.specs.Check.{accepted, checkOf}
 use Rattle.table.specs.Expressions.{bodyOf, exprAt}
-use Rattle.table.specs.Working.{IsNode, IsFunction}
+use Rattle.table.specs.Working.{IsNode}
 use Rattle.table.proofs.Accepted.{id-body}
 use Rattle.table.proofs.Passed.{passed}
 use Rattle.list.specs.Tags.{tagged, checkWith}
@@ -23,8 +23,7 @@ use Rattle.rules.specs.Step.{Act, stuck, blocked, does, Reply, taken, answered,
 use Rattle.rules.specs.Step.{circuitStep, over}
 use Rattle.rules.specs.Operations.{operate}
 use Rattle.rules.specs.Play.{Accepted}
-use Rattle.rules.specs.Circuit.{actOf, circuitOf, stepAfter, stepOf, Possible}
-use Rattle.rules.specs.Runs.{MainDone, mainValue}
+use Rattle.rules.specs.Circuit.{actOf, circuitOf, stepAfter, stepOf}
 use Rattle.circuit.specs.Plan.{Fair, Took, Stands, goes}
 use Rattle.rules.proofs.Demands.{after-both}
 use Rattle.circuit.proofs.StandsLaws.{kept}
@@ -76,7 +75,7 @@ module _ (t tags : List ℕ) (fair : Fair t) (s : State512) (n : ℕ) where
       abbrev main : ℕ
       main = id (bodyOf t (functions t))
 
-      by-main : (b : Bool) → done (view s) main ≡ b
+      pub by-main : (b : Bool) → done (view s) main ≡ b
           → circuitOf t tags s n ≡ pick b (refusal s 20 n)
           (outcome operate (functions t) (nodes t) (bodyOf t) (exprAt t) (owner t) (tagged tags) s n (actOf t s n))
       unfolding circuitOf circuitStep
@@ -94,7 +93,7 @@ module _ (t tags : List ℕ) (fair : Fair t) (s : State512) (n : ℕ) where
         turn-on e = by-main false (ne-eqb (entry (s .status) 0 main) 3 (λ q. e (main-is ∙ q)))
 
   -- what the code says of a step
-  abbrev Out : Act → Stepped
+  abbrev pub Out : Act → Stepped
   Out a = outcome operate (functions t) (nodes t) (bodyOf t) (exprAt t) (owner t) (tagged tags) s n a
 
   module _ (s′ : State512) (code : ℕ) where
@@ -127,12 +126,12 @@ module _ (t tags : List ℕ) (fair : Fair t) (s : State512) (n : ℕ) where
   told-accepted true v = tt
   told-accepted false v = tt
 
-  out-goes : (a : Act) → Accepted (Out a .answer) → goes a ≡ true
+  pub out-goes : (a : Act) → Accepted (Out a .answer) → goes a ≡ true
   out-goes stuck h = absurd h
   out-goes blocked h = absurd h
   out-goes (does m) h = refl
 
-  goes-out : (a : Act) → goes a ≡ true → Accepted (Out a .answer)
+  pub goes-out : (a : Act) → goes a ≡ true → Accepted (Out a .answer)
   goes-out stuck e = let z : _≡_ {A = ℕ} 0 1 = cc in absurd (omega arith)
   goes-out blocked e = let z : _≡_ {A = ℕ} 0 1 = cc in absurd (omega arith)
   goes-out (does m) e = told-accepted (done (view (perform (nodes t) (owner t) (bodyOf t) s n m)) (id (bodyOf t (functions t)))) _
@@ -144,7 +143,7 @@ module _ (t tags : List ℕ) (fair : Fair t) (s : State512) (n : ℕ) where
 
 -- a step that isn't refused keeps 24's tests passed; in any state
 module _ (t tags : List ℕ) (fair : Fair t) (s : State512) (st : Stands t s) where
-  by-number : (P : Stepped → Type 0) (n : ℕ) → P (refusal s 12 0) → (IsNode t n → P (refusal s 20 n)) →
+  pub by-number : (P : Stepped → Type 0) (n : ℕ) → P (refusal s 12 0) → (IsNode t n → P (refusal s 20 n)) →
       (IsNode t n → P (Out t tags fair s n (actOf t s n)))
       → P (circuitOf t tags s n)
   by-number P n p q r = go (ℕ-discrete n 0) (decLe n (nodes t))

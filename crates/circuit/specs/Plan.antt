@@ -8,7 +8,7 @@ use lib.Dec.{eqb, ltb}
 use lib.ListN.{getD}
 use Rattle.table.specs.Pick.{pick}
 use Rattle.table.specs.Bytes.{functions, nodes, root, kind, extra, word, first}
-use Rattle.table.specs.Naming.{owner, chain, children}
+use Rattle.table.specs.Naming.{owner, children}
 use Rattle.table.specs.Check.{accepted, checkOf}
 use Rattle.table.specs.Expressions.{bodyOf, thenAt, elseAt}
 use Rattle.table.specs.declared.Function.{Function}
@@ -17,6 +17,9 @@ use Rattle.list.specs.Tags.{checkWith}
 use Rattle.rules.specs.State.{State512, entry, register}
 use Rattle.rules.specs.Step.{Act, stuck, blocked, does, Move, begins, turns, finishes, enters, leaves, restarts, by-status, over, perform}
 use Rattle.rules.specs.Operations.{operate}
+use Rattle.rules.specs.Circuit.{actOf, Possible}
+use Rattle.rules.specs.Runs.{MainDone, mainValue, Ended, gave, atRest, spent, barred, Found, FindsAfter}
+use Rattle.table.specs.Working.{IsNode}
 use Rattle.circuit.specs.declared.plan.Plan.{Plan}
 use Rattle.circuit.specs.declared.plan.Plan.the-variants as Plan
 
@@ -174,3 +177,23 @@ strayIn t s = over 3 (nodes t) (s .status) || over (nodes t) (functions t) (s .o
 pub record Agreed (t tags : List ℕ) : Type 0 where
   pub fair : Fair t
   pub tagging : checkWith t tags ≡ accepted (functions t) (nodes t)
+
+-- a node that has a move, or 0 if there is none
+pub record FoundAt (t : List ℕ) (s : State512) (r : ℕ) : Type 0 where
+  pub none : r ≡ 0 → (n : ℕ) → IsNode t n → goes (actOf t s n) ≡ true → ⊥
+  pub some : (r ≡ 0 → ⊥) → IsNode t r × (goes (actOf t s r) ≡ true)
+
+-- a step tried at a number: 2 if it was taken, else nothing is changed
+pub record Tried (t : List ℕ) (s : State512) (n code : ℕ) (s′ : State512) : Type 0 where
+  pub taken : code ≡ 2 → IsNode t n × ((m : Move) × (actOf t s n ≡ does m) × (s′ ≡ perform (nodes t) (owner t) (bodyOf t) s n m))
+  pub left : (code ≡ 2 → ⊥) → (s′ ≡ s) × (IsNode t n → goes (actOf t s n) ≡ false)
+
+-- what is true of a query's answer where table, tags and 24 are passed, and of how a run with a budget stands
+abbrev pub FindsIn : (t tags : List ℕ) → State512 → Found → Type 0
+FindsIn t tags s r = FindsAfter (accepted (functions t) (nodes t)) t tags s r
+
+abbrev pub EndsIn : (t tags : List ℕ) → State512 → Ended → Type 0
+EndsIn t tags s (gave v) = MainDone t s × (mainValue t s ≡ v)
+EndsIn t tags s atRest = (MainDone t s → ⊥) × ((n : ℕ) → Possible t tags s n → ⊥)
+EndsIn t tags s spent = (MainDone t s → ⊥) × ((n : ℕ) × Possible t tags s n)
+EndsIn t tags s (barred number place) = ⊥

@@ -7,7 +7,6 @@ pub mod OperationCases
 pub mod Demands
 pub mod OwnList
 pub mod AnyState
--- the code: entries, chains, plans
 pub mod RunFacts
 pub mod Fits
 pub mod ReadingFits

@@ -1,30 +1,11 @@
-use borrow.Author.Tests.{eq-eqb, ne-eqb, le-leb, lt-leb, lt-ltb, le-ltb, not-true, not-false}
-use native.Mathlib.Omega.{arith}
 use borrow.Author.Needs.{needs}
-use mathlib.Core.Path.{_≡_, refl, sym, ap, subst, _∙_}
-use Prim.Native.Nat.{ℕ, _+_, _-_, _*_, _≤_, _<_}
-use lib.ListN.{length, getD}
-use mathlib.Core.Bool.{true, false}
-use mathlib.Core.Logic.{⊎-elim}
-use lib.ListN.{drop}
-use Rattle.table.specs.Bytes.{functions, nodes}
-use Rattle.table.specs.Survey.{verdictOf}
-use Rattle.rules.specs.Step.{Stepped}
-use Rattle.rules.specs.Circuit.{circuitOf}
-use Rattle.rules.specs.Runs.{runFrom}
-use Rattle.circuit.specs.Meaning.{numbers, listsOf, replyOf}
-use Rattle.circuit.specs.Plan.{stateAs, Stands, Agreed}
-use Rattle.circuit.proofs.EntryLaws.{stands-from, agreed-from, stray-standing, stand-standing, refused-standing, plus, run-turned}
-use Rattle.circuit.proofs.EntryLaws.{run-goes, run-stops, run-takes, run-answers, run-stands, run-ends, run-begins, named-state}
-use Rattle.circuit.proofs.EntryLaws.{told-stepped}
-use Rattle.circuit.proofs.TurnLaws.{fair-from, step-is, step-turned}
+use mathlib.Core.Path.{_∙_}
+use Prim.Native.Nat.{_-_}
+use Rattle.table.specs.Bytes.{nodes}
+use Rattle.circuit.specs.Meaning.{listsOf}
+use Rattle.circuit.proofs.EntryLaws.{stands-from, stray-standing, stand-standing, run-turned, run-goes}
 use Rattle.circuit.proofs.run_fair.Statement.{statement}
 use Rattle.circuit.proofs.run_fair.Tie as tie
-use Rattle.circuit.proofs.run_fair.Reads as reads
-use Rattle.circuit.proofs.run_fair.Lts as lts
-use Rattle.circuit.proofs.entries.run.Reads as run-reads
-use Rattle.circuit.proofs.entries.stop.Reads as stop-reads
-use Rattle.circuit.proofs.entries.strays.Reads as strays-reads
 
 -- src/lib.rt:114:8
 strays-requires : tie.Need-strays-requires

@@ -1,30 +1,11 @@
-use borrow.Author.Tests.{eq-eqb, ne-eqb, le-leb, lt-leb, lt-ltb, le-ltb, not-true, not-false}
-use native.Mathlib.Omega.{arith}
 use borrow.Author.Needs.{needs}
-use mathlib.Core.Path.{_≡_, refl, sym, ap, subst, _∙_}
-use Prim.Native.Nat.{ℕ, _+_, _-_, _*_, _≤_, _<_}
-use lib.ListN.{length, getD}
-use mathlib.Core.Bool.{true, false}
-use mathlib.Core.Logic.{⊎-elim}
-use lib.ListN.{drop}
-use Rattle.table.specs.Bytes.{functions, nodes}
+use mathlib.Core.Path.{sym, ap, _∙_}
+use Prim.Native.Nat.{_-_}
 use Rattle.table.specs.Survey.{verdictOf}
-use Rattle.rules.specs.Step.{Stepped}
-use Rattle.rules.specs.Circuit.{circuitOf}
-use Rattle.rules.specs.Runs.{runFrom}
-use Rattle.circuit.specs.Meaning.{numbers, listsOf, replyOf}
-use Rattle.circuit.specs.Plan.{stateAs, Stands, Agreed}
-use Rattle.circuit.proofs.EntryLaws.{stands-from, agreed-from, stray-standing, stand-standing, refused-standing, plus, run-turned}
-use Rattle.circuit.proofs.EntryLaws.{run-goes, run-stops, run-takes, run-answers, run-stands, run-ends, run-begins, named-state}
-use Rattle.circuit.proofs.EntryLaws.{told-stepped}
+use Rattle.circuit.specs.Meaning.{listsOf}
 use Rattle.circuit.proofs.TurnLaws.{fair-from, step-is, step-turned}
 use Rattle.circuit.proofs.step.Statement.{statement}
 use Rattle.circuit.proofs.step.Tie as tie
-use Rattle.circuit.proofs.step.Reads as reads
-use Rattle.circuit.proofs.step.Lts as lts
-use Rattle.circuit.proofs.entries.refused.Reads as refused-reads
-use Rattle.circuit.proofs.entries.step.Reads as step-reads
-use Rattle.list.proofs.check_tags.Reads as check-tags-reads
 
 -- src/lib.rt:92:9
 check-tags-requires : tie.Need-check-tags-requires

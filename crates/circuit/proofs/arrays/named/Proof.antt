@@ -1,24 +1,16 @@
-use borrow.Author.Tests.{eq-eqb, ne-eqb, le-leb, lt-leb, lt-ltb, le-ltb, not-true, not-false}
 use native.Mathlib.Omega.{arith}
 use borrow.Author.Needs.{needs}
-use mathlib.Core.Path.{_≡_, refl, sym, ap, subst, _∙_}
-use Prim.Native.Nat.{ℕ, _+_, _-_, _*_, _≤_, _<_}
-use lib.ListN.{length, getD}
+use mathlib.Core.Path.{_≡_, refl, sym, ap, _∙_}
+use Prim.Native.Nat.{_+_, _-_, _≤_}
+use lib.ListN.{length}
 use mathlib.Core.List.{map, _++_}
-use mathlib.Core.Bool.{true, false, _||_}
 use lib.ListN.{take, drop, replicate, length-replicate, length-map, length-set, List·getD-map}
 use Rattle.table.proofs.Copied.{copied-more, copied-all}
-use Rattle.table.specs.Bytes.{functions, nodes}
-use Rattle.rules.specs.Step.{over, refusal}
-use Rattle.circuit.specs.Meaning.{numbers, listsOf, replyOf}
-use Rattle.circuit.specs.Plan.{stateAs, strayIn, asNode}
-use Rattle.circuit.proofs.EntryLaws.{numbered, owners-told, stands-from, step-stray}
-use Rattle.circuit.proofs.TurnLaws.{turn-zero, turn-past}
-use Rattle.circuit.proofs.ChainLaws.{ok}
+use Rattle.circuit.specs.Meaning.{numbers}
+use Rattle.circuit.specs.Plan.{asNode}
+use Rattle.circuit.proofs.EntryLaws.{numbered}
 use Rattle.circuit.proofs.arrays.named.Statement.{statement}
 use Rattle.circuit.proofs.arrays.named.Tie as tie
-use Rattle.circuit.proofs.arrays.named.Reads as reads
-use Rattle.circuit.proofs.arrays.named.Lts as lts
 
 abbrev Inv-loop : tie.InvT-loop
 Inv-loop raw r₀ i₀ r i = (i ≤ 32) × ((length r ≡ 32) × (r ≡ take i (map asNode raw) ++ drop i r₀))

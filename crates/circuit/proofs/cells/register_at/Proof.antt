@@ -1,15 +1,11 @@
-use borrow.Author.Tests.{eq-eqb, ne-eqb, le-leb, lt-leb, lt-ltb, le-ltb, not-true, not-false}
 use native.Mathlib.Omega.{arith}
-use mathlib.Core.Path.{_≡_, refl, sym, ap, subst, _∙_}
-use Prim.Native.Nat.{ℕ, _+_, _-_, _*_, _≤_, _<_}
-use lib.ListN.{length, getD}
-use Rattle.circuit.proofs.CellLaws.{entry-none, write-none, register-none, register-high}
-use Rattle.rules.proofs.StateLaws.{entry-at, write-at, register-at}
+use mathlib.Core.Path.{sym}
+use Prim.Native.Nat.{_-_}
+use Rattle.circuit.proofs.CellLaws.{register-none, register-high}
+use Rattle.rules.proofs.StateLaws.{register-at}
 use borrow.Author.Needs.{needs}
 use Rattle.circuit.proofs.cells.register_at.Statement.{statement}
 use Rattle.circuit.proofs.cells.register_at.Tie as tie
-use Rattle.circuit.proofs.cells.register_at.Reads as reads
-use Rattle.circuit.proofs.cells.register_at.Lts as lts
 
 -- src/cells.rt:66:13
 cast-k : tie.Need-cast-k

@@ -1,21 +1,14 @@
-use borrow.Author.Tests.{eq-eqb, ne-eqb, le-leb, lt-leb, lt-ltb, le-ltb, not-true, not-false}
 use native.Mathlib.Omega.{arith}
 use borrow.Author.Needs.{needs}
-use mathlib.Core.Path.{_≡_, refl, sym, ap, subst, _∙_}
-use Prim.Native.Nat.{ℕ, _+_, _-_, _*_, _≤_, _<_}
-use lib.ListN.{length, getD}
+use mathlib.Core.Path.{_≡_, refl, sym, _∙_}
+use Prim.Native.Nat.{_-_, _≤_}
 use Rattle.table.specs.Bytes.{nodes, next}
 use Rattle.table.specs.Naming.{chain}
-use Rattle.rules.specs.State.{entry, opened}
-use Rattle.circuit.specs.Plan.{allDone, initial, lastFrom}
-use Rattle.circuit.proofs.ChainLaws.{rest, ok, chain-end, next-in, falls, all-more, all-stops, all-ends, last-more, last-ends}
-use Rattle.circuit.proofs.ChainLaws.{opened-more, opened-ends, defs-end, defs-more, defs-stop, open-end, open-more, first-in}
+use Rattle.rules.specs.State.{entry}
+use Rattle.circuit.specs.Plan.{allDone}
+use Rattle.circuit.proofs.ChainLaws.{rest, ok, next-in, falls, all-more, all-stops, all-ends}
 use Rattle.circuit.proofs.chain.all_done.Statement.{statement}
 use Rattle.circuit.proofs.chain.all_done.Tie as tie
-use Rattle.circuit.proofs.chain.all_done.Reads as reads
-use Rattle.circuit.proofs.chain.all_done.Lts as lts
-use Rattle.circuit.proofs.cells.status_at.Reads as status-at-reads
-use Rattle.table.proofs.read.next.Reads as next-reads
 
 abbrev Inv-loop : tie.InvT-loop
 Inv-loop table status at₀ at = (at ≤ nodes table) × (allDone (entry status 0) (chain table at₀) ≡ allDone (entry status 0) (chain table at))

@@ -1,35 +1,12 @@
-use Rattle.circuit.proofs.PlanLaws.{pass-yes, pass-no, self-yes, self-no, prim-yes, prim-no, leave-yes, leave-no, enter-not}
-use Rattle.circuit.proofs.PlanLaws.{enter-held, enter-yes, branch-else, branch-then, branch-small, taken-branch, cond-pass}
-use Rattle.circuit.proofs.PlanLaws.{cond-turn, cond-wait, bind-pass, bind-turn, bind-wait, open-const, open-param, open-bound}
-use Rattle.circuit.proofs.PlanLaws.{open-other, busy-prim, busy-call, busy-if, busy-let, busy-other, at-open, at-busy, at-rest}
-use Rattle.circuit.proofs.PlanLaws.{of-none, of-last, of-two, of-other}
-use borrow.Author.Tests.{eq-eqb, ne-eqb, le-leb, lt-leb, lt-ltb, le-ltb, not-true, not-false}
+use Rattle.circuit.proofs.PlanLaws.{of-none, of-last, of-two}
 use native.Mathlib.Omega.{arith}
-use mathlib.Core.Path.{_≡_, refl, sym, ap, subst, _∙_}
-use Prim.Native.Nat.{ℕ, _+_, _-_, _*_, _≤_, _<_}
-use lib.ListN.{length, getD}
-use Rattle.table.specs.Bytes.{nodes, kind, word, first, next, root}
-use Rattle.table.specs.Naming.{owner, chain}
-use Rattle.table.specs.Pick.{pick}
-use lib.Dec.{eqb}
-use Rattle.rules.specs.State.{entry}
-use Rattle.circuit.specs.Plan.{planned, stateAs, openBy, busyBy, selfBy, callBy, actBy}
-use Rattle.circuit.proofs.ChainLaws.{ok, first-in, next-in}
-use Rattle.circuit.proofs.ActBy.{own-in, callee-in, three-in, let-in, bound-in, act-is}
-use Rattle.circuit.proofs.PlanLaws.{pass-yes, pass-no, self-yes, self-no, prim-yes, prim-no, leave-yes, leave-no, enter-not}
-use Rattle.circuit.proofs.PlanLaws.{enter-held, enter-yes, branch-else, branch-then, taken-branch, cond-pass, cond-turn, cond-wait}
-use Rattle.circuit.proofs.PlanLaws.{bind-pass, bind-turn, bind-wait, open-const, open-param, open-bound, open-other, busy-prim}
-use Rattle.circuit.proofs.PlanLaws.{busy-call, busy-if, busy-let, busy-other, at-open, at-busy, at-rest, of-none, of-last, of-two}
-use Rattle.circuit.proofs.PlanLaws.{of-other}
+use Prim.Native.Nat.{_-_}
+use Rattle.table.specs.Bytes.{next}
+use Rattle.circuit.proofs.ChainLaws.{ok, next-in}
+use Rattle.circuit.proofs.PlanLaws.{of-none, of-last, of-two}
 use borrow.Author.Needs.{needs}
 use Rattle.circuit.proofs.chain.operation.Statement.{statement}
 use Rattle.circuit.proofs.chain.operation.Tie as tie
-use Rattle.circuit.proofs.chain.operation.Reads as reads
-use Rattle.circuit.proofs.chain.operation.Lts as lts
-use Rattle.circuit.proofs.cells.value_at.Reads as value-at-reads
-use Rattle.circuit.proofs.chain.last_of.Reads as last-of-reads
-use Rattle.circuit.proofs.operations.of_two.Reads as of-two-reads
-use Rattle.table.proofs.read.next.Reads as next-reads
 
 -- src/chain.rt:68:9
 of-two-requires : tie.Need-of-two-requires

@@ -1,36 +1,13 @@
-use Rattle.rules.specs.State.{entry, write}
-use borrow.Author.Tests.{eq-eqb, ne-eqb, le-leb, lt-leb, lt-ltb, le-ltb, not-true, not-false}
 use native.Mathlib.Omega.{arith}
-use mathlib.Core.Path.{_≡_, refl, sym, ap, subst, _∙_}
-use Prim.Native.Nat.{ℕ, _+_, _-_, _*_, _≤_, _<_}
-use lib.ListN.{length, getD}
-use Rattle.table.specs.Bytes.{nodes, kind, word, first, next, root}
-use Rattle.table.specs.Naming.{owner, chain}
-use Rattle.table.specs.Pick.{pick}
-use lib.Dec.{eqb}
-use mathlib.Core.Bool.{true, false}
-use mathlib.Core.List.{map, _++_}
-use lib.ListN.{take, drop, replicate, length-replicate, length-map, length-set, List·getD-map}
-use Rattle.rules.specs.State.{entry}
-use Rattle.circuit.specs.Plan.{planned, stateAs, given, opens, ofFunction}
-use Rattle.circuit.proofs.ChainLaws.{rest, ok, first-in}
-use Rattle.table.proofs.Copied.{copied-more, copied-all}
-use Rattle.circuit.proofs.ActBy.{own-in, let-in, three-in}
-use Rattle.circuit.proofs.GroupLaws.{GroupsTo, groups-start, groups-next, groups-end, Wiped, wiped-start, wiped-next, wiped-end}
-use Rattle.circuit.proofs.GroupLaws.{WipeTo, head-sought, walk-start, link-sought, walk-next, walk-falls}
-use Rattle.circuit.proofs.GiveLaws.{GivenTo, given-start, given-next, given-end}
-use Rattle.circuit.proofs.TakeLaws.{begin-if, begin-let, begin-all, turn-in, enter-in, leave-in, rested, begun, turned, finished}
-use Rattle.circuit.proofs.TakeLaws.{left, entered, restarted}
+use mathlib.Core.Path.{sym, _∙_}
+use Prim.Native.Nat.{_-_}
+use Rattle.table.specs.Bytes.{kind, first}
+use Rattle.circuit.proofs.ChainLaws.{ok, first-in}
+use Rattle.circuit.proofs.ActBy.{let-in}
+use Rattle.circuit.proofs.TakeLaws.{begin-if, begin-let, begin-all, left}
 use borrow.Author.Needs.{needs}
 use Rattle.circuit.proofs.changes.begin.Statement.{statement}
 use Rattle.circuit.proofs.changes.begin.Tie as tie
-use Rattle.circuit.proofs.changes.begin.Reads as reads
-use Rattle.circuit.proofs.changes.begin.Lts as lts
-use Rattle.circuit.proofs.cells.set_status.Reads as set-status-reads
-use Rattle.circuit.proofs.chain.open_all.Reads as open-all-reads
-use Rattle.circuit.proofs.chain.open_defs.Reads as open-defs-reads
-use Rattle.table.proofs.read.first.Reads as first-reads
-use Rattle.table.proofs.read.kind.Reads as kind-reads
 
 -- src/changes.rt:56:9
 kind-requires : tie.Need-kind-requires

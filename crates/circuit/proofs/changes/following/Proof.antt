@@ -1,32 +1,11 @@
-use Rattle.rules.specs.State.{entry, write}
-use borrow.Author.Tests.{eq-eqb, ne-eqb, le-leb, lt-leb, lt-ltb, le-ltb, not-true, not-false}
-use native.Mathlib.Omega.{arith}
-use mathlib.Core.Path.{_≡_, refl, sym, ap, subst, _∙_}
-use Prim.Native.Nat.{ℕ, _+_, _-_, _*_, _≤_, _<_}
-use lib.ListN.{length, getD}
-use Rattle.table.specs.Bytes.{nodes, kind, word, first, next, root}
-use Rattle.table.specs.Naming.{owner, chain}
-use Rattle.table.specs.Pick.{pick}
-use lib.Dec.{eqb}
-use mathlib.Core.Bool.{true, false}
-use mathlib.Core.List.{map, _++_}
-use lib.ListN.{take, drop, replicate, length-replicate, length-map, length-set, List·getD-map}
-use Rattle.rules.specs.State.{entry}
-use Rattle.circuit.specs.Plan.{planned, stateAs, given, opens, ofFunction}
-use Rattle.circuit.proofs.ChainLaws.{rest, ok, first-in}
-use Rattle.table.proofs.Copied.{copied-more, copied-all}
-use Rattle.circuit.proofs.ActBy.{own-in, let-in, three-in}
-use Rattle.circuit.proofs.GroupLaws.{GroupsTo, groups-start, groups-next, groups-end, Wiped, wiped-start, wiped-next, wiped-end}
-use Rattle.circuit.proofs.GroupLaws.{WipeTo, head-sought, walk-start, link-sought, walk-next, walk-falls}
-use Rattle.circuit.proofs.GiveLaws.{GivenTo, given-start, given-next, given-end}
-use Rattle.circuit.proofs.TakeLaws.{begin-if, begin-let, begin-all, turn-in, enter-in, leave-in, rested, begun, turned, finished}
-use Rattle.circuit.proofs.TakeLaws.{left, entered, restarted}
+use mathlib.Core.Path.{refl, sym, _∙_}
+use Prim.Native.Nat.{_-_}
+use borrow.Author.Tests.{eq-eqb, ne-eqb}
+use Rattle.table.specs.Bytes.{next}
+use Rattle.circuit.proofs.TakeLaws.{left}
 use borrow.Author.Needs.{needs}
 use Rattle.circuit.proofs.changes.following.Statement.{statement}
 use Rattle.circuit.proofs.changes.following.Tie as tie
-use Rattle.circuit.proofs.changes.following.Reads as reads
-use Rattle.circuit.proofs.changes.following.Lts as lts
-use Rattle.table.proofs.read.next.Reads as next-reads
 
 -- src/changes.rt:29:9
 returns : tie.Need-returns

@@ -1,32 +1,17 @@
-use borrow.Author.Tests.{eq-eqb, ne-eqb, le-leb, lt-leb, lt-ltb, le-ltb, not-true, not-false}
 use native.Mathlib.Omega.{arith}
 use borrow.Author.Needs.{needs}
-use mathlib.Core.Path.{_≡_, refl, sym, ap, subst, _∙_}
-use Prim.Native.Nat.{ℕ, _+_, _-_, _*_, _≤_, _<_}
-use lib.ListN.{length, getD}
-use mathlib.Core.Bool.{true, false}
+use mathlib.Core.Path.{_≡_, sym, ap, subst, _∙_}
+use Prim.Native.Nat.{_-_, _≤_, _<_}
+use lib.ListN.{length}
 use mathlib.Core.Logic.{⊎-elim}
 use lib.ListN.{drop}
-use Rattle.table.specs.Bytes.{functions, nodes}
-use Rattle.table.specs.Survey.{verdictOf}
-use Rattle.rules.specs.Step.{Stepped}
-use Rattle.rules.specs.Circuit.{circuitOf}
+use Rattle.table.specs.Bytes.{nodes}
 use Rattle.rules.specs.Runs.{runFrom}
-use Rattle.circuit.specs.Meaning.{numbers, listsOf, replyOf}
-use Rattle.circuit.specs.Plan.{stateAs, Stands, Agreed}
-use Rattle.circuit.proofs.EntryLaws.{stands-from, agreed-from, stray-standing, stand-standing, refused-standing, plus, run-turned}
-use Rattle.circuit.proofs.EntryLaws.{run-goes, run-stops, run-takes, run-answers, run-stands, run-ends, run-begins, named-state}
-use Rattle.circuit.proofs.EntryLaws.{told-stepped}
-use Rattle.circuit.proofs.TurnLaws.{fair-from, step-is, step-turned}
+use Rattle.circuit.specs.Meaning.{replyOf}
+use Rattle.circuit.specs.Plan.{stateAs, Stands}
+use Rattle.circuit.proofs.EntryLaws.{plus, run-stops, run-takes, run-answers, run-stands, run-ends, run-begins, named-state}
 use Rattle.circuit.proofs.entries.run.Statement.{statement}
 use Rattle.circuit.proofs.entries.run.Tie as tie
-use Rattle.circuit.proofs.entries.run.Reads as reads
-use Rattle.circuit.proofs.entries.run.Lts as lts
-use Rattle.circuit.proofs.arrays.named.Reads as named-reads
-use Rattle.circuit.proofs.arrays.owners.Reads as owners-reads
-use Rattle.circuit.proofs.arrays.plain.Reads as plain-reads
-use Rattle.circuit.proofs.groups.group.Reads as group-reads
-use Rattle.circuit.proofs.turn.turn.Reads as turn-reads
 
 abbrev Inv-loop : tie.InvT-loop
 Inv-loop table tags nodes own heads links status₀ second₀ value₀ registers₀ plain₀ i₀ status second value registers plain i =

@@ -1,28 +1,13 @@
-use borrow.Author.Tests.{eq-eqb, ne-eqb, le-leb, lt-leb, lt-ltb, le-ltb, not-true, not-false}
 use native.Mathlib.Omega.{arith}
-use mathlib.Core.Path.{_≡_, refl, sym, ap, subst, _∙_}
-use Prim.Native.Nat.{ℕ, _+_, _-_, _*_, _≤_, _<_}
-use lib.ListN.{length, getD}
-use mathlib.Core.List.{map, _++_}
-use mathlib.Core.Bool.{true, false, _||_}
-use lib.ListN.{take, drop, replicate, length-replicate, length-map, length-set, List·getD-map}
-use Rattle.table.proofs.Copied.{copied-more, copied-all}
-use Rattle.table.specs.Bytes.{functions, nodes}
-use Rattle.rules.specs.Step.{over, refusal}
-use Rattle.circuit.specs.Meaning.{numbers, listsOf, replyOf}
-use Rattle.circuit.specs.Plan.{stateAs, strayIn, asNode}
-use Rattle.circuit.proofs.EntryLaws.{numbered, owners-told, stands-from, step-stray}
+use mathlib.Core.Path.{_∙_}
+use Prim.Native.Nat.{_-_}
+use Rattle.table.specs.Bytes.{nodes}
+use Rattle.circuit.specs.Meaning.{listsOf}
+use Rattle.circuit.proofs.EntryLaws.{stands-from, step-stray}
 use Rattle.circuit.proofs.TurnLaws.{turn-zero, turn-past}
-use Rattle.circuit.proofs.ChainLaws.{ok}
 use borrow.Author.Needs.{needs}
 use Rattle.circuit.proofs.entries.step.Statement.{statement}
 use Rattle.circuit.proofs.entries.step.Tie as tie
-use Rattle.circuit.proofs.entries.step.Reads as reads
-use Rattle.circuit.proofs.entries.step.Lts as lts
-use Rattle.circuit.proofs.entries.refused.Reads as refused-reads
-use Rattle.circuit.proofs.entries.step_standing.Reads as step-standing-reads
-use Rattle.circuit.proofs.entries.strays.Reads as strays-reads
-use Rattle.table.proofs.read.nodes.Reads as nodes-reads
 
 -- src/entries.rt:50:9
 refused-requires : tie.Need-refused-requires

@@ -1,32 +1,12 @@
-use borrow.Author.Tests.{eq-eqb, ne-eqb, le-leb, lt-leb, lt-ltb, le-ltb, not-true, not-false}
-use native.Mathlib.Omega.{arith}
 use borrow.Author.Needs.{needs}
-use mathlib.Core.Path.{_≡_, refl, sym, ap, subst, _∙_}
-use Prim.Native.Nat.{ℕ, _+_, _-_, _*_, _≤_, _<_}
-use lib.ListN.{length, getD}
-use mathlib.Core.Bool.{true, false}
-use mathlib.Core.Logic.{⊎-elim}
-use lib.ListN.{drop}
-use Rattle.table.specs.Bytes.{functions, nodes}
-use Rattle.table.specs.Survey.{verdictOf}
-use Rattle.rules.specs.Step.{Stepped}
+use mathlib.Core.Path.{sym, ap, subst, _∙_}
+use Prim.Native.Nat.{_-_}
 use Rattle.rules.specs.Circuit.{circuitOf}
-use Rattle.rules.specs.Runs.{runFrom}
-use Rattle.circuit.specs.Meaning.{numbers, listsOf, replyOf}
-use Rattle.circuit.specs.Plan.{stateAs, Stands, Agreed}
-use Rattle.circuit.proofs.EntryLaws.{stands-from, agreed-from, stray-standing, stand-standing, refused-standing, plus, run-turned}
-use Rattle.circuit.proofs.EntryLaws.{run-goes, run-stops, run-takes, run-answers, run-stands, run-ends, run-begins, named-state}
+use Rattle.circuit.specs.Meaning.{replyOf}
+use Rattle.circuit.specs.Plan.{stateAs, Stands}
 use Rattle.circuit.proofs.EntryLaws.{told-stepped}
-use Rattle.circuit.proofs.TurnLaws.{fair-from, step-is, step-turned}
 use Rattle.circuit.proofs.entries.step_standing.Statement.{statement}
 use Rattle.circuit.proofs.entries.step_standing.Tie as tie
-use Rattle.circuit.proofs.entries.step_standing.Reads as reads
-use Rattle.circuit.proofs.entries.step_standing.Lts as lts
-use Rattle.circuit.proofs.arrays.named.Reads as named-reads
-use Rattle.circuit.proofs.arrays.owners.Reads as owners-reads
-use Rattle.circuit.proofs.arrays.plain.Reads as plain-reads
-use Rattle.circuit.proofs.groups.group.Reads as group-reads
-use Rattle.circuit.proofs.turn.turn.Reads as turn-reads
 
 -- src/entries.rt:66:15
 owners-requires : tie.Need-owners-requires

@@ -1,26 +1,13 @@
-use borrow.Author.Tests.{eq-eqb, ne-eqb, le-leb, lt-leb, lt-ltb, le-ltb, not-true, not-false}
 use native.Mathlib.Omega.{arith}
 use borrow.Author.Needs.{needs}
-use mathlib.Core.Path.{_≡_, refl, sym, ap, subst, _∙_}
-use Prim.Native.Nat.{ℕ, _+_, _-_, _*_, _≤_, _<_}
-use lib.ListN.{length, getD}
-use Rattle.table.specs.Bytes.{functions, nodes, root}
-use Rattle.table.specs.Pick.{pick}
-use lib.Dec.{eqb}
-use mathlib.Core.Bool.{true, false, _||_}
-use Rattle.rules.specs.State.{entry}
-use Rattle.rules.specs.Step.{over, answered, taken}
-use Rattle.rules.specs.Circuit.{actOf}
-use Rattle.circuit.specs.Plan.{stateAs}
+use mathlib.Core.Path.{_≡_, sym, ap, _∙_}
+use Prim.Native.Nat.{_-_, _≤_}
+use Rattle.table.specs.Bytes.{nodes}
+use Rattle.rules.specs.Step.{over, taken}
 use Rattle.circuit.proofs.ChainLaws.{ok}
 use Rattle.circuit.proofs.StandsLaws.{over-here, over-less, over-end}
-use Rattle.circuit.proofs.TurnLaws.{turn-zero, turn-past, turn-over, turn-on, out-stuck, out-held, out-moved}
 use Rattle.circuit.proofs.standing.odd_status.Statement.{statement}
 use Rattle.circuit.proofs.standing.odd_status.Tie as tie
-use Rattle.circuit.proofs.standing.odd_status.Reads as reads
-use Rattle.circuit.proofs.standing.odd_status.Lts as lts
-use Rattle.circuit.proofs.cells.status_at.Reads as status-at-reads
-use Rattle.table.proofs.read.nodes.Reads as nodes-reads
 
 abbrev Inv-loop : tie.InvT-loop
 Inv-loop table status n₀ n = (n ≤ nodes table) × (over 3 (nodes table) status ≡ over 3 n status)

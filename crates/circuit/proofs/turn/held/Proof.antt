@@ -1,25 +1,9 @@
-use borrow.Author.Tests.{eq-eqb, ne-eqb, le-leb, lt-leb, lt-ltb, le-ltb, not-true, not-false}
-use native.Mathlib.Omega.{arith}
-use mathlib.Core.Path.{_≡_, refl, sym, ap, subst, _∙_}
-use Prim.Native.Nat.{ℕ, _+_, _-_, _*_, _≤_, _<_}
-use lib.ListN.{length, getD}
-use Rattle.table.specs.Bytes.{functions, nodes, root}
+use mathlib.Core.Path.{sym, ap, _∙_}
+use Prim.Native.Nat.{_-_}
 use Rattle.table.specs.Pick.{pick}
-use lib.Dec.{eqb}
-use mathlib.Core.Bool.{true, false, _||_}
-use Rattle.rules.specs.State.{entry}
-use Rattle.rules.specs.Step.{over, answered, taken}
-use Rattle.rules.specs.Circuit.{actOf}
-use Rattle.circuit.specs.Plan.{stateAs}
-use Rattle.circuit.proofs.ChainLaws.{ok}
-use Rattle.circuit.proofs.StandsLaws.{over-here, over-less, over-end}
-use Rattle.circuit.proofs.TurnLaws.{turn-zero, turn-past, turn-over, turn-on, out-stuck, out-held, out-moved}
-use borrow.Author.Needs.{needs}
+use Rattle.rules.specs.Step.{taken}
 use Rattle.circuit.proofs.turn.held.Statement.{statement}
 use Rattle.circuit.proofs.turn.held.Tie as tie
-use Rattle.circuit.proofs.turn.held.Reads as reads
-use Rattle.circuit.proofs.turn.held.Lts as lts
-use Rattle.circuit.proofs.turn.marked.Reads as marked-reads
 
 -- src/turn.rt:41:8
 marked-requires : tie.Need-marked-requires

@@ -1,28 +1,11 @@
 use Rattle.list.proofs.BitLaws.{low-bit}
 use native.Mathlib.Nat.{zero-div}
-use borrow.Author.Tests.{eq-eqb, ne-eqb, le-leb, lt-leb, lt-ltb, le-ltb, not-true, not-false}
-use native.Mathlib.Omega.{arith}
-use mathlib.Core.Path.{_≡_, refl, sym, ap, subst, _∙_}
-use Prim.Native.Nat.{ℕ, _+_, _-_, _*_, _≤_, _<_}
-use lib.ListN.{length, getD}
-use Rattle.table.specs.Bytes.{functions, nodes, root}
-use Rattle.table.specs.Pick.{pick}
-use lib.Dec.{eqb}
-use mathlib.Core.Bool.{true, false, _||_}
-use Rattle.rules.specs.State.{entry}
-use Rattle.rules.specs.Step.{over, answered, taken}
-use Rattle.rules.specs.Circuit.{actOf}
-use Rattle.circuit.specs.Plan.{stateAs}
-use Rattle.circuit.proofs.ChainLaws.{ok}
-use Rattle.circuit.proofs.StandsLaws.{over-here, over-less, over-end}
-use Rattle.circuit.proofs.TurnLaws.{turn-zero, turn-past, turn-over, turn-on, out-stuck, out-held, out-moved}
+use Prim.Native.Nat.{_-_}
 use Rattle.list.specs.Tags.{tagged}
 use lib.ListN.{List·getD-eq-default}
 use borrow.Author.Needs.{needs}
 use Rattle.circuit.proofs.turn.marked.Statement.{statement}
 use Rattle.circuit.proofs.turn.marked.Tie as tie
-use Rattle.circuit.proofs.turn.marked.Reads as reads
-use Rattle.circuit.proofs.turn.marked.Lts as lts
 
 -- src/turn.rt:25:13
 cast-i : tie.Need-cast-i

@@ -1,30 +1,15 @@
-use borrow.Author.Tests.{eq-eqb, ne-eqb, le-leb, lt-leb, lt-ltb, le-ltb, not-true, not-false}
 use native.Mathlib.Omega.{arith}
-use mathlib.Core.Path.{_≡_, refl, sym, ap, subst, _∙_}
-use Prim.Native.Nat.{ℕ, _+_, _-_, _*_, _≤_, _<_}
-use lib.ListN.{length, getD}
-use Rattle.table.specs.Bytes.{functions, nodes, root}
-use Rattle.table.specs.Pick.{pick}
-use lib.Dec.{eqb}
-use mathlib.Core.Bool.{true, false, _||_}
-use Rattle.rules.specs.State.{entry}
-use Rattle.rules.specs.Step.{over, answered, taken}
+use mathlib.Core.Path.{sym, _∙_}
+use Prim.Native.Nat.{_-_, _≤_}
+use Rattle.table.specs.Bytes.{nodes}
+use Rattle.rules.specs.Step.{taken}
 use Rattle.rules.specs.Circuit.{actOf}
 use Rattle.circuit.specs.Plan.{stateAs}
 use Rattle.circuit.proofs.ChainLaws.{ok}
-use Rattle.circuit.proofs.StandsLaws.{over-here, over-less, over-end}
 use Rattle.circuit.proofs.TurnLaws.{turn-zero, turn-past, turn-over, turn-on, out-stuck, out-held, out-moved}
 use borrow.Author.Needs.{needs}
 use Rattle.circuit.proofs.turn.turn.Statement.{statement}
 use Rattle.circuit.proofs.turn.turn.Tie as tie
-use Rattle.circuit.proofs.turn.turn.Reads as reads
-use Rattle.circuit.proofs.turn.turn.Lts as lts
-use Rattle.circuit.proofs.cells.status_at.Reads as status-at-reads
-use Rattle.circuit.proofs.changes.take.Reads as take-reads
-use Rattle.circuit.proofs.turn.held.Reads as held-reads
-use Rattle.circuit.proofs.turn.told.Reads as told-reads
-use Rattle.circuit.proofs.turn.top.Reads as top-reads
-use Rattle.table.proofs.read.nodes.Reads as nodes-reads
 
 -- src/turn.rt:86:9
 returns : tie.Need-returns

@@ -1,0 +1,49 @@
+-- the state that a start makes
+use Prim.Native.Nat.{ℕ}
+use mathlib.Core.Bool.{false}
+use mathlib.Core.Path.{_≡_, refl, sym, ap, _∙_}
+use mathlib.Core.List.{List}
+use lib.ListN.{length, replicate}
+use borrow.Author.Tests.{eq-eqb, ne-eqb}
+use Rattle.table.specs.Syntax.{id}
+use Rattle.table.specs.Bytes.{functions, root, params}
+use Rattle.table.specs.Check.{stage}
+use Rattle.table.specs.Expressions.{bodyOf}
+use Rattle.list.specs.Tags.{after, checkWith}
+use Rattle.rules.specs.State.{write, fill, blank, zeros, circuitStart}
+use Rattle.rules.specs.Circuit.{started, turned, startOf, checkStart, startAfter}
+use Rattle.circuit.specs.Plan.{Fair, Agreed, stateAs}
+use Rattle.circuit.proofs.TurnLaws.{main-root}
+use Rattle.table.specs.Check as TableCheck
+
+pub all-zero : stateAs (replicate 512 0) (replicate 512 false) (replicate 512 0) (replicate 256 0) (replicate 32 0) ≡ zeros
+unfolding zeros blank
+all-zero = refl
+
+pub blank-is : {A : Type 0} (k : ℕ) (a : A) → replicate k a ≡ blank k a
+unfolding blank
+blank-is k a = refl
+
+pub start-is : (t args : List ℕ) → Fair t → (a d : List ℕ) (r : ℕ) → r ≡ root t (functions t) → a ≡ write (replicate 512 0) r 1
+    → d ≡ fill (functions t) args (blank 256 0)
+    → stateAs a (replicate 512 false) (replicate 512 0) d (replicate 32 0) ≡ circuitStart (functions t) (bodyOf t) args
+unfolding circuitStart blank
+start-is t args fair a d r er ea ed =
+    let q : a ≡ write (replicate 512 0) (id (bodyOf t (functions t))) 1 = ea ∙ ap (λ m. write (replicate 512 0) m 1)
+    (er ∙ sym (main-root t fair)) in
+    λ i. stateAs (q i) (replicate 512 false) (replicate 512 0) (ed i) (replicate 32 0)
+
+-- 11, and the rest
+module _ (t tags args : List ℕ) where
+  pub start-refused : (k p : ℕ) → checkWith t tags ≡ TableCheck.refused k p → turned k p ≡ startOf t tags args
+  unfolding startOf startAfter checkStart after
+  start-refused k p e = sym (rw e refl)
+
+  module _ (ag : Agreed t tags) (p : ℕ) (ep : p ≡ params t (functions t)) where
+    pub start-count : (length args ≡ p → ⊥) → turned 11 0 ≡ startOf t tags args
+    unfolding startOf startAfter checkStart after stage
+    start-count d = sym (rw (ag .tagging, ne-eqb (length args) (params t (functions t)) (λ z. d (z ∙ sym ep))) refl)
+
+    pub start-goes : length args ≡ p → started (circuitStart (functions t) (bodyOf t) args) ≡ startOf t tags args
+    unfolding startOf startAfter checkStart after stage
+    start-goes e = sym (rw (ag .tagging, eq-eqb (length args) (params t (functions t)) (e ∙ ep)) refl)

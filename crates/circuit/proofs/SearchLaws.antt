@@ -1,0 +1,49 @@
+-- looking for a node that has a move, and trying one
+use Prim.Native.Nat.{ℕ, _+_, _≤_}
+use mathlib.Core.Bool.{Bool, true, false}
+use mathlib.Core.Path.{_≡_, refl, sym, ap, _∙_}
+use mathlib.Core.List.{List}
+use native.Mathlib.Omega.{arith}
+use native.Mathlib.Decide.{ℕ-discrete}
+use Rattle.table.specs.Bytes.{nodes}
+use Rattle.table.specs.Working.{IsNode}
+use Rattle.rules.specs.State.{State512}
+use Rattle.rules.specs.Step.{Act, stuck, blocked, does}
+use Rattle.rules.specs.Circuit.{actOf}
+use Rattle.circuit.specs.Plan.{goes, Took, FoundAt, Tried}
+
+-- no node up to n has a move
+abbrev pub NoneTo : (t : List ℕ) → State512 → ℕ → Type 0
+NoneTo t s n = (m : ℕ) → 1 ≤ m → m ≤ n → goes (actOf t s m) ≡ true → ⊥
+
+module _ (t : List ℕ) (s : State512) where
+  pub none-start : NoneTo t s 0
+  none-start m a b e = omega arith
+
+  true-not : (b : Bool) → b ≡ true → b ≡ false → ⊥
+  true-not b e f = let z : true ≡ false = sym e ∙ f in let y : _≡_ {A = ℕ} 0 1 = cc in omega arith
+
+  pub none-more : (n : ℕ) → NoneTo t s n → (b : Bool) → b ≡ goes (actOf t s (n + 1)) → b ≡ false → NoneTo t s (n + 1)
+  none-more n h b e f m p q r = go (ℕ-discrete m (n + 1))
+    where
+      go : Dec (m ≡ n + 1) → ⊥
+      go (yes w) = true-not (goes (actOf t s (n + 1))) (ap (λ x. goes (actOf t s x)) (sym w) ∙ r) (sym e ∙ f)
+      go (no w) = h m p (omega arith) r
+
+  pub found-none : (n : ℕ) → NoneTo t s n → nodes t ≤ n → FoundAt t s 0
+  found-none n h i = record { none = λ z m p e. h m (p .0) (omega (arith, p .1)) e; some = λ z. absurd (z refl) }
+
+  pub found-here : (n : ℕ) → IsNode t n → (b : Bool) → b ≡ goes (actOf t s n) → b ≡ true → FoundAt t s n
+  found-here n i b e f = record { none = λ z m p q. omega (arith, i .0, z); some = λ z. (i, sym e ∙ f) }
+
+  -- a number that is no node
+  pub tried-none : (n : ℕ) → (IsNode t n → ⊥) → Tried t s n 0 s
+  tried-none n d = record { taken = λ e. absurd (omega arith); left = λ e. (refl, λ i. absurd (d i)) }
+
+  pub tried-node : (n code : ℕ) (s′ : State512) → IsNode t n → Took t s n (actOf t s n) code s′ → Tried t s n code s′
+  tried-node n code s′ i h = go (actOf t s n) refl h
+    where
+      go : (a : Act) → actOf t s n ≡ a → Took t s n a code s′ → Tried t s n code s′
+      go stuck e k = record { taken = λ z. absurd (omega (arith, k .0, z)); left = λ z. (k .1, λ j. ap goes e) }
+      go blocked e k = record { taken = λ z. absurd (omega (arith, k .0, z)); left = λ z. (k .1, λ j. ap goes e) }
+      go (does m) e k = record { taken = λ z. (i, (m, e, k .1)); left = λ z. absurd (z (k .0)) }

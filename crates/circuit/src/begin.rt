@@ -1,0 +1,79 @@
+// The state that a start makes.
+use crate::Opening;
+use crate::Started;
+use crate::State;
+use crate::cells;
+use table::Function;
+use table::Node;
+use table::read;
+ghost use mathlib.Core.Path.{_≡_};
+ghost use lib.ListN.{length, getD};
+ghost use Prim.Native.Nat.{_≤_, _<_};
+ghost use Rattle.table.specs.Bytes.{functions};
+ghost use Rattle.table.specs.Expressions.{bodyOf};
+ghost use Rattle.rules.specs.State.{blank, fill, circuitStart};
+ghost use Rattle.rules.specs.Circuit.{Started as StartedAt, turned, started, stateOf};
+ghost use Rattle.circuit.specs.Meaning.{StartedAs};
+ghost use Rattle.circuit.specs.Plan.{Fair};
+
+fn argument(args: &[u32], i: usize) -> u32
+    ensures { λ r. ⌜ r ≡ getD (now (args .entry)) i 0 ⌝ }
+{
+    if i < args.len() { args[i] } else { 0 }
+}
+
+// Main's registers hold the arguments; all others are zero.
+fn registers(main: Function, args: &[u32]) -> [u32; 256]
+    requires { ⌜ (1 ≤ main .0) × (main .0 ≤ 32) ⌝ }
+    ensures { λ r. ⌜ r ≡ fill (main .0) (now (args .entry)) (blank 256 0) ⌝ }
+{
+    let mut r = [0u32; 256];
+    let f = main.0 as usize;
+    let base = 8 * (f - 1);
+    let mut i: usize = 0;
+    while i < 8 {
+        r[base + i] = argument(args, i);
+        i += 1;
+    }
+    r
+}
+
+// A refusal, with a state that is all zero.
+pub(crate) fn closed(number: u8, place: Node) -> Started
+    ensures { λ r. ⌜ StartedAs r (turned number (place .0)) ⌝ }
+{
+    let state = State {
+        status: [0u8; 512],
+        second: [false; 512],
+        value: [0u32; 512],
+        registers: [0u32; 256],
+        occupant: [Node(0); 32],
+    };
+    Started {
+        opening: Opening::Refused(number, place),
+        state,
+    }
+}
+
+// All zero but main's registers and root.
+pub(crate) fn opened(table: &[u8], args: &[u32]) -> Started
+    requires { ⌜ Fair (now table) ⌝ }
+    ensures { λ r. ⌜ StartedAs r (started (circuitStart (functions (now (table .entry))) (bodyOf (now (table .entry))) (now (args .entry)))) ⌝ }
+{
+    let main = read::functions(table);
+    let root = read::root(table, main);
+    let mut status = [0u8; 512];
+    cells::set_status(&mut status, root, 1);
+    let registers = registers(main, args);
+    let state = State {
+        status,
+        second: [false; 512],
+        value: [0u32; 512],
+        registers,
+        occupant: [Node(0); 32],
+    };
+    Started {
+        opening: Opening::Opened,
+        state,
+    }
+}

@@ -1,0 +1,146 @@
+// The query and the run with a budget, of a table and tags that were checked and a state that passed 24.
+use crate::Driven;
+use crate::Ended;
+use crate::Found;
+use crate::State;
+use crate::arrays;
+use crate::candidates;
+use crate::cells;
+use crate::groups;
+use crate::search;
+use crate::turn;
+use table::Node;
+ghost use mathlib.Core.Path.{_≡_};
+ghost use Prim.Native.Nat.{_≤_, _<_};
+ghost use Rattle.table.specs.Bytes.{functions, root};
+ghost use Rattle.rules.specs.Runs.{Picks};
+ghost use Rattle.circuit.specs.Meaning.{listsOf, drivenOf, foundOf, endedOf};
+ghost use Rattle.circuit.specs.Plan.{Fair, Owners, Agreed, Stands, stateAs, FindsIn, EndsIn};
+
+// None once main's root is done, else the first node that has a move.
+pub(crate) fn query(table: &[u8], tags: &[u8], s: State) -> Found
+    requires { ⌜ Agreed (now table) (now tags) × Stands (now table) (listsOf s) ⌝ }
+    ensures { λ r. ⌜ FindsIn (now (table .entry)) (now (tags .entry)) (listsOf s) (foundOf r) ⌝ }
+{
+    let own = arrays::owners(table);
+    let status = s.status;
+    let second = s.second;
+    let value = s.value;
+    let registers = s.registers;
+    let raw = s.occupant;
+    let plain = arrays::plain(raw);
+    let top = turn::top(table);
+    if cells::status_at(&status, top) == 3 {
+        return Found::Nothing;
+    }
+    let n = search::find(table, &own, &status, &second, &value, &registers, &plain);
+    if n == 0 {
+        return Found::Nothing;
+    }
+    Found::Possible(Node(n))
+}
+
+// How the run stands: answered, then at rest, then spent.
+fn end_of(
+    table: &[u8],
+    tags: &[u8],
+    own: &[u16; 513],
+    status: &[u8; 512],
+    second: &[bool; 512],
+    value: &[u32; 512],
+    registers: &[u32; 256],
+    occupant: &[u16; 32],
+    top: Node,
+) -> Ended
+    requires { ⌜ Agreed (now table) (now tags) × Owners (now table) (now own) × (top .0 ≡ root (now table) (functions (now table))) × (top .0 ≤ 512)
+        × Stands (now table) (stateAs (now status) (now second) (now value) (now registers) (now occupant)) ⌝ }
+    ensures { λ r. ⌜ EndsIn (now (table .entry)) (now (tags .entry)) (stateAs (now (status .entry)) (now (second .entry)) (now (value .entry))
+        (now (registers .entry)) (now (occupant .entry))) (endedOf r) ⌝ }
+{
+    if cells::status_at(status, top) == 3 {
+        return Ended::Answered(cells::value_at(value, top));
+    }
+    let n = search::find(table, own, status, second, value, registers, occupant);
+    if n == 0 {
+        return Ended::AtRest;
+    }
+    Ended::Spent
+}
+
+// Possible steps, as many as the budget at most.
+pub(crate) fn drive(table: &[u8], tags: &[u8], s: State, budget: u32) -> Driven
+    requires { ⌜ Agreed (now table) (now tags) × Stands (now table) (listsOf s) ⌝ }
+    ensures { λ r. ⌜ Picks (now (table .entry)) (now (tags .entry)) (listsOf s) budget (drivenOf r) ⌝ }
+{
+    let own = arrays::owners(table);
+    let g = groups::group(table, &own);
+    let heads = g.heads;
+    let links = g.links;
+    let top = turn::top(table);
+    let mut status = s.status;
+    let mut second = s.second;
+    let mut value = s.value;
+    let mut registers = s.registers;
+    let raw = s.occupant;
+    let mut plain = arrays::plain(raw);
+    let mut stack = [0u16; 1024];
+    let mut height: usize = 0;
+    let mut taken: u32 = 0;
+    let mut rest = false;
+    while candidates::going(&status, top, taken, budget, rest) {
+        let n = candidates::candidate(
+            table,
+            &own,
+            &status,
+            &second,
+            &value,
+            &registers,
+            &plain,
+            &stack,
+            height,
+        );
+        let code = candidates::attempt(
+            table,
+            &own,
+            &heads,
+            &links,
+            &mut status,
+            &mut second,
+            &mut value,
+            &mut registers,
+            &mut plain,
+            n,
+        );
+        if code == 2 {
+            taken += 1;
+            height = candidates::follow(table, &own, &status, &mut stack, height, Node(n));
+        } else {
+            rest = height == 0;
+            height = candidates::less(height);
+        }
+    }
+    let ended = end_of(
+        table,
+        tags,
+        &own,
+        &status,
+        &second,
+        &value,
+        &registers,
+        &plain,
+        top,
+    );
+    let occupant = arrays::named(plain);
+    let state = State {
+        status,
+        second,
+        value,
+        registers,
+        occupant,
+    };
+    Driven {
+        taken,
+        ended,
+        state,
+    }
+}

@@ -1,0 +1,213 @@
+// A run that picks its own steps. The next one is looked for where the last one was: below a node that began, turned or entered, then at
+// that node itself. Where this finds none, all nodes are looked through; what the run says rests on that alone.
+use crate::cells;
+use crate::changes;
+use crate::search;
+use table::Function;
+use table::Node;
+use table::read;
+ghost use mathlib.Core.Path.{_≡_};
+ghost use mathlib.Core.Bool.{true, not, _&&_};
+ghost use lib.Dec.{eqb, ltb};
+ghost use Prim.Native.Nat.{_-_, _≤_, _<_};
+ghost use Rattle.table.specs.Bytes.{nodes};
+ghost use Rattle.table.specs.Working.{IsNode, IsFunction};
+ghost use Rattle.rules.specs.State.{entry};
+ghost use Rattle.circuit.specs.Plan.{Fair, Owners, Grouped, stateAs, FoundAt, Tried};
+
+// One candidate less.
+pub(crate) fn less(height: usize) -> usize
+    ensures { λ r. ⌜ r ≡ height - 1 ⌝ }
+{
+    if height == 0 { 0 } else { height - 1 }
+}
+
+// A candidate more; where there is no room, all are dropped.
+fn push(stack: &mut [u16; 1024], height: usize, n: Node) -> usize
+    ensures { λ r. ⌜ r ≤ 1024 ⌝ }
+{
+    if height < 1024 {
+        stack[height] = n.0;
+        return height + 1;
+    }
+    0
+}
+
+// The same if the node is open.
+fn push_open(status: &[u8; 512], stack: &mut [u16; 1024], height: usize, n: Node) -> usize
+    requires { ⌜ (n .0 ≤ 512) × (height ≤ 1024) ⌝ }
+    ensures { λ r. ⌜ r ≤ 1024 ⌝ }
+{
+    if cells::status_at(status, n) == 1 {
+        return push(stack, height, n);
+    }
+    height
+}
+
+// Those of a chain that are open.
+fn push_chain(
+    table: &[u8],
+    status: &[u8; 512],
+    stack: &mut [u16; 1024],
+    height: usize,
+    c: Node,
+) -> usize
+    requires { ⌜ Fair (now table) × (c .0 ≤ nodes (now table)) × (height ≤ 1024) ⌝ }
+    ensures { λ r. ⌜ r ≤ 1024 ⌝ }
+{
+    let mut h = height;
+    let mut at = c.0;
+    while at != 0 {
+        h = push_open(status, stack, h, Node(at));
+        let on = read::next(table, Node(at));
+        at = on.0;
+    }
+    h
+}
+
+// Whether a candidate is a node of function f.
+fn owned(own: &[u16; 513], n: u16, f: u16) -> bool {
+    if 512 < n {
+        return false;
+    }
+    own[n as usize] == f
+}
+
+// Without the candidates on top that are nodes of f: a self call starts these anew.
+fn drop_own(own: &[u16; 513], stack: &[u16; 1024], height: usize, f: u16) -> usize
+    requires { ⌜ height ≤ 1024 ⌝ }
+    ensures { λ r. ⌜ r ≤ 1024 ⌝ }
+{
+    let mut h = height;
+    while 0 < h {
+        if !owned(own, stack[h - 1], f) {
+            return h;
+        }
+        h -= 1;
+    }
+    0
+}
+
+// The candidates after a step at node n, which was the topmost if there was any.
+pub(crate) fn follow(
+    table: &[u8],
+    own: &[u16; 513],
+    status: &[u8; 512],
+    stack: &mut [u16; 1024],
+    height: usize,
+    n: Node,
+) -> usize
+    requires { ⌜ Fair (now table) × Owners (now table) (now own) × IsNode (now table) (n .0) × (height ≤ 1024) ⌝ }
+    ensures { λ r. ⌜ r ≤ 1024 ⌝ }
+{
+    let h = less(height);
+    let s = cells::status_at(status, n);
+    if s == 3 {
+        return h;
+    }
+    if s == 2 {
+        let above = push(stack, h, n);
+        let c = read::first(table, n);
+        let below = push_chain(table, status, stack, above, c);
+        return push_callee(table, status, stack, below, n);
+    }
+    let f = own[n.0 as usize];
+    let kept = drop_own(own, stack, h, f);
+    let r = read::root(table, Function(f));
+    push(stack, kept, r)
+}
+
+// The root that a call has opened.
+fn push_callee(
+    table: &[u8],
+    status: &[u8; 512],
+    stack: &mut [u16; 1024],
+    height: usize,
+    n: Node,
+) -> usize
+    requires { ⌜ Fair (now table) × IsNode (now table) (n .0) × (height ≤ 1024) ⌝ }
+    ensures { λ r. ⌜ r ≤ 1024 ⌝ }
+{
+    if read::kind(table, n) != 4 {
+        return height;
+    }
+    let g = read::word(table, n);
+    let r = read::root(table, Function(g as u16));
+    push_open(status, stack, height, r)
+}
+
+// The topmost candidate; where there is none, the first node that has a move.
+pub(crate) fn candidate(
+    table: &[u8],
+    own: &[u16; 513],
+    status: &[u8; 512],
+    second: &[bool; 512],
+    value: &[u32; 512],
+    registers: &[u32; 256],
+    occupant: &[u16; 32],
+    stack: &[u16; 1024],
+    height: usize,
+) -> u16
+    requires { ⌜ Fair (now table) × Owners (now table) (now own) × (height ≤ 1024) ⌝ }
+    ensures { λ r. ⌜ (height ≡ 0 → FoundAt (now (table .entry)) (stateAs (now (status .entry)) (now (second .entry)) (now (value .entry))
+        (now (registers .entry)) (now (occupant .entry))) r) ⌝ }
+{
+    if 0 < height {
+        return stack[height - 1];
+    }
+    search::find(table, own, status, second, value, registers, occupant)
+}
+
+// Takes the step of a candidate, if it is a node and has one: 2 if so.
+pub(crate) fn attempt(
+    table: &[u8],
+    own: &[u16; 513],
+    heads: &[u16; 33],
+    links: &[u16; 513],
+    status: &mut [u8; 512],
+    second: &mut [bool; 512],
+    value: &mut [u32; 512],
+    registers: &mut [u32; 256],
+    occupant: &mut [u16; 32],
+    n: u16,
+) -> u8
+    requires { ⌜ Fair (now table) × Owners (now table) (now own) × Grouped (now table) (now heads) (now links) ⌝ }
+    ensures { λ r. ⌜ Tried (now (table .entry)) (stateAs (now (status .entry)) (now (second .entry)) (now (value .entry))
+        (now (registers .entry)) (now (occupant .entry))) n r
+        (stateAs (now (status .exit)) (now (second .exit)) (now (value .exit)) (now (registers .exit)) (now (occupant .exit))) ⌝ }
+{
+    if n == 0 {
+        return 0;
+    }
+    let last = read::nodes(table);
+    if last.0 < n {
+        return 0;
+    }
+    let f = own[n as usize];
+    changes::take(
+        table,
+        Function(f),
+        heads,
+        links,
+        status,
+        second,
+        value,
+        registers,
+        occupant,
+        Node(n),
+    )
+}
+
+// Whether the run goes on: main's root isn't done, a step may be possible, and the budget isn't spent.
+pub(crate) fn going(status: &[u8; 512], top: Node, taken: u32, budget: u32, rest: bool) -> bool
+    requires { ⌜ top .0 ≤ 512 ⌝ }
+    ensures { λ r. ⌜ r ≡ (not rest && (ltb taken budget && not (eqb (entry (now (status .entry)) 0 (top .0)) 3))) ⌝ }
+{
+    if rest {
+        return false;
+    }
+    if taken < budget {
+        return cells::status_at(status, top) != 3;
+    }
+    false
+}
