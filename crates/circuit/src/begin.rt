@@ -58,7 +58,8 @@ pub(crate) fn closed(number: u8, place: Node) -> Started
 // All zero but main's registers and root.
 pub(crate) fn opened(table: &[u8], args: &[u32]) -> Started
     requires { ⌜ Fair (now table) ⌝ }
-    ensures { λ r. ⌜ StartedAs r (started (circuitStart (functions (now (table .entry))) (bodyOf (now (table .entry))) (now (args .entry)))) ⌝ }
+    ensures { λ r. ⌜ StartedAs r (started (circuitStart (functions (now (table .entry))) (bodyOf (now (table .entry)))
+        (now (args .entry)))) ⌝ }
 {
     let main = read::functions(table);
     let root = read::root(table, main);

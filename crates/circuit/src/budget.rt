@@ -52,9 +52,11 @@ fn end_of(
     occupant: &[u16; 32],
     top: Node,
 ) -> Ended
-    requires { ⌜ Agreed (now table) (now tags) × Owners (now table) (now own) × (top .0 ≡ root (now table) (functions (now table))) × (top .0 ≤ 512)
+    requires { ⌜ Agreed (now table) (now tags) × Owners (now table) (now own) × (top .0 ≡ root (now table) (functions (now table)))
+        × (top .0 ≤ 512)
         × Stands (now table) (stateAs (now status) (now second) (now value) (now registers) (now occupant)) ⌝ }
-    ensures { λ r. ⌜ EndsIn (now (table .entry)) (now (tags .entry)) (stateAs (now (status .entry)) (now (second .entry)) (now (value .entry))
+    ensures { λ r. ⌜ EndsIn (now (table .entry)) (now (tags .entry)) (stateAs (now (status .entry)) (now (second .entry))
+        (now (value .entry))
         (now (registers .entry)) (now (occupant .entry))) (endedOf r) ⌝ }
 {
     if cells::status_at(status, top) == 3 {

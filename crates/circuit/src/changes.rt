@@ -92,7 +92,8 @@ fn reset(
     g: Function,
     c: Node,
 )
-    requires { ⌜ Fair (now table) × Grouped (now table) (now heads) (now links) × IsFunction (now table) (g .0) × (c .0 ≤ nodes (now table)) ⌝ }
+    requires { ⌜ Fair (now table) × Grouped (now table) (now heads) (now links) × IsFunction (now table) (g .0)
+        × (c .0 ≤ nodes (now table)) ⌝ }
     ensures { λ _. ⌜ (now (status .exit) ≡ write (clear (mine (nodes (now (table .entry))) (owner (now (table .entry))) (g .0)) 0
         (now (status .entry))) (root (now (table .entry)) (g .0)) 1)
         × (now (second .exit) ≡ clear (mine (nodes (now (table .entry))) (owner (now (table .entry))) (g .0)) false (now (second .entry)))

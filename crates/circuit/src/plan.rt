@@ -42,7 +42,8 @@ pub(crate) fn plan_at(
 ) -> Plan
     requires { ⌜ Fair (now table) × IsNode (now table) (n .0) × (own .0 ≡ owner (now table) (n .0)) ⌝ }
     ensures { λ r. ⌜ planned (now (table .entry)) (now (value .entry)) (n .0) r ≡ actOf (now (table .entry))
-        (stateAs (now (status .entry)) (now (second .entry)) (now (value .entry)) (now (registers .entry)) (now (occupant .entry))) (n .0) ⌝ }
+        (stateAs (now (status .entry)) (now (second .entry)) (now (value .entry)) (now (registers .entry))
+        (now (occupant .entry))) (n .0) ⌝ }
 {
     let s = cells::status_at(status, n);
     if s == 1 {

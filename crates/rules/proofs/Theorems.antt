@@ -19,14 +19,12 @@ use Rattle.rules.specs.Runs.{standing, runOf, RunPlays, MainDone, mainVa
 use Rattle.rules.specs.Reading.{ReadsTo}
 use Rattle.rules.specs.Demand.{Answers, DemandThree, ThirdDemand}
 use Rattle.rules.specs.Companions.{Phases, UnderAnyTags, AgreeWithin, AgreePast, DriveDemand, Word, Words, Bytes, Fits}
-use Rattle.circuit.specs.Entries.{DemandOfEntries}
 use Rattle.rules.proofs.Demands as Demands
 use Rattle.rules.proofs.OwnList as OwnList
 use Rattle.rules.proofs.AnyState as AnyState
 use Rattle.rules.proofs.RunFacts as RunFacts
 use Rattle.rules.proofs.Fits as FitsProof
 use Rattle.rules.proofs.ReadingFits as ReadingFits
-use Rattle.circuit.proofs.EntryDemand as EntryDemand
 
 -- Demand 3, "one claim about the whole list of steps": for every table, tags and arguments that start takes, the tags holding the
 -- arbiter list, and every list ns of asked numbers, which "may be empty or go on past the answer", "0 and above N too"
@@ -61,10 +59,6 @@ own-start = OwnList.own-start
 -- .. and the demand holds of that circuit, with no premise on the list
 pub own-list : (t args : List ℕ) (s : State512) → startOf t (tagsOf t) args ≡ started s → (ns : List ℕ) → DemandThree t (tagsOf t) args s ns
 own-list = OwnList.own-list
-
--- the demand said of the entries themselves: of what start and step return, whatever meets their promises
-pub of-entries : DemandOfEntries
-of-entries = EntryDemand.demand-of-entries
 
 -- the plain reading has one value and one count
 pub reading-unique : (t args : List ℕ) (v w k l : ℕ) → ReadsTo t args v k → ReadsTo t args w l → (v ≡ w) × (k ≡ l)

@@ -34,6 +34,20 @@ struct Seen {
     tags: BTreeMap<&'static str, usize>,
 }
 
+impl Seen {
+    fn add(&mut self, other: Seen) {
+        self.tables += other.tables;
+        self.listed += other.listed;
+        self.refused += other.refused;
+        for (feature, count) in other.features {
+            *self.features.entry(feature).or_insert(0) += count;
+        }
+        for (answer, count) in other.tags {
+            *self.tags.entry(answer).or_insert(0) += count;
+        }
+    }
+}
+
 fn code(answer: Result<(), Refusal>) -> u32 {
     answer.map_or_else(|refusal| refusal.code(), |()| 0)
 }
@@ -145,19 +159,25 @@ fn agree_on_any(seen: &mut Seen, random: &mut Random, bytes: &[u8]) -> Outcome {
     }
 }
 
+/// All tables of one seed.
+fn random_tables_of(seed: u64) -> Result<Seen, String> {
+    let (mut seen, mut random) = (Seen::default(), Random::new(seed));
+    for round in 0..TABLES {
+        let bytes = if round % 2 == 0 { accepted(&mut random) } else { accepted_sharing(&mut random) };
+        agree(&mut seen, &mut random, &bytes)?;
+        if round % 4 == 0 {
+            let bytes = damaged(&mut random);
+            agree_on_any(&mut seen, &mut random, &bytes)?;
+        }
+    }
+    Ok(seen)
+}
+
 #[test]
 fn random_tables() -> Outcome {
     let mut seen = Seen::default();
-    for seed in SEEDS {
-        let mut random = Random::new(seed);
-        for round in 0..TABLES {
-            let bytes = if round % 2 == 0 { accepted(&mut random) } else { accepted_sharing(&mut random) };
-            agree(&mut seen, &mut random, &bytes)?;
-            if round % 4 == 0 {
-                let bytes = damaged(&mut random);
-                agree_on_any(&mut seen, &mut random, &bytes)?;
-            }
-        }
+    for thread in SEEDS.map(|seed| std::thread::spawn(move || random_tables_of(seed))) {
+        seen.add(thread.join().map_err(|_| "a thread panicked".to_string())??);
     }
     println!("{} lists of {}, {} refused", seen.listed, seen.tables, seen.refused);
     println!("{:?}\n{:#?}", seen.tags, seen.features);

@@ -193,10 +193,8 @@ impl Round {
             Ending::Spent => steps_left && taken == budget,
         };
         ensure(fits, || wrong("that isn't so"))?;
-        match reach(&self.tree, &self.tags, &self.own, &after, taken) {
-            Some(false) => return Err(wrong("no such steps lead there")),
-            Some(true) | None => {}
-        }
+        let reached = reach(&self.tree, &self.tags, &self.own, &after, taken);
+        ensure(reached != Some(false), || wrong("no such steps lead there"))?;
         self.own = after;
         Ok(told)
     }

@@ -109,7 +109,7 @@ impl Above {
 
     fn first(self, kind: u8, in_tail: bool) -> Above {
         let tail = select(in_tail, TAILS[usize::from(kind & 7)], NOT);
-        Above((self.0 & 0xff_0000_ffff) + 1 | tail << 16 | u64::from(kind) << 48)
+        Above(((self.0 & 0xff_0000_ffff) + 1) | tail << 16 | u64::from(kind) << 48)
     }
 
     fn next(self, size: u16) -> Above {
