@@ -7,6 +7,7 @@ use table::Node;
 use table::read;
 ghost use mathlib.Core.Path.{_≡_};
 ghost use Prim.Native.Nat.{ℕ};
+ghost use lib.ListN.{length};
 ghost use Rattle.list.specs.Tags.{tagged, listed};
 ghost use Rattle.list.specs.Working.{Bit, Taken, Sited};
 
@@ -32,7 +33,7 @@ fn sites(table: &[u8]) -> [u8; 2112]
 // The calls that are in conflict in one of the bodies.
 pub(crate) fn arbiters(table: &[u8]) -> [u8; 64]
     requires { ⌜ Taken (now table) ⌝ }
-    ensures { λ r. ⌜ ((m : ℕ) → Bit m → tagged r m ≡ listed (now (table .entry)) m) ⌝ }
+    ensures { λ r. ⌜ (length r ≡ 64) × ((m : ℕ) → Bit m → tagged r m ≡ listed (now (table .entry)) m) ⌝ }
 {
     let row = sites(table);
     let mut bodies = [0u8; 2112];

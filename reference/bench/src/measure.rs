@@ -12,20 +12,34 @@ const INPUT_NANOS: f64 = 5_000_000.0;
 /// A sample repeats its work for at least this long, so that reading the clock doesn't count.
 const SAMPLE_NANOS: f64 = 40_000.0;
 
-/// Median nanoseconds of each way over all inputs. They take turns, so that what else the machine does falls on all.
-pub fn medians<T, const WAYS: usize>(inputs: &[T], ways: [&dyn Fn(&T); WAYS]) -> [f64; WAYS] {
+/// Medians over all inputs.
+pub struct Times<const WAYS: usize> {
+    /// Of each way; the proved code and the fast baseline come last.
+    pub nanos: [f64; WAYS],
+    /// Of the proved code over the fast baseline, by samples next to each other: the machine's pace may change.
+    pub ratio: f64,
+}
+
+/// Times each way on all inputs. They take turns, so that what else the machine does falls on all.
+pub fn medians<T, const WAYS: usize>(inputs: &[T], ways: [&dyn Fn(&T); WAYS]) -> Times<WAYS> {
     let mut samples: [Vec<f64>; WAYS] = std::array::from_fn(|_| Vec::new());
+    let mut ratios = Vec::new();
     for input in inputs {
         let plans = ways.map(|way| plan(|| way(input)));
         for round in 0..SAMPLES {
+            let mut taken = Vec::new();
             for ((way, plan), samples) in ways.iter().zip(&plans).zip(&mut samples) {
                 if round < plan.samples {
-                    samples.push(time(|| way(input), plan.repeats));
+                    taken.push(time(|| way(input), plan.repeats));
+                    samples.extend(taken.last());
                 }
+            }
+            if let [.., proved, fast] = taken[..] {
+                ratios.push(proved / fast);
             }
         }
     }
-    samples.map(median)
+    Times { nanos: samples.map(median), ratio: median(ratios) }
 }
 
 struct Plan {
@@ -69,25 +83,20 @@ pub fn head(title: &str, label: &str, columns: &[&str]) {
     println!(" {:>8}", "ratio");
 }
 
-/// One row of times; the proved code and the fast baseline come last.
-pub fn row(label: &str, nanos: &[f64]) {
-    row_of(label, nanos, nanos);
+/// One row of times.
+pub fn row<const WAYS: usize>(label: &str, times: &Times<WAYS>) {
+    row_of(label, &times.nanos, times.ratio);
 }
 
 /// One row of pieces of work per second, where each time is that of so many pieces.
-pub fn rates(label: &str, pieces: f64, nanos: &[f64]) {
-    let rates: Vec<f64> = nanos.iter().map(|nanos| pieces * 1e9 / nanos).collect();
-    row_of(label, &rates, nanos);
+pub fn rates<const WAYS: usize>(label: &str, pieces: f64, times: &Times<WAYS>) {
+    row_of(label, &times.nanos.map(|nanos| pieces * 1e9 / nanos), times.ratio);
 }
 
-fn row_of(label: &str, values: &[f64], nanos: &[f64]) {
+fn row_of(label: &str, values: &[f64], ratio: f64) {
     print!("{label:>16}");
     for value in values {
         print!(" {value:>14.0}");
     }
-    let ratio = match nanos {
-        [.., proved, fast] => proved / fast,
-        _ => f64::NAN,
-    };
     println!(" {ratio:>8.2}");
 }

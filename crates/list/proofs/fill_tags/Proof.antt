@@ -2,7 +2,6 @@
 use mathlib.Core.Path.{_≡_, sym, ap, _∙_}
 use native.Mathlib.Omega.{arith}
 use borrow.Author.Needs.{needs}
-use lib.ListN.{length}
 use Rattle.table.specs.Survey.{verdictOf}
 use Rattle.list.proofs.NodeLaws.{few}
 use Rattle.list.proofs.TagVerdicts.{taken-by, fill-refused, fill-wrong, fill-right}
@@ -56,11 +55,11 @@ returns-3 c =
     let k = taken-by _ _ _ (sym (ap verdictOf (c .before .before .before .before .before .before .before .before .checked2 .given .1))
     ∙ c .before .before .before .before .before .before .before .before .before .before .check .ensures) in
     let set = c .before .before .before .before .arbiters .result in
-    let size : length set ≡ 64 = search needs in
+    let found = c .before .before .before .before .arbiters .ensures in
     let r = fill-right _ (k .0)
     (c .before .before .before .before .before .before .before .before .before .before .before .before
-    .before .args .tags .now) _ set _ _ _ (k .2) (k .1) (k .2) (c .before .before .before .before .before .if1 .left) size
-    (λ i. c .slice-known2 .given i .fits) (c .before .before .before .before .arbiters .ensures) (c .before .before .copy .ensures) in
+    .before .args .tags .now) _ set _ _ _ (k .2) (k .1) (k .2) (c .before .before .before .before .before .if1 .left) (found .0)
+    (λ i. c .slice-known2 .given i .fits) (found .1) (c .before .before .copy .ensures) in
     (r .verdict, r .tags)
 
 pub fill-tags-spec : {M : Type 1} → statement M

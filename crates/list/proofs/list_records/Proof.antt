@@ -27,7 +27,7 @@ collect-requires : tie.Need-collect-requires
 collect-requires c κs =
     let s = c .before .before .before .before .before .survey .ensures in
     let k = taken-by _ _ _ (sym (ap verdictOf (c .before .before .checked2 .given .1)) ∙ s .checked) in
-    ((k .0, s .owners, k .1, k .2), c .arbiters .ensures)
+    ((k .0, s .owners, k .1, k .2), c .arbiters .ensures .1)
 
 returns : tie.Need-returns
 returns c =

@@ -248,7 +248,8 @@ reset-requires-2 c κs = let o = own-in
       first-in (c .before .before .before .before .before .before .before .before .before .before .before .before .before .before
           .args .table .now) (c .before .before .before .before .before .before .before .before .before .before .before .before .before
           .before .pre .0) (c .before .before .before .before .before .before .before .before .before .before .before .before .before
-          .before .args .n .0) (c .before .before .before .before .before .before .before .before .before .before .before .before .before .before
+          .before .args .n .0) (c .before .before .before .before .before .before .before .before .before
+          .before .before .before .before .before
           .pre .1) _ (c .before .before .before .before .first2 .ensures),
     )
 

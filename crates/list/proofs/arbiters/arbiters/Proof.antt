@@ -54,7 +54,7 @@ loop-again c =
 returns : tie.Need-returns Inv-loop μ-loop
 returns c =
     let inv = c .before .loop .inv in
-    found-list _ _ _ _ (inv .1) (λ g i. inv .2 g (omega (arith, i .0)) (i .1))
+    (inv .1 .size-found, found-list _ _ _ _ (inv .1) (λ g i. inv .2 g (omega (arith, i .0)) (i .1)))
 
 pub arbiters-spec : {M : Type 1} → statement M
 arbiters-spec =
