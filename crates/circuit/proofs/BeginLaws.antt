@@ -10,15 +10,11 @@ use Rattle.table.specs.Bytes.{functions, root, params}
 use Rattle.table.specs.Check.{stage}
 use Rattle.table.specs.Expressions.{bodyOf}
 use Rattle.list.specs.Tags.{after, checkWith}
-use Rattle.rules.specs.State.{write, fill, blank, zeros, circuitStart}
+use Rattle.rules.specs.State.{write, fill, blank, circuitStart}
 use Rattle.rules.specs.Circuit.{started, turned, startOf, checkStart, startAfter}
 use Rattle.circuit.specs.Plan.{Fair, Agreed, stateAs}
 use Rattle.circuit.proofs.TurnLaws.{main-root}
 use Rattle.table.specs.Check as TableCheck
-
-pub all-zero : stateAs (replicate 512 0) (replicate 512 false) (replicate 512 0) (replicate 256 0) (replicate 32 0) ≡ zeros
-unfolding zeros blank
-all-zero = refl
 
 pub blank-is : {A : Type 0} (k : ℕ) (a : A) → replicate k a ≡ blank k a
 unfolding blank

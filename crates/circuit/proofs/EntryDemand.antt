@@ -25,7 +25,7 @@ played-entries t tags s (n ∷ ns) (r ∷ rs) h =
     )
 
 pub demand-of-entries : DemandOfEntries
-demand-of-entries t tags args r₀ a o holds ns rs h =
+demand-of-entries t tags args old r₀ a o holds ns rs h =
     let e : startOf t tags args ≡ started (listsOf (r₀ .state)) =
     sym (a .answer) ∙ ap (λ x. openingOf x (listsOf (r₀ .state))) o in
     let p = played-entries t tags (r₀ .state) ns rs h in

@@ -66,8 +66,8 @@ opening-back : Circuit.Started → Opening
 opening-back (started s) = Opening.Opened
 opening-back (turned k p) = Opening.Refused k (nodeOf p)
 
-pub started-same : (r s : Started) (x : Circuit.Started) → StartedAs r x → StartedAs s x → r ≡ s
-started-same r s x p q =
+pub started-same : (old : State) (r s : Started) (x : Circuit.Started) → StartedAs old r x → StartedAs old s x → r ≡ s
+started-same old r s x p q =
     let o = sym (undone (r .opening) (listsOf (r .state))) ∙ ap opening-back (p .answer ∙ sym (q .answer))
     ∙ undone (s .opening) (listsOf (s .state)) in
     let t = state-same (r .state) (s .state) (p .state ∙ sym (q .state)) in

@@ -54,10 +54,10 @@ openingOf (Opening.Refused k p) s = turned k (p .0)
 abbrev pub startedOf : StartedCode → Started
 startedOf r = openingOf (r .opening) (listsOf (r .state))
 
--- what a start returns: its answer, and the state that goes with it, refused or not
-pub record StartedAs (r : StartedCode) (x : Started) : Type 0 where
+-- what a start that was handed the state `old` returns: its answer, and the state that goes with it, refused or not
+pub record StartedAs (old : State) (r : StartedCode) (x : Started) : Type 0 where
   pub answer : startedOf r ≡ x
-  pub state : listsOf (r .state) ≡ stateOf x
+  pub state : listsOf (r .state) ≡ stateOf x (listsOf old)
 
 -- "the steps taken and that refusal, if any"
 abbrev pub haltOf : HaltCode → Halt

@@ -14,6 +14,7 @@ ghost use Rattle.table.specs.Expressions.{bodyOf};
 ghost use Rattle.rules.specs.State.{blank, fill, circuitStart};
 ghost use Rattle.rules.specs.Circuit.{Started as StartedAt, turned, started, stateOf};
 ghost use Rattle.circuit.specs.Meaning.{StartedAs};
+ghost use Rattle.circuit.specs.declared.State.{State as StateOf};
 ghost use Rattle.circuit.specs.Plan.{Fair};
 
 fn argument(args: &[u32], i: usize) -> u32
@@ -38,28 +39,21 @@ fn registers(main: Function, args: &[u32]) -> [u32; 256]
     r
 }
 
-// A refusal, with a state that is all zero.
-pub(crate) fn closed(number: u8, place: Node) -> Started
-    ensures { λ r. ⌜ StartedAs r (turned number (place .0)) ⌝ }
+// A refusal: the state stays as it was.
+pub(crate) fn closed(number: u8, place: Node, old: State) -> Started
+    ensures { λ r. ⌜ StartedAs old r (turned number (place .0)) ⌝ }
 {
-    let state = State {
-        status: [0u8; 512],
-        second: [false; 512],
-        value: [0u32; 512],
-        registers: [0u32; 256],
-        occupant: [Node(0); 32],
-    };
     Started {
         opening: Opening::Refused(number, place),
-        state,
+        state: old,
     }
 }
 
 // All zero but main's registers and root.
 pub(crate) fn opened(table: &[u8], args: &[u32]) -> Started
     requires { ⌜ Fair (now table) ⌝ }
-    ensures { λ r. ⌜ StartedAs r (started (circuitStart (functions (now (table .entry))) (bodyOf (now (table .entry)))
-        (now (args .entry)))) ⌝ }
+    ensures { λ r. ⌜ ((old : StateOf) → StartedAs old r (started (circuitStart (functions (now (table .entry)))
+        (bodyOf (now (table .entry))) (now (args .entry))))) ⌝ }
 {
     let main = read::functions(table);
     let root = read::root(table, main);

@@ -9,7 +9,7 @@ use Rattle.list.specs.Arbiters.{nothing, joined, anyUpTo, callsIn, meeting, par
 use Rattle.list.specs.Tags.{tagged, isCall, calleeOf, listed, bitsFrom, bytesFrom, tagLength, tagsOf, nonePast, tagFits, tagsRefusal}
 use Rattle.list.specs.Tags.{after, checkWith}
 use Rattle.rules.specs.Operations.{lastValue, wrap, operate}
-use Rattle.rules.specs.State.{State512, entry, write, register, alter, fill, clear, opened, blank, circuitStart, In}
+use Rattle.rules.specs.State.{State512, entry, write, register, alter, fill, clear, opened, blank, circuitStart, In, zeros}
 use Rattle.rules.specs.Step.{Reply, taken, answered, refused, over, Stepped, circuitStep}
 use Rattle.rules.specs.Play.{Ask, asks, noted, played}
 use Rattle.rules.specs.Circuit.{started, turned, checkStart, startAfter, startOf, stateOf, circuitOf, stepAfter, stepOf, playsOf}
@@ -20,9 +20,9 @@ use Rattle.table.specs.Designs.{twice, pair, layered, mult, nested, fir}
 use Rattle.table.proofs.CheckedDesigns.{syntax-open, check-open}
 use Rattle.rules.proofs.Demands.{under-any-tags}
 
--- the state that a start makes
+-- the state that a start makes, from one in which nothing is open
 abbrev pub from : (t tags args : List ℕ) → State512
-from t tags args = stateOf (startOf t tags args)
+from t tags args = stateOf (startOf t tags args) zeros
 
 abbrev pub Starts : (t tags args : List ℕ) → Type 0
 Starts t tags args = startOf t tags args ≡ started (from t tags args)

@@ -3,7 +3,7 @@ use Prim.Native.Nat.{ℕ}
 use mathlib.Core.List.{List}
 use lib.Dec.{eqb}
 use lib.ListN.{length}
-use Rattle.rules.specs.State.{State512, view, circuitStart, zeros}
+use Rattle.rules.specs.State.{State512, view, circuitStart}
 use Rattle.rules.specs.Step.{Act, act, Stepped, refusal, circuitStep}
 use Rattle.rules.specs.Play.{Ask, asks, Log, Accepted, played, entries, leavings}
 use Rattle.rules.specs.Operations.{operate}
@@ -31,10 +31,10 @@ startAfter (refused number place) s = turned number place
 unfoldable pub startOf : (t tags args : List ℕ) → Started
 startOf t tags args = startAfter (checkStart t tags args) (circuitStart (functions t) (bodyOf t) args)
 
--- the state that a start returns: all zero where it is refused
-abbrev pub stateOf : Started → State512
-stateOf (started s) = s
-stateOf (turned number place) = zeros
+-- the state after a start that was asked for in the state `old`: "The state is unchanged by a refusal"
+abbrev pub stateOf : Started → State512 → State512
+stateOf (started s) old = s
+stateOf (turned number place) old = old
 
 -- the step that node n has in state s
 abbrev pub actOf : (t : List ℕ) → State512 → ℕ → Act

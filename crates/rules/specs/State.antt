@@ -78,7 +78,7 @@ opened l (n ∷ ns) = opened (write l n 1) ns
 unfoldable pub blank : {A : Type 0} → ℕ → A → List A
 blank k a = replicate k a
 
--- nothing open, nothing held: also what a refused start returns
+-- nothing open, nothing held
 unfoldable pub zeros : State512
 zeros = record { status = blank 512 0; second = blank 512 false; value = blank 512 0; registers = blank 256 0; occupant = blank 32 0 }
 

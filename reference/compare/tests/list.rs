@@ -125,6 +125,8 @@ fn agree(seen: &mut Seen, random: &mut Random, bytes: &[u8]) -> Outcome {
     agree_on_tags(seen, bytes, &tree, &out_of_order)?;
     let any = noise(random, own.len());
     agree_on_tags(seen, bytes, &tree, &any)?;
+    let length = random.pick(&[0, 1, 2 * own.len(), 64, 65, 200]);
+    agree_on_tags(seen, bytes, &tree, &vec![0; length])?;
     // One more node than the own list, for a tag at a self call or at no call.
     let mut one_more = own.clone();
     let calls: Vec<Node> = tree.nodes().filter(|node| matches!(tree.kind(*node), Kind::Call(_))).collect();

@@ -32,7 +32,7 @@ start-fair-requires c κs = agreed-from (c .before .before .before .before .befo
 
 -- src/lib.rt:95:1
 returns : tie.Need-returns
-returns c = subst (StartedAs (c .closed .result)) (start-refused
+returns c = subst (StartedAs _ (c .closed .result)) (start-refused
     (c .before .before .before .before .before .before .before .before .args .table .now)
     (c .before .before .before .before .before .before .before .before .args .tags .now)
     (c .before .before .before .before .before .before .before .before .args .args .now) _ _

@@ -25,7 +25,7 @@ closed-requires c κs = search needs
 
 -- src/lib.rt:112:9
 returns : tie.Need-returns
-returns c = subst (StartedAs (c .closed .result)) (start-count
+returns c = subst (StartedAs _ (c .closed .result)) (start-count
     (c .before .before .before .before .before .before .before .args .table .now)
     (c .before .before .before .before .before .before .before .args .tags .now)
     (c .before .before .before .before .before .before .before .args .args .now)
@@ -39,13 +39,13 @@ opened-requires c κs = c .before .before .before .before .before .before .pre .
 
 -- src/lib.rt:105:1
 returns-2 : tie.Need-returns-2
-returns-2 c = subst (StartedAs (c .opened .result)) (start-goes
+returns-2 c = subst (StartedAs _ (c .opened .result)) (start-goes
     (c .before .before .before .before .before .before .before .args .table .now)
     (c .before .before .before .before .before .before .before .args .tags .now)
     (c .before .before .before .before .before .before .before .args .args .now)
     (c .before .before .before .before .before .before .before .pre) (c .before .before .params .result)
     (c .before .before .params .ensures ∙ ap (params (c .before .before .before .before .before .before .before .args .table .now))
-    (c .before .before .before .functions .ensures)) (c .before .if1 .left)) (c .opened .ensures)
+    (c .before .before .before .functions .ensures)) (c .before .if1 .left)) (c .opened .ensures _)
 
 pub start-fair-spec : {M : Type 1} → statement M
 start-fair-spec =

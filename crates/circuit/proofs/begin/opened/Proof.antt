@@ -60,7 +60,7 @@ returns c = let e = start-is (c .before .before .before .before .before .before 
     (c .before .before .before .root .ensures ∙ ap (root (c .before .before .before .before .before .before .before .args .table .now))
     (c .before .before .before .before .functions .ensures)) (c .before .set-status .ensures)
     (c .registers .ensures ∙ ap (λ f. fill f (c .before .before .before .before .before .before .before .args .args .now) (blank 256 0))
-    (c .before .before .before .before .functions .ensures)) in record { answer = ap started e; state = e }
+    (c .before .before .before .before .functions .ensures)) in λ old. record { answer = ap started e; state = e }
 
 pub opened-spec : {M : Type 1} → statement M
 opened-spec =
