@@ -38,5 +38,6 @@ pub record EntryDemand (t tags args : List ℕ) (r₀ : Started) (ns : List ℕ)
   pub arbitrated : (place : ℕ) → In (refused 23 place) (answersOf rs) → ⊥
 
 abbrev pub DemandOfEntries : Type 0
-DemandOfEntries = (t tags args : List ℕ) (old : State) (r₀ : Started) → StartedAs old r₀ (startOf t tags args) → r₀ .opening ≡ Opening.Opened → Holding t tags
+DemandOfEntries = (t tags args : List ℕ) (old : State) (r₀ : Started) → StartedAs old r₀ (startOf t tags args) → r₀ .opening ≡
+    Opening.Opened → Holding t tags
     → (ns : List ℕ) (rs : List Stepped) → StepsOf t tags (r₀ .state) ns rs → EntryDemand t tags args r₀ ns rs
