@@ -6,6 +6,7 @@ mod raw {
         pub fn list_fill_tags(table: *const u8, len: usize, tags: *mut u8, tags_len: usize) -> u32;
         pub fn list_check_tags(table: *const u8, len: usize, tags: *const u8, tags_len: usize) -> u32;
         pub fn list_total(tags: *const u8, len: usize) -> u64;
+        pub fn list_record(table: *const u8, len: usize, index: usize) -> u64;
     }
 }
 
@@ -31,4 +32,10 @@ pub fn list_check_tags(table: &[u8], tags: &[u8]) -> u32 {
 pub fn list_total(tags: &[u8]) -> u64 {
     // The library only reads, and within the length it is told.
     unsafe { raw::list_total(tags.as_ptr(), tags.len()) }
+}
+
+/// Record `index` of the arbiter list, from 0: callee * 2^32 + caller's function * 2^16 + node; 0 past the last.
+pub fn list_record(table: &[u8], index: usize) -> u64 {
+    // The library only reads, and within the length it is told.
+    unsafe { raw::list_record(table.as_ptr(), table.len(), index) }
 }
