@@ -1,0 +1,12 @@
+use mathlib.Core.Path.{sym}
+use Prim.Native.Nat.{ℕ, _-_}
+use lib.ListN.{length-replicate}
+use Rattle.replay.proofs.input.room.Statement.{statement}
+use Rattle.replay.proofs.input.room.Tie as tie
+
+-- src/input.rt:65:1
+returns : tie.Need-returns
+returns c = sym (length-replicate {A = ℕ} 1048577 0)
+
+pub room-spec : {M : Type 1} → statement M
+room-spec = tie.close (tie.spec returns)

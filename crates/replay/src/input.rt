@@ -1,0 +1,141 @@
+// What the program is given: its arguments and the table file.
+ghost use mathlib.Core.Path.{_≡_};
+ghost use Prim.Native.Nat.{_≤_, _<_};
+ghost use lib.ListN.{length};
+
+// Main's arguments; a count of 10 says that one of them is no number, and 9 stands for any count above 8.
+pub struct Numbers {
+    pub values: [u32; 9],
+    pub count: usize,
+}
+
+pub(crate) fn two(low: u8, high: u8) -> u16 {
+    (low as u16) + 256 * (high as u16)
+}
+
+// Whether the first argument is --run.
+pub(crate) fn runs() -> bool {
+    let mut word = [0u8; 5];
+    let n = os::arg(1, &mut word);
+    if os::errno() != 0 {
+        return false;
+    }
+    is_run(n, word)
+}
+
+fn is_run(n: usize, word: [u8; 5]) -> bool {
+    if n != 5 {
+        return false;
+    }
+    if word[0] != b'-' {
+        return false;
+    }
+    if word[1] != b'-' {
+        return false;
+    }
+    if word[2] != b'r' {
+        return false;
+    }
+    if word[3] != b'u' {
+        return false;
+    }
+    word[4] == b'n'
+}
+
+// The file that argument i names, open; -1 where it can't be read. A directory opens, and its first read fails.
+pub(crate) fn opened(i: usize) -> i32 {
+    let mut path = io::buffer();
+    let n = os::arg(i, &mut path);
+    if os::errno() != 0 {
+        return -1;
+    }
+    let fd = os::open_read(&path[..n]);
+    if fd < 0 {
+        return -1;
+    }
+    let mut none = [0u8; 0];
+    if libc::read(fd, &mut none) < 0 {
+        libc::close(fd);
+        return -1;
+    }
+    fd
+}
+
+// Room for a log and one byte more.
+pub(crate) fn room() -> [u8; 1048577]
+    ensures { λ r. ⌜ 1048577 ≡ length r ⌝ }
+{
+    [0; 1048577]
+}
+
+// The arguments from `first` on.
+pub(crate) fn arguments(first: usize) -> Numbers
+    requires { ⌜ first ≤ 3 ⌝ }
+    ensures { λ r. ⌜ r .count ≤ 10 ⌝ }
+{
+    let mut values = [0u32; 9];
+    let count = os::arg_count();
+    let mut k: usize = 0;
+    let mut i = first;
+    while i < count {
+        let p = parsed(i);
+        if 4294967295 < p {
+            return Numbers { values, count: 10 };
+        }
+        if k < 9 {
+            values[k] = low(p);
+            k += 1;
+        }
+        i += 1;
+    }
+    Numbers { values, count: k }
+}
+
+fn low(p: u64) -> u32 {
+    (p % 4294967296) as u32
+}
+
+// Argument i as a decimal number, 4294967296 where it is none.
+fn parsed(i: usize) -> u64 {
+    let mut word = [0u8; 16];
+    let n = os::arg(i, &mut word);
+    if os::errno() != 0 {
+        return 4294967296;
+    }
+    decimal(&word[..n])
+}
+
+fn decimal(word: &[u8]) -> u64
+    ensures { λ r. ⌜ r ≤ 4294967296 ⌝ }
+{
+    if word.len() == 0 {
+        return 4294967296;
+    }
+    let mut sum: u64 = 0;
+    let mut i: usize = 0;
+    while i < word.len() {
+        let d = digit(word[i]);
+        if 9 < d {
+            return 4294967296;
+        }
+        sum = 10 * sum + d;
+        if 4294967295 < sum {
+            return 4294967296;
+        }
+        i += 1;
+    }
+    sum
+}
+
+// A digit's value, 10 of what is none.
+fn digit(c: u8) -> u64
+    ensures { λ r. ⌜ r ≤ 10 ⌝ }
+{
+    if c < b'0' {
+        return 10;
+    }
+    if b'9' < c {
+        return 10;
+    }
+    (c - b'0') as u64
+}

@@ -1,0 +1,192 @@
+// Plays a log of asked nodes on the circuit of a table file, under the table's own arbiter list, and prints each answer and the state.
+// With --run first it reads no log and takes possible steps instead.
+mod input;
+mod output;
+
+use circuit::Opening;
+use circuit::Started;
+use circuit::State;
+use table::Node;
+use table::read;
+ghost use Prim.Native.Nat.{_+_, _≤_, _<_};
+ghost use lib.ListN.{length};
+
+fn main() {
+    if input::runs() {
+        prepare(2, true);
+    } else {
+        prepare(1, false);
+    }
+}
+
+// The table is named by argument `first`, main's arguments follow it.
+fn prepare(first: usize, running: bool)
+    requires { ⌜ first ≤ 2 ⌝ }
+{
+    let fd = input::opened(first);
+    if fd < 0 {
+        output::fail(b"replay: the table file can't be read\n");
+        return;
+    }
+    let mut file = [0u8; 5253];
+    let size = io::read_full(fd, &mut file);
+    libc::close(fd);
+    let n = input::arguments(first + 1);
+    let count = n.count;
+    let values = n.values;
+    if 9 < count {
+        output::fail(b"replay: an argument is no number from 0 to 4294967295\n");
+        return;
+    }
+    equip(&file[..size], values, count, running);
+}
+
+// A tag list as long as the table's, to be lent.
+fn equip(table: &[u8], values: [u32; 9], count: usize, running: bool)
+    requires { ⌜ count ≤ 9 ⌝ }
+{
+    let mut tags = [0u8; 64];
+    let len = tag_length(table);
+    begin(table, &mut tags[..len], values, count, running);
+}
+
+// The circuit's start under the table's own list.
+fn begin(table: &[u8], tags: &mut [u8], values: [u32; 9], count: usize, running: bool)
+    requires { ⌜ count ≤ 9 ⌝ }
+{
+    list::fill_tags(table, tags);
+    let s = circuit::start(table, tags, &values[..count], blank());
+    if running {
+        drive(table, tags, s);
+    } else {
+        log(table, tags, s);
+    }
+}
+
+// The state before any start.
+fn blank() -> State {
+    State {
+        status: [0u8; 512],
+        second: [false; 512],
+        value: [0u32; 512],
+        registers: [0u32; 256],
+        occupant: [Node(0); 32],
+    }
+}
+
+// The log whole, before anything is printed.
+fn log(table: &[u8], tags: &[u8], s: Started) {
+    let mut asked = input::room();
+    let size = io::read_full(libc::STDIN_FILENO, &mut asked);
+    if 1048576 < size {
+        output::fail(b"replay: the log is longer than 1048576 bytes\n");
+        return;
+    }
+    if size % 2 == 1 {
+        output::fail(b"replay: the log's length is odd\n");
+        return;
+    }
+    answer(table, tags, s, &asked[..size]);
+}
+
+fn answer(table: &[u8], tags: &[u8], s: Started, asked: &[u8]) {
+    let opening = s.opening;
+    let state = s.state;
+    match opening {
+        Opening::Refused(number, place) => output::refused(number, place),
+        Opening::Opened => {
+            output::line(b"started");
+            play(table, tags, state, asked);
+        }
+    }
+}
+
+// How many bytes a table's tag list has, 64 at most.
+fn tag_length(table: &[u8]) -> usize
+    ensures { λ r. ⌜ r ≤ 64 ⌝ }
+{
+    let last = read::nodes(table);
+    let n = last.0 as usize;
+    if n <= 512 { (n + 7) / 8 } else { 64 }
+}
+
+// Each asked node, then how many were taken and the state.
+fn play(table: &[u8], tags: &[u8], start: State, asked: &[u8]) {
+    let mut state = start;
+    let mut taken: u64 = 0;
+    let mut i: usize = 0;
+    while i < asked.len() / 2 {
+        let r = circuit::step(
+            table,
+            tags,
+            state,
+            Node(input::two(asked[2 * i], asked[2 * i + 1])),
+        );
+        let answer = r.answer;
+        state = r.state;
+        taken = std::num::wrapping_add_u64(taken, output::answer(answer));
+        i += 1;
+    }
+    output::count(taken);
+    show(table, state);
+}
+
+fn capped(n: u16, most: u16) -> u16
+    ensures { λ r. ⌜ r ≤ most ⌝ }
+{
+    if n < most { n } else { most }
+}
+
+// The entries of the table's nodes and functions.
+fn show(table: &[u8], s: State) {
+    let end = capped(read::nodes(table).0, 512);
+    let mut n: u16 = 0;
+    while n < end {
+        n = n + 1;
+        show_node(s, n);
+    }
+    let functions = capped(read::functions(table).0, 32);
+    let mut f: u16 = 0;
+    while f < functions {
+        f = f + 1;
+        show_function(s, f);
+    }
+}
+
+fn show_node(s: State, n: u16) {
+    if n == 0 {
+        return;
+    }
+    if 512 < n {
+        return;
+    }
+    let i = (n - 1) as usize;
+    output::node(n, s.status[i], s.second[i], s.value[i]);
+}
+
+fn show_function(s: State, f: u16) {
+    if f == 0 {
+        return;
+    }
+    if 32 < f {
+        return;
+    }
+    let occupant = s.occupant[(f - 1) as usize];
+    let registers = s.registers;
+    output::function(f, occupant, &registers);
+}
+
+// Possible steps, as many as there may be.
+fn drive(table: &[u8], tags: &[u8], s: Started) {
+    let opening = s.opening;
+    let state = s.state;
+    match opening {
+        Opening::Refused(number, place) => output::refused(number, place),
+        Opening::Opened => {
+            let r = circuit::drive(table, tags, state, 4294967295);
+            let ended = r.ended;
+            output::ended(ended);
+            output::count(r.taken as u64);
+        }
+    }
+}
