@@ -12,7 +12,8 @@ use Rattle.table.specs.Expressions.{bodyOf}
 use Rattle.list.specs.Tags.{after, checkWith}
 use Rattle.rules.specs.State.{write, fill, blank, circuitStart}
 use Rattle.rules.specs.Circuit.{started, turned, startOf, checkStart, startAfter}
-use Rattle.circuit.specs.Plan.{Fair, Agreed, stateAs}
+use Rattle.circuit.specs.Meaning.{stateAs}
+use Rattle.circuit.specs.Plan.{Fair, Agreed}
 use Rattle.circuit.proofs.TurnLaws.{main-root}
 use Rattle.table.specs.Check as TableCheck
 

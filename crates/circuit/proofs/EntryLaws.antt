@@ -20,8 +20,8 @@ use Rattle.rules.specs.State.{State512}
 use Rattle.rules.specs.Step.{Reply, taken, answered, refused, Stepped, refusal, over}
 use Rattle.rules.specs.Circuit.{circuitOf, stepOf}
 use Rattle.rules.specs.Runs.{standing, Ran, whole, stopped, andThen, runFrom, runOf}
-use Rattle.circuit.specs.Meaning.{numbers}
-use Rattle.circuit.specs.Plan.{Fair, Owners, Stands, Agreed, strayIn, ofFunction, asNode, stateAs}
+use Rattle.circuit.specs.Meaning.{numbers, stateAs}
+use Rattle.circuit.specs.Plan.{Fair, Owners, Stands, Agreed, strayIn, ofFunction, asNode}
 use Rattle.circuit.proofs.ChainLaws.{ok}
 use Rattle.circuit.proofs.TurnLaws.{fair-from, step-is, turn-stands, turn-stray, turn-stray′}
 use Rattle.rules.proofs.Demands.{after-both}

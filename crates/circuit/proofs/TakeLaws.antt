@@ -15,7 +15,8 @@ use Rattle.rules.specs.State.{State512, view, entry, write, opened, clear, fill
 use Rattle.rules.specs.Step.{Act, does, Move, begins, turns, finishes, enters, leaves, restarts, mine, perform}
 use Rattle.rules.specs.Operations.{operate}
 use Rattle.rules.specs.Circuit.{actOf}
-use Rattle.circuit.specs.Plan.{Fair, stateAs, initial, given, opens, Took}
+use Rattle.circuit.specs.Meaning.{stateAs}
+use Rattle.circuit.specs.Plan.{Fair, initial, given, opens, Took}
 use Rattle.rules.proofs.Demands.{lay}
 use Rattle.rules.proofs.Performed.{FairAct}
 use Rattle.rules.proofs.StepTaken.{act-fair}

@@ -1,6 +1,7 @@
 -- what the circuit's types mean: document 01's number and values for each case, and the state as lists
 use Prim.Native.Nat.{ℕ}
 use mathlib.Core.Path.{_≡_}
+use mathlib.Core.Bool.{Bool}
 use mathlib.Core.List.{List, map}
 use Rattle.table.specs.declared.Node.{Node}
 use Rattle.rules.specs.State.{State512}
@@ -26,6 +27,10 @@ use Rattle.circuit.specs.declared.Found.the-variants as FoundCode
 -- node numbers
 abbrev pub numbers : List Node → List ℕ
 numbers l = map (λ n. n .0) l
+
+-- a state by its parts
+abbrev pub stateAs : List ℕ → List Bool → List ℕ → List ℕ → List ℕ → State512
+stateAs a b c d e = record { status = a; second = b; value = c; registers = d; occupant = e }
 
 -- the state as lists of numbers
 abbrev pub listsOf : State → State512

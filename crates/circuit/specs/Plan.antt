@@ -47,9 +47,6 @@ ofFunction f = f .0
 abbrev pub asNode : ℕ → Node
 asNode n = record { 0 = n }
 
-abbrev pub stateAs : List ℕ → List Bool → List ℕ → List ℕ → List ℕ → State512
-stateAs a b c d e = record { status = a; second = b; value = c; registers = d; occupant = e }
-
 -- all of these nodes are done
 unfoldable pub allDone : (status : ℕ → ℕ) → List ℕ → Bool
 allDone status [] = true

@@ -6,7 +6,7 @@ ghost use mathlib.Core.List.{map};
 ghost use Rattle.circuit.specs.Meaning.{numbers};
 ghost use Rattle.circuit.specs.Plan.{Fair, Owners, asNode};
 
-pub(crate) fn plain(raw: [Node; 32]) -> [u16; 32]
+pub fn plain(raw: [Node; 32]) -> [u16; 32]
     ensures { λ r. ⌜ r ≡ numbers raw ⌝ }
 {
     let mut r = [0u16; 32];
@@ -19,7 +19,7 @@ pub(crate) fn plain(raw: [Node; 32]) -> [u16; 32]
     r
 }
 
-pub(crate) fn named(raw: [u16; 32]) -> [Node; 32]
+pub fn named(raw: [u16; 32]) -> [Node; 32]
     ensures { λ r. ⌜ numbers r ≡ raw ⌝ }
 {
     let mut r = [Node(0); 32];

@@ -13,7 +13,8 @@ ghost use Prim.Native.Nat.{_-_, _≤_, _<_};
 ghost use Rattle.table.specs.Bytes.{nodes};
 ghost use Rattle.table.specs.Working.{IsNode, IsFunction};
 ghost use Rattle.rules.specs.State.{entry};
-ghost use Rattle.circuit.specs.Plan.{Fair, Owners, Grouped, stateAs, FoundAt, Tried};
+ghost use Rattle.circuit.specs.Meaning.{stateAs};
+ghost use Rattle.circuit.specs.Plan.{Fair, Owners, Grouped, FoundAt, Tried};
 
 // One candidate less.
 pub(crate) fn less(height: usize) -> usize

@@ -19,7 +19,8 @@ ghost use Rattle.table.specs.Working.{IsNode, IsFunction};
 ghost use Rattle.rules.specs.State.{entry, write, opened, clear, fill};
 ghost use Rattle.rules.specs.Step.{mine};
 ghost use Rattle.rules.specs.Circuit.{actOf};
-ghost use Rattle.circuit.specs.Plan.{Fair, Grouped, stateAs, opens, Took};
+ghost use Rattle.circuit.specs.Meaning.{stateAs};
+ghost use Rattle.circuit.specs.Plan.{Fair, Grouped, opens, Took};
 
 // The next sibling; of none, none.
 fn following(table: &[u8], n: Node) -> Node

@@ -7,7 +7,8 @@ use table::read;
 ghost use mathlib.Core.Path.{_≡_};
 ghost use mathlib.Core.List.{List};
 ghost use Prim.Native.Nat.{ℕ, _≤_, _<_};
-ghost use Rattle.circuit.specs.Plan.{Fair, Owners, stateAs, planned, goes, FoundAt};
+ghost use Rattle.circuit.specs.Meaning.{stateAs};
+ghost use Rattle.circuit.specs.Plan.{Fair, Owners, planned, goes, FoundAt};
 
 // Whether a plan is a move.
 fn moves(p: Plan) -> bool

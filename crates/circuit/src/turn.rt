@@ -14,8 +14,8 @@ ghost use Rattle.list.specs.Tags.{tagged};
 ghost use Rattle.rules.specs.State.{entry};
 ghost use Rattle.rules.specs.Step.{Stepped, answered, taken};
 ghost use Rattle.rules.specs.Circuit.{circuitOf};
-ghost use Rattle.circuit.specs.Meaning.{replyOf};
-ghost use Rattle.circuit.specs.Plan.{Fair, Owners, Grouped, stateAs, Stands};
+ghost use Rattle.circuit.specs.Meaning.{replyOf, stateAs};
+ghost use Rattle.circuit.specs.Plan.{Fair, Owners, Grouped, Stands};
 
 // Whether node n is tagged.
 fn marked(tags: &[u8], n: Node) -> bool

@@ -1,4 +1,8 @@
-// The entries as C functions on numbers and byte slices, for tests and benchmarks in Rust.
+// The entries as C functions on numbers, slices and arrays, for tests and benchmarks in Rust.
+mod circuits;
+mod codes;
+mod states;
+
 use list::Listing;
 use table::Checked;
 ghost use mathlib.Core.Path.{_≡_};

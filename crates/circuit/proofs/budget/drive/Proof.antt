@@ -5,8 +5,7 @@ use borrow.Author.Needs.{needs}
 use mathlib.Core.Path.{refl}
 use Prim.Native.Nat.{_-_}
 use Rattle.rules.specs.State.{entry}
-use Rattle.circuit.specs.Meaning.{listsOf, endedOf}
-use Rattle.circuit.specs.Plan.{stateAs}
+use Rattle.circuit.specs.Meaning.{listsOf, endedOf, stateAs}
 use Rattle.circuit.proofs.EntryLaws.{named-state}
 use Rattle.circuit.proofs.DriveLaws.{goes-on, says-from}
 use Rattle.circuit.proofs.DriveLaws.{picks-from}

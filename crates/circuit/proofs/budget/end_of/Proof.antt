@@ -1,5 +1,5 @@
 use Prim.Native.Nat.{_-_}
-use Rattle.circuit.specs.Plan.{stateAs}
+use Rattle.circuit.specs.Meaning.{stateAs}
 use Rattle.circuit.proofs.DriveLaws.{ends-gave, ends-rest, ends-spent}
 use Rattle.circuit.proofs.budget.end_of.Statement.{statement}
 use Rattle.circuit.proofs.budget.end_of.Tie as tie

@@ -2,7 +2,8 @@ use borrow.Author.Needs.{needs}
 use mathlib.Core.Path.{sym, subst}
 use Prim.Native.Nat.{_-_}
 use Rattle.rules.specs.Runs.{names, nothing}
-use Rattle.circuit.specs.Plan.{stateAs, Stands, FindsIn}
+use Rattle.circuit.specs.Meaning.{stateAs}
+use Rattle.circuit.specs.Plan.{Stands, FindsIn}
 use Rattle.circuit.proofs.DriveLaws.{query-done, query-none, query-some}
 use Rattle.circuit.proofs.budget.query.Statement.{statement}
 use Rattle.circuit.proofs.budget.query.Tie as tie

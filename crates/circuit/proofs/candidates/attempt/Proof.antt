@@ -2,7 +2,7 @@ use native.Mathlib.Omega.{arith}
 use borrow.Author.Needs.{needs}
 use Prim.Native.Nat.{_-_}
 use Rattle.table.specs.Bytes.{nodes}
-use Rattle.circuit.specs.Plan.{stateAs}
+use Rattle.circuit.specs.Meaning.{stateAs}
 use Rattle.circuit.proofs.ChainLaws.{ok}
 use Rattle.circuit.proofs.SearchLaws.{tried-none, tried-node}
 use Rattle.circuit.proofs.candidates.attempt.Statement.{statement}

@@ -7,8 +7,8 @@ use mathlib.Core.Logic.{⊎-elim}
 use lib.ListN.{drop}
 use Rattle.table.specs.Bytes.{nodes}
 use Rattle.rules.specs.Runs.{runFrom}
-use Rattle.circuit.specs.Meaning.{replyOf}
-use Rattle.circuit.specs.Plan.{stateAs, Stands}
+use Rattle.circuit.specs.Meaning.{replyOf, stateAs}
+use Rattle.circuit.specs.Plan.{Stands}
 use Rattle.circuit.proofs.EntryLaws.{plus, run-stops, run-takes, run-answers, run-stands, run-ends, run-begins, named-state}
 use Rattle.circuit.proofs.entries.run.Statement.{statement}
 use Rattle.circuit.proofs.entries.run.Tie as tie

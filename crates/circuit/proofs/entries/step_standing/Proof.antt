@@ -2,8 +2,8 @@ use borrow.Author.Needs.{needs}
 use mathlib.Core.Path.{sym, ap, subst, _∙_}
 use Prim.Native.Nat.{_-_}
 use Rattle.rules.specs.Circuit.{circuitOf}
-use Rattle.circuit.specs.Meaning.{replyOf}
-use Rattle.circuit.specs.Plan.{stateAs, Stands}
+use Rattle.circuit.specs.Meaning.{replyOf, stateAs}
+use Rattle.circuit.specs.Plan.{Stands}
 use Rattle.circuit.proofs.EntryLaws.{told-stepped}
 use Rattle.circuit.proofs.entries.step_standing.Statement.{statement}
 use Rattle.circuit.proofs.entries.step_standing.Tie as tie

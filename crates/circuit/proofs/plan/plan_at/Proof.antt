@@ -2,7 +2,8 @@ use Rattle.circuit.proofs.PlanLaws.{at-open, at-busy, at-rest}
 use native.Mathlib.Omega.{arith}
 use mathlib.Core.Path.{sym, _∙_}
 use Prim.Native.Nat.{_-_}
-use Rattle.circuit.specs.Plan.{stateAs, openBy, busyBy}
+use Rattle.circuit.specs.Meaning.{stateAs}
+use Rattle.circuit.specs.Plan.{openBy, busyBy}
 use Rattle.circuit.proofs.ChainLaws.{ok}
 use Rattle.circuit.proofs.ActBy.{act-is}
 use Rattle.circuit.proofs.PlanLaws.{at-open, at-busy, at-rest}

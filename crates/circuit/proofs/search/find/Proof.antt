@@ -3,7 +3,8 @@ use borrow.Author.Needs.{needs}
 use mathlib.Core.Path.{ap, _∙_}
 use Prim.Native.Nat.{_+_, _-_, _≤_}
 use Rattle.table.specs.Bytes.{nodes}
-use Rattle.circuit.specs.Plan.{stateAs, goes}
+use Rattle.circuit.specs.Meaning.{stateAs}
+use Rattle.circuit.specs.Plan.{goes}
 use Rattle.circuit.proofs.ChainLaws.{ok}
 use Rattle.circuit.proofs.SearchLaws.{NoneTo, none-start, none-more, found-none, found-here}
 use Rattle.circuit.proofs.search.find.Statement.{statement}

@@ -4,7 +4,7 @@ use Prim.Native.Nat.{_-_, _≤_}
 use Rattle.table.specs.Bytes.{nodes}
 use Rattle.rules.specs.Step.{taken}
 use Rattle.rules.specs.Circuit.{actOf}
-use Rattle.circuit.specs.Plan.{stateAs}
+use Rattle.circuit.specs.Meaning.{stateAs}
 use Rattle.circuit.proofs.ChainLaws.{ok}
 use Rattle.circuit.proofs.TurnLaws.{turn-zero, turn-past, turn-over, turn-on, out-stuck, out-held, out-moved}
 use borrow.Author.Needs.{needs}

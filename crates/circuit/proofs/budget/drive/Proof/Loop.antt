@@ -6,7 +6,8 @@ use mathlib.Core.Bool.{true}
 use Rattle.table.specs.Pick.{pick}
 use Rattle.table.specs.Working.{IsNode}
 use Rattle.rules.specs.Circuit.{actOf}
-use Rattle.circuit.specs.Plan.{stateAs, goes, Stands}
+use Rattle.circuit.specs.Meaning.{stateAs}
+use Rattle.circuit.specs.Plan.{goes, Stands}
 use Rattle.circuit.proofs.DriveLaws.{DroveTo, drove-start}
 use Rattle.circuit.proofs.budget.drive.Tie as tie
 

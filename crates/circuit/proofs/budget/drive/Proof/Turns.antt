@@ -3,7 +3,7 @@ use native.Mathlib.Omega.{arith}
 use mathlib.Core.Path.{_≡_, refl}
 use Prim.Native.Nat.{ℕ, _-_}
 use Rattle.rules.specs.State.{entry}
-use Rattle.circuit.specs.Plan.{stateAs}
+use Rattle.circuit.specs.Meaning.{stateAs}
 use Rattle.circuit.proofs.DriveLaws.{goes-on, falls-waiting, drove-next, drove-same, rests}
 use Rattle.circuit.proofs.budget.drive.Tie as tie
 use Rattle.circuit.proofs.budget.drive.Proof.Loop.{Inv-loop, μ-loop}

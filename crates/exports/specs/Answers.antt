@@ -1,0 +1,71 @@
+-- the circuit's answers as one number: what it is * 2^32 + the value, node or refusal that goes with it
+use Prim.Native.Nat.{ℕ, _+_, _*_}
+use mathlib.Core.Path.{_≡_}
+use mathlib.Core.List.{List}
+use Rattle.rules.specs.State.{State512}
+use Rattle.rules.specs.Step.{Reply, taken, answered, refused, Stepped}
+use Rattle.rules.specs.Circuit.{Started, started, turned, stateOf}
+use Rattle.rules.specs.Runs.{Halt, whole, stopped, Ran, Ended, gave, atRest, spent, barred, Driven, Drives}
+use Rattle.rules.specs.Runs.{Found, names, nothing, unasked, Finds}
+
+-- the number of a refusal, then its place
+abbrev pub refusalCode : (number place : ℕ) → ℕ
+refusalCode number place = 8589934592 + (number * 65536 + place)
+
+abbrev pub valueCode : ℕ → ℕ
+valueCode v = 4294967296 + v
+
+-- a start has no values: 0 if it opened, else the refusal as the check of a table says it
+abbrev pub startCode : Started → ℕ
+startCode (started s) = 0
+startCode (turned number place) = number * 65536 + place
+
+abbrev pub replyCode : Reply → ℕ
+replyCode taken = 0
+replyCode (answered v) = valueCode v
+replyCode (refused number place) = refusalCode number place
+
+abbrev pub foundCode : Found → ℕ
+foundCode nothing = 0
+foundCode (names n) = valueCode n
+foundCode (unasked number place) = refusalCode number place
+
+abbrev pub haltCode : Halt → ℕ
+haltCode whole = 0
+haltCode (stopped number place) = refusalCode number place
+
+abbrev pub endedCode : Ended → ℕ
+endedCode atRest = 0
+endedCode (gave v) = valueCode v
+endedCode (barred number place) = refusalCode number place
+endedCode spent = 12884901888
+
+-- what each C function returns and leaves in the state that it was lent: of a start x asked for in state s
+pub record StartTold (x : Started) (s : State512) (r : ℕ) (s′ : State512) : Type 0 where
+  pub code : r ≡ startCode x
+  pub state : s′ ≡ stateOf x s
+
+-- of a step x
+pub record StepTold (x : Stepped) (r : ℕ) (s′ : State512) : Type 0 where
+  pub code : r ≡ replyCode (x .answer)
+  pub state : s′ ≡ x .state
+
+-- of a query in state s
+pub record QueryTold (t tags : List ℕ) (s : State512) (r : ℕ) : Type 0 where
+  pub found : Found
+  pub finds : Finds t tags s found
+  pub code : r ≡ foundCode found
+
+-- of a run x over a list
+pub record RunTold (x : Ran) (r k : ℕ) (s′ : State512) : Type 0 where
+  pub code : r ≡ haltCode (x .halt)
+  pub count : k ≡ x .taken
+  pub state : s′ ≡ x .state
+
+-- of a run with a budget from state s
+pub record DriveTold (t tags : List ℕ) (s : State512) (budget r k : ℕ) (s′ : State512) : Type 0 where
+  pub driven : Driven
+  pub drives : Drives t tags s budget driven
+  pub code : r ≡ endedCode (driven .ended)
+  pub count : k ≡ driven .taken
+  pub state : s′ ≡ driven .state

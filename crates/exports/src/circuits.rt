@@ -1,0 +1,129 @@
+// The circuit's entries as C functions: the state is lent as five arrays.
+use crate::codes;
+use crate::states;
+use table::Node;
+ghost use Rattle.rules.specs.Circuit.{startOf, stepOf};
+ghost use Rattle.rules.specs.Runs.{runOf};
+ghost use Rattle.circuit.specs.Meaning.{stateAs};
+ghost use Rattle.exports.specs.Answers.{StartTold, StepTold, QueryTold, RunTold, DriveTold};
+
+// Starts the circuit; refused, the state stays as it was.
+#[no_mangle]
+pub extern "C" fn circuit_start(
+    table: &[u8],
+    tags: &[u8],
+    status: &mut [u8; 512],
+    second: &mut [bool; 512],
+    value: &mut [u32; 512],
+    registers: &mut [u32; 256],
+    occupant: &mut [u16; 32],
+    args: &[u32],
+) -> u64
+    ensures { λ r. ⌜ StartTold (startOf (now (table .entry)) (now (tags .entry)) (now (args .entry)))
+        (stateAs (now (status .entry)) (now (second .entry)) (now (value .entry)) (now (registers .entry)) (now (occupant .entry)))
+        r (stateAs (now (status .exit)) (now (second .exit)) (now (value .exit)) (now (registers .exit)) (now (occupant .exit))) ⌝ }
+{
+    let s = states::gathered(status, second, value, registers, occupant);
+    let x = circuit::start(table, tags, args, s);
+    let opening = x.opening;
+    let state = x.state;
+    states::spread(state, status, second, value, registers, occupant);
+    codes::opening(opening)
+}
+
+// A step asked at a node.
+#[no_mangle]
+pub extern "C" fn circuit_step(
+    table: &[u8],
+    tags: &[u8],
+    status: &mut [u8; 512],
+    second: &mut [bool; 512],
+    value: &mut [u32; 512],
+    registers: &mut [u32; 256],
+    occupant: &mut [u16; 32],
+    node: u16,
+) -> u64
+    ensures { λ r. ⌜ StepTold (stepOf (now (table .entry)) (now (tags .entry))
+        (stateAs (now (status .entry)) (now (second .entry)) (now (value .entry)) (now (registers .entry)) (now (occupant .entry))) node)
+        r (stateAs (now (status .exit)) (now (second .exit)) (now (value .exit)) (now (registers .exit)) (now (occupant .exit))) ⌝ }
+{
+    let s = states::gathered(status, second, value, registers, occupant);
+    let x = circuit::step(table, tags, s, Node(node));
+    let answer = x.answer;
+    let state = x.state;
+    states::spread(state, status, second, value, registers, occupant);
+    codes::answer(answer)
+}
+
+// Steps asked at a list of nodes up to the first refusal; their number goes to `count`.
+#[no_mangle]
+pub extern "C" fn circuit_run(
+    table: &[u8],
+    tags: &[u8],
+    status: &mut [u8; 512],
+    second: &mut [bool; 512],
+    value: &mut [u32; 512],
+    registers: &mut [u32; 256],
+    occupant: &mut [u16; 32],
+    nodes: &[u16],
+    count: &mut usize,
+) -> u64
+    ensures { λ r. ⌜ RunTold (runOf (now (table .entry)) (now (tags .entry))
+        (stateAs (now (status .entry)) (now (second .entry)) (now (value .entry)) (now (registers .entry)) (now (occupant .entry)))
+        (now (nodes .entry)))
+        r (now (count .exit))
+        (stateAs (now (status .exit)) (now (second .exit)) (now (value .exit)) (now (registers .exit)) (now (occupant .exit))) ⌝ }
+{
+    let s = states::gathered(status, second, value, registers, occupant);
+    let x = circuit::run(table, tags, s, nodes);
+    let halt = x.halt;
+    let state = x.state;
+    *count = x.taken;
+    states::spread(state, status, second, value, registers, occupant);
+    codes::halt(halt)
+}
+
+// Possible steps up to a budget; their number goes to `count`.
+#[no_mangle]
+pub extern "C" fn circuit_drive(
+    table: &[u8],
+    tags: &[u8],
+    status: &mut [u8; 512],
+    second: &mut [bool; 512],
+    value: &mut [u32; 512],
+    registers: &mut [u32; 256],
+    occupant: &mut [u16; 32],
+    budget: u32,
+    count: &mut u32,
+) -> u64
+    ensures { λ r. ⌜ DriveTold (now (table .entry)) (now (tags .entry))
+        (stateAs (now (status .entry)) (now (second .entry)) (now (value .entry)) (now (registers .entry)) (now (occupant .entry))) budget
+        r (now (count .exit))
+        (stateAs (now (status .exit)) (now (second .exit)) (now (value .exit)) (now (registers .exit)) (now (occupant .exit))) ⌝ }
+{
+    let s = states::gathered(status, second, value, registers, occupant);
+    let x = circuit::drive(table, tags, s, budget);
+    let ended = x.ended;
+    let state = x.state;
+    *count = x.taken;
+    states::spread(state, status, second, value, registers, occupant);
+    codes::ended(ended)
+}
+
+// A possible step, or none.
+#[no_mangle]
+pub extern "C" fn circuit_query(
+    table: &[u8],
+    tags: &[u8],
+    status: &[u8; 512],
+    second: &[bool; 512],
+    value: &[u32; 512],
+    registers: &[u32; 256],
+    occupant: &[u16; 32],
+) -> u64
+    ensures { λ r. ⌜ QueryTold (now (table .entry)) (now (tags .entry))
+        (stateAs (now (status .entry)) (now (second .entry)) (now (value .entry)) (now (registers .entry)) (now (occupant .entry))) r ⌝ }
+{
+    let s = states::gathered(status, second, value, registers, occupant);
+    codes::found(circuit::query(table, tags, s))
+}
