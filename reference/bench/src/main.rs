@@ -2,9 +2,14 @@
 
 mod check;
 mod list;
+mod measure;
+mod ratios;
 
 fn main() {
-    check::section();
+    let mut ratios = ratios::Ratios::default();
+    check::section(&mut ratios);
     println!();
-    list::section();
+    list::section(&mut ratios);
+    println!();
+    ratios.print();
 }
