@@ -1,10 +1,18 @@
-//! Times of the proved code beside the fast baseline, both in one run.
+//! Times of the proved code beside the fast baseline, both in one run: the check, the list and the run on a budget.
 
 mod check;
 mod list;
+mod measure;
+mod ratios;
+mod run;
 
 fn main() {
-    check::section();
+    let mut ratios = ratios::Ratios::default();
+    check::section(&mut ratios);
     println!();
-    list::section();
+    list::section(&mut ratios);
+    println!();
+    run::section(&mut ratios);
+    println!();
+    ratios.print();
 }

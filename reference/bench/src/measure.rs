@@ -14,34 +14,36 @@ const SAMPLE_NANOS: f64 = 40_000.0;
 
 /// Medians over all inputs.
 pub struct Times<const WAYS: usize> {
-    /// Of each way; the proved code and the fast baseline come last.
+    /// Of each way.
     pub nanos: [f64; WAYS],
-    /// Of the proved code over the fast baseline, by samples next to each other: the machine's pace may change.
-    pub ratio: f64,
+    /// Of the proved code over each way after it, by samples next to each other: the machine's pace may change.
+    pub ratios: Vec<f64>,
 }
 
-/// Times each way on all inputs. They take turns, so that what else the machine does falls on all.
-pub fn medians<T, const WAYS: usize>(inputs: &[T], ways: [&dyn Fn(&T); WAYS]) -> Times<WAYS> {
+/// Times each way on all inputs; `proved` says which of them is the proved code.
+/// They take turns, so that what else the machine does falls on all.
+pub fn medians<T, const WAYS: usize>(inputs: &[T], proved: usize, ways: [&dyn Fn(&T); WAYS]) -> Times<WAYS> {
     let mut samples: [Vec<f64>; WAYS] = std::array::from_fn(|_| Vec::new());
-    let mut ratios = Vec::new();
+    let mut ratios = vec![Vec::new(); WAYS - 1 - proved];
     for input in inputs {
         let plans = ways.map(|way| plan(|| way(input)));
         for round in 0..SAMPLES {
-            let mut taken = Vec::new();
-            for ((way, plan), samples) in ways.iter().zip(&plans).zip(&mut samples) {
-                if round < plan.samples {
-                    taken.push(time(|| way(input), plan.repeats));
-                    samples.extend(taken.last());
-                }
+            let taken: [Option<f64>; WAYS] = std::array::from_fn(|way| {
+                let Plan { repeats, samples } = plans[way];
+                (round < samples).then(|| time(|| ways[way](input), repeats))
+            });
+            for (samples, taken) in samples.iter_mut().zip(taken) {
+                samples.extend(taken);
             }
-            if let [.., proved, fast] = taken[..] {
-                ratios.push(proved / fast);
+            for (ratios, other) in ratios.iter_mut().zip(&taken[proved + 1..]) {
+                ratios.extend(taken[proved].zip(*other).map(|(proved, other)| proved / other));
             }
         }
     }
-    Times { nanos: samples.map(median), ratio: median(ratios) }
+    Times { nanos: samples.map(median), ratios: ratios.into_iter().map(median).collect() }
 }
 
+#[derive(Clone, Copy)]
 struct Plan {
     repeats: usize,
     samples: usize,
@@ -73,30 +75,35 @@ fn median(mut samples: Vec<f64>) -> f64 {
     samples[samples.len() / 2]
 }
 
-/// The head of a section's table; the last column is the time of the proved code over that of the fast baseline.
-pub fn head(title: &str, label: &str, columns: &[&str]) {
-    println!("{title}");
-    print!("{label:>16}");
-    for column in columns {
-        print!(" {column:>14}");
+const LABEL: usize = 18;
+
+/// A section's table, printed row by row.
+pub struct Section {
+    /// Columns with their decimals.
+    columns: Vec<(&'static str, usize)>,
+}
+
+impl Section {
+    /// Prints the head.
+    pub fn new(title: &str, label: &str, columns: &[(&'static str, usize)]) -> Section {
+        println!("{title}");
+        print!("{label:>LABEL$}");
+        for (column, _) in columns {
+            print!("  {column:>width$}", width = width(column));
+        }
+        println!();
+        Section { columns: columns.to_vec() }
     }
-    println!(" {:>8}", "ratio");
-}
 
-/// One row of times.
-pub fn row<const WAYS: usize>(label: &str, times: &Times<WAYS>) {
-    row_of(label, &times.nanos, times.ratio);
-}
-
-/// One row of pieces of work per second, where each time is that of so many pieces.
-pub fn rates<const WAYS: usize>(label: &str, pieces: f64, times: &Times<WAYS>) {
-    row_of(label, &times.nanos.map(|nanos| pieces * 1e9 / nanos), times.ratio);
-}
-
-fn row_of(label: &str, values: &[f64], ratio: f64) {
-    print!("{label:>16}");
-    for value in values {
-        print!(" {value:>14.0}");
+    pub fn row(&self, label: &str, values: &[f64]) {
+        print!("{label:>LABEL$}");
+        for ((column, decimals), value) in self.columns.iter().zip(values) {
+            print!("  {value:>width$.decimals$}", width = width(column));
+        }
+        println!();
     }
-    println!(" {ratio:>8.2}");
+}
+
+fn width(column: &str) -> usize {
+    column.len().max(9)
 }

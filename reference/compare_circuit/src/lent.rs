@@ -1,4 +1,6 @@
-//! A circuit's state as it is lent to the proved code: one piece of bytes.
+//! A circuit's state as it is lent to the proved code: five arrays, each between guards.
+
+use std::fmt::Debug;
 
 use design::circuit::State;
 use design::difference::{ensure, Outcome};
@@ -6,107 +8,133 @@ use design::Node;
 
 pub const NODES: usize = 512;
 pub const FUNCTIONS: usize = 32;
-pub const REGISTERS: usize = 256;
+pub const REGISTERS: usize = 8 * FUNCTIONS;
 
-/// Where each part begins.
-const SECOND: usize = NODES;
-const VALUE: usize = SECOND + NODES;
-const REGISTER: usize = VALUE + 4 * NODES;
-const OCCUPANT: usize = REGISTER + 4 * REGISTERS;
+/// Entries before and after each array that nobody may touch.
+const GUARD: usize = 16;
 
-pub const STATE_BYTES: usize = OCCUPANT + 2 * FUNCTIONS;
+const NODES_GUARDED: usize = GUARD + NODES + GUARD;
+const REGISTERS_GUARDED: usize = GUARD + REGISTERS + GUARD;
+const FUNCTIONS_GUARDED: usize = GUARD + FUNCTIONS + GUARD;
 
-/// Bytes before and after the state that nobody may touch. An odd number: the state has no alignment.
-const GUARD: usize = 17;
-const GUARD_BYTE: u8 = 0xc3;
+/// An array with its guards around it.
+#[derive(Clone, PartialEq, Eq)]
+struct Guarded<T, const ALL: usize>([T; ALL]);
 
+impl<T: Copy + PartialEq + Debug, const ALL: usize> Guarded<T, ALL> {
+    fn new(guard: T, entry: T) -> Self {
+        let mut all = [guard; ALL];
+        all[GUARD..ALL - GUARD].fill(entry);
+        Guarded(all)
+    }
+
+    fn entries(&self) -> &[T] {
+        &self.0[GUARD..ALL - GUARD]
+    }
+
+    fn entries_mut(&mut self) -> &mut [T] {
+        &mut self.0[GUARD..ALL - GUARD]
+    }
+
+    /// Taken of the whole, so that what is written astray is still within it and can be seen.
+    fn pointer(&mut self) -> *mut T {
+        self.0.as_mut_ptr().wrapping_add(GUARD)
+    }
+
+    /// Tells the first entry or guard that isn't as in the other.
+    fn same_as(&self, wanted: &Self, name: impl Fn(usize) -> String) -> Outcome {
+        let Some(at) = (0..ALL).find(|at| self.0[*at] != wanted.0[*at]) else {
+            return Ok(());
+        };
+        let length = ALL - 2 * GUARD;
+        let what = match at.checked_sub(GUARD) {
+            None => format!("guard {} before {}", GUARD - at, name(0)),
+            Some(index) if index < length => name(index),
+            Some(index) => format!("guard {} after {}", index + 1 - length, name(length - 1)),
+        };
+        Err(format!("{what} is {:?}, wanted {:?}", self.0[at], wanted.0[at]))
+    }
+}
+
+/// The lent state. The flags are kept as bytes: the proved code might leave one that is no flag.
 #[derive(Clone, PartialEq, Eq)]
 pub struct Lent {
-    bytes: Vec<u8>,
+    status: Guarded<u8, NODES_GUARDED>,
+    second: Guarded<u8, NODES_GUARDED>,
+    value: Guarded<u32, NODES_GUARDED>,
+    registers: Guarded<u32, REGISTERS_GUARDED>,
+    occupant: Guarded<u16, FUNCTIONS_GUARDED>,
+}
+
+/// The five arrays as the C functions take them.
+pub(crate) struct Arrays {
+    pub status: *mut [u8; NODES],
+    pub second: *mut [bool; NODES],
+    pub value: *mut [u32; NODES],
+    pub registers: *mut [u32; REGISTERS],
+    pub occupant: *mut [u16; FUNCTIONS],
 }
 
 impl Lent {
     pub fn zero() -> Lent {
-        let mut bytes = vec![GUARD_BYTE; GUARD + STATE_BYTES + GUARD];
-        bytes[GUARD..GUARD + STATE_BYTES].fill(0);
-        Lent { bytes }
+        Lent {
+            status: Guarded::new(0xc3, 0),
+            second: Guarded::new(0xc3, 0),
+            value: Guarded::new(0xc3c3_c3c3, 0),
+            registers: Guarded::new(0xc3c3_c3c3, 0),
+            occupant: Guarded::new(0xc3c3, 0),
+        }
     }
 
     pub fn of(state: &State) -> Lent {
         let mut lent = Lent::zero();
-        let bytes = lent.lent_mut();
         for (i, node) in state.nodes.iter().enumerate() {
-            bytes[i] = node.status;
-            bytes[SECOND + i] = node.second.into();
-            bytes[VALUE + 4 * i..][..4].copy_from_slice(&node.value.to_le_bytes());
+            lent.status.entries_mut()[i] = node.status;
+            lent.second.entries_mut()[i] = node.second.into();
+            lent.value.entries_mut()[i] = node.value;
         }
         for (i, function) in state.functions.iter().enumerate() {
-            for (j, register) in function.registers.iter().enumerate() {
-                bytes[REGISTER + 32 * i + 4 * j..][..4].copy_from_slice(&register.to_le_bytes());
-            }
-            bytes[OCCUPANT + 2 * i..][..2].copy_from_slice(&function.occupant.0.to_le_bytes());
+            lent.registers.entries_mut()[8 * i..8 * i + 8].copy_from_slice(&function.registers);
+            lent.occupant.entries_mut()[i] = function.occupant.0;
         }
         lent
     }
 
-    pub fn lent(&self) -> &[u8] {
-        &self.bytes[GUARD..GUARD + STATE_BYTES]
-    }
-
-    pub fn lent_mut(&mut self) -> &mut [u8] {
-        &mut self.bytes[GUARD..GUARD + STATE_BYTES]
+    pub(crate) fn arrays(&mut self) -> Arrays {
+        Arrays {
+            status: self.status.pointer().cast(),
+            second: self.second.pointer().cast(),
+            value: self.value.pointer().cast(),
+            registers: self.registers.pointer().cast(),
+            occupant: self.occupant.pointer().cast(),
+        }
     }
 
     /// Back as a state; a flag that is neither 0 nor 1 is told.
     pub fn state(&self) -> Result<State, String> {
-        let bytes = self.lent();
         let mut state = State::zero();
         for (i, node) in state.nodes.iter_mut().enumerate() {
-            let flag = bytes[SECOND + i];
+            let flag = self.second.entries()[i];
             ensure(flag < 2, || format!("flag {flag} at node {}", i + 1))?;
-            node.status = bytes[i];
+            node.status = self.status.entries()[i];
             node.second = flag == 1;
-            node.value = word(bytes, VALUE + 4 * i);
+            node.value = self.value.entries()[i];
         }
         for (i, function) in state.functions.iter_mut().enumerate() {
-            function.registers = std::array::from_fn(|j| word(bytes, REGISTER + 32 * i + 4 * j));
-            let at = OCCUPANT + 2 * i;
-            function.occupant = Node(u16::from_le_bytes([bytes[at], bytes[at + 1]]));
+            function.registers = std::array::from_fn(|j| self.registers.entries()[8 * i + j]);
+            function.occupant = Node(self.occupant.entries()[i]);
         }
         Ok(state)
     }
 
-    /// Tells the first entry that isn't as in the other state, if there is one.
+    /// Tells the first entry, up to N and F or past them, or guard that isn't as in the other state.
     pub fn same_as(&self, wanted: &State) -> Outcome {
         let wanted = Lent::of(wanted);
-        if *self == wanted {
-            return Ok(());
-        }
-        let (found, wanted) = (&self.bytes, &wanted.bytes);
-        let at = (0..found.len()).find(|at| found[*at] != wanted[*at]).unwrap_or(0);
-        let here = |bytes: &[u8]| format!("{:?}", &bytes[at..bytes.len().min(at + 4)]);
-        Err(format!("{}: bytes from it on are {}, wanted {}", entry(at), here(found), here(wanted)))
-    }
-}
-
-fn word(bytes: &[u8], at: usize) -> u32 {
-    u32::from_le_bytes([bytes[at], bytes[at + 1], bytes[at + 2], bytes[at + 3]])
-}
-
-/// What a byte of the whole piece belongs to.
-fn entry(at: usize) -> String {
-    let Some(at) = at.checked_sub(GUARD) else {
-        return "a byte before the state".to_string();
-    };
-    match at {
-        _ if at < SECOND => format!("status of node {}", at + 1),
-        _ if at < VALUE => format!("flag of node {}", at - SECOND + 1),
-        _ if at < REGISTER => format!("value of node {}", (at - VALUE) / 4 + 1),
-        _ if at < OCCUPANT => {
-            let register = (at - REGISTER) / 4;
-            format!("register {} of function {}", register % 8, register / 8 + 1)
-        }
-        _ if at < STATE_BYTES => format!("occupant of function {}", (at - OCCUPANT) / 2 + 1),
-        _ => "a byte after the state".to_string(),
+        self.status.same_as(&wanted.status, |i| format!("status of node {}", i + 1))?;
+        self.second.same_as(&wanted.second, |i| format!("flag of node {}", i + 1))?;
+        self.value.same_as(&wanted.value, |i| format!("value of node {}", i + 1))?;
+        let register = |i: usize| format!("register {} of function {}", i % 8, i / 8 + 1);
+        self.registers.same_as(&wanted.registers, register)?;
+        self.occupant.same_as(&wanted.occupant, |i| format!("occupant of function {}", i + 1))
     }
 }

@@ -3,72 +3,24 @@
 //! An answer of a form that isn't agreed on comes back as a message, like any other difference.
 
 pub mod lent;
+mod raw;
 pub mod rounds;
+pub mod seen;
+
+// Brings the library of the proved code, which that crate links.
+use compare as _;
 
 use design::circuit::{Answer, Ending};
+use design::difference::ensure;
 use design::{Node, Refusal};
-use lent::Lent;
-
-mod raw {
-    extern "C" {
-        pub fn circuit_start(
-            table: *const u8,
-            table_len: usize,
-            tags: *const u8,
-            tags_len: usize,
-            arguments: *const u32,
-            arguments_len: usize,
-            state: *mut u8,
-            state_len: usize,
-        ) -> u64;
-        pub fn circuit_step(
-            table: *const u8,
-            table_len: usize,
-            tags: *const u8,
-            tags_len: usize,
-            state: *mut u8,
-            state_len: usize,
-            node: u16,
-        ) -> u64;
-        pub fn circuit_query(
-            table: *const u8,
-            table_len: usize,
-            tags: *const u8,
-            tags_len: usize,
-            state: *const u8,
-            state_len: usize,
-        ) -> u64;
-        pub fn circuit_run(
-            table: *const u8,
-            table_len: usize,
-            tags: *const u8,
-            tags_len: usize,
-            state: *mut u8,
-            state_len: usize,
-            nodes: *const u16,
-            nodes_len: usize,
-            out: *mut u8,
-            out_len: usize,
-        ) -> u64;
-        pub fn circuit_drive(
-            table: *const u8,
-            table_len: usize,
-            tags: *const u8,
-            tags_len: usize,
-            state: *mut u8,
-            state_len: usize,
-            budget: u32,
-            out: *mut u8,
-            out_len: usize,
-        ) -> u64;
-    }
-}
+use lent::{Arrays, Lent};
 
 /// What the proved code said, or a message about an answer of no agreed form.
 pub type Told<T> = Result<T, String>;
 
-/// Bytes in a lent result before the call: all of them have to be settled.
-const UNSETTLED: [u8; 8] = [0xa5; 8];
+/// What a lent count holds before the call, and its neighbours after it too.
+const UNSETTLED: u32 = 0xa5a5_a5a5;
+const UNSETTLED_LONG: usize = usize::MAX / 3;
 
 /// The two halves of an answer: what it is, and the value, node or refusal that goes with it.
 fn halves(answer: u64) -> (u32, u32) {
@@ -88,7 +40,7 @@ fn refusal(what: &str, answer: u64) -> Told<Refusal> {
 }
 
 pub fn start(table: &[u8], tags: &[u8], arguments: &[u32], state: &mut Lent) -> Told<Result<(), Refusal>> {
-    let state = state.lent_mut();
+    let Arrays { status, second, value, registers, occupant } = state.arrays();
     // The library writes to the state alone, and within the lengths it is told.
     let answer = unsafe {
         raw::circuit_start(
@@ -96,10 +48,13 @@ pub fn start(table: &[u8], tags: &[u8], arguments: &[u32], state: &mut Lent) -> 
             table.len(),
             tags.as_ptr(),
             tags.len(),
+            status,
+            second,
+            value,
+            registers,
+            occupant,
             arguments.as_ptr(),
             arguments.len(),
-            state.as_mut_ptr(),
-            state.len(),
         )
     };
     match halves(answer) {
@@ -110,10 +65,21 @@ pub fn start(table: &[u8], tags: &[u8], arguments: &[u32], state: &mut Lent) -> 
 }
 
 pub fn step(table: &[u8], tags: &[u8], state: &mut Lent, node: u16) -> Told<Answer> {
-    let state = state.lent_mut();
+    let Arrays { status, second, value, registers, occupant } = state.arrays();
     // The library writes to the state alone, and within the lengths it is told.
     let answer = unsafe {
-        raw::circuit_step(table.as_ptr(), table.len(), tags.as_ptr(), tags.len(), state.as_mut_ptr(), state.len(), node)
+        raw::circuit_step(
+            table.as_ptr(),
+            table.len(),
+            tags.as_ptr(),
+            tags.len(),
+            status,
+            second,
+            value,
+            registers,
+            occupant,
+            node,
+        )
     };
     match halves(answer) {
         (0, 0) => Ok(Answer::Taken),
@@ -123,12 +89,25 @@ pub fn step(table: &[u8], tags: &[u8], state: &mut Lent, node: u16) -> Told<Answ
     }
 }
 
+/// A possible step; that the state was only read is looked at too.
 pub fn query(table: &[u8], tags: &[u8], state: &Lent) -> Told<Result<Option<Node>, Refusal>> {
-    let state = state.lent();
+    let mut lent = state.clone();
+    let Arrays { status, second, value, registers, occupant } = lent.arrays();
     // The library only reads, and within the lengths it is told.
     let answer = unsafe {
-        raw::circuit_query(table.as_ptr(), table.len(), tags.as_ptr(), tags.len(), state.as_ptr(), state.len())
+        raw::circuit_query(
+            table.as_ptr(),
+            table.len(),
+            tags.as_ptr(),
+            tags.len(),
+            status,
+            second,
+            value,
+            registers,
+            occupant,
+        )
     };
+    ensure(lent == *state, || "a query changed the state".to_string())?;
     match halves(answer) {
         (0, 0) => Ok(Ok(None)),
         (1, node @ 1..=0xffff) => Ok(Ok(Some(Node(node as u16)))),
@@ -139,52 +118,56 @@ pub fn query(table: &[u8], tags: &[u8], state: &Lent) -> Told<Result<Option<Node
 
 /// Steps taken, and the refusal that ended the run.
 pub fn run(table: &[u8], tags: &[u8], state: &mut Lent, nodes: &[u16]) -> Told<(usize, Option<Refusal>)> {
-    let state = state.lent_mut();
-    let mut out = UNSETTLED;
-    // The library writes to the state and the result alone, and within the lengths it is told.
-    let taken = unsafe {
+    let Arrays { status, second, value, registers, occupant } = state.arrays();
+    let mut counts = [UNSETTLED_LONG; 3];
+    // The library writes to the state and the count alone, and within the lengths it is told.
+    let answer = unsafe {
         raw::circuit_run(
             table.as_ptr(),
             table.len(),
             tags.as_ptr(),
             tags.len(),
-            state.as_mut_ptr(),
-            state.len(),
+            status,
+            second,
+            value,
+            registers,
+            occupant,
             nodes.as_ptr(),
             nodes.len(),
-            out.as_mut_ptr(),
-            out.len(),
+            counts.as_mut_ptr().wrapping_add(1),
         )
     };
-    let answer = u64::from_le_bytes(out);
-    let ended = match halves(answer) {
-        (0, 0) => None,
-        (2, _) => Some(refusal("run", answer)?),
-        _ => return strange("run", answer),
-    };
-    Ok((usize::try_from(taken).map_err(|error| error.to_string())?, ended))
+    let [before, taken, after] = counts;
+    ensure([before, after] == [UNSETTLED_LONG; 2], || "run wrote beside its count".to_string())?;
+    match halves(answer) {
+        (0, 0) => Ok((taken, None)),
+        (2, _) => Ok((taken, Some(refusal("run", answer)?))),
+        _ => strange("run", answer),
+    }
 }
 
 /// Steps taken and how it ended; a refusal comes with no steps.
 pub fn drive(table: &[u8], tags: &[u8], state: &mut Lent, budget: u32) -> Told<Result<(u32, Ending), Refusal>> {
-    let state = state.lent_mut();
-    let mut out = UNSETTLED;
-    // The library writes to the state and the result alone, and within the lengths it is told.
-    let taken = unsafe {
+    let Arrays { status, second, value, registers, occupant } = state.arrays();
+    let mut counts = [UNSETTLED; 3];
+    // The library writes to the state and the count alone, and within the lengths it is told.
+    let answer = unsafe {
         raw::circuit_drive(
             table.as_ptr(),
             table.len(),
             tags.as_ptr(),
             tags.len(),
-            state.as_mut_ptr(),
-            state.len(),
+            status,
+            second,
+            value,
+            registers,
+            occupant,
             budget,
-            out.as_mut_ptr(),
-            out.len(),
+            counts.as_mut_ptr().wrapping_add(1),
         )
     };
-    let answer = u64::from_le_bytes(out);
-    let taken = u32::try_from(taken).map_err(|error| error.to_string())?;
+    let [before, taken, after] = counts;
+    ensure([before, after] == [UNSETTLED; 2], || "drive wrote beside its count".to_string())?;
     match (halves(answer), taken) {
         ((0, 0), _) => Ok(Ok((taken, Ending::AtRest))),
         ((1, value), _) => Ok(Ok((taken, Ending::Answered(value)))),

@@ -3,30 +3,47 @@
 use design::circuit::{self, check_state, possible, step_with, Answer, Ending, State};
 use design::difference::{ensure, shown, Outcome};
 use design::list::tags_of;
-use design::random::{accepted, accepted_of, accepted_sharing, Random};
-use design::states::tags;
+use design::random::{accepted, accepted_of, accepted_sharing, accepted_sharing_of, Random};
+use design::states::{any_state, arguments, damage_state, tags};
 use design::{Node, Refusal, Tree};
 
 use crate::lent::Lent;
+use crate::seen::Seen;
 
 /// Most states kept at once, and most steps, when looking for the steps of a run.
 const MOST_STATES: usize = 100;
 const MOST_STEPS: u32 = 6;
 
-/// A table, mostly of a small design: it gets through its steps.
+/// How tags stand to the arbiter list.
+pub const EMPTY_LIST: &str = "the list is empty";
+pub const LIST_HELD: &str = "tags hold the list";
+pub const LIST_MISSED: &str = "tags miss some of the list";
+
+/// A table, mostly of a small design: it gets through its steps. In half of them something is on the list.
 pub fn some_table(random: &mut Random) -> Vec<u8> {
-    match random.below(40) {
-        0 => accepted(random),
-        1..=4 => accepted_sharing(random),
-        5..=9 => {
-            let nodes = random.within(41, 120);
-            accepted_of(random, nodes)
-        }
-        _ => {
-            let nodes = random.within(1, 40);
-            accepted_of(random, nodes)
-        }
+    let nodes = match random.below(40) {
+        0 => return accepted(random),
+        1 => return accepted_sharing(random),
+        2..=6 => random.within(41, 120),
+        _ => random.within(1, 40),
+    };
+    match random.once_in(2) {
+        true => with_a_list(random, nodes.max(12)),
+        false => accepted_of(random, nodes),
     }
+}
+
+/// Chance alone seldom makes calls meet in a small design, so it is tried several times.
+fn with_a_list(random: &mut Random, nodes: usize) -> Vec<u8> {
+    let is_empty = |bytes: &[u8]| tags_of(bytes).is_ok_and(|tags| tags.iter().all(|byte| *byte == 0));
+    let mut bytes = accepted_sharing_of(random, nodes);
+    for _ in 0..6 {
+        if !is_empty(&bytes) {
+            break;
+        }
+        bytes = accepted_sharing_of(random, nodes);
+    }
+    bytes
 }
 
 pub fn tree_of(bytes: &[u8]) -> Result<Tree, String> {
@@ -47,15 +64,38 @@ pub struct Round {
     pub tree: Tree,
     pub own: State,
     pub lent: Lent,
+    /// Whether every step of the last drive was found.
+    pub retraced: bool,
 }
 
 impl Round {
+    /// From a start, or from any state, which 24 may turn back.
+    pub fn some(random: &mut Random, seen: &mut Seen) -> Result<Round, String> {
+        let bytes = some_table(random);
+        let tree = tree_of(&bytes)?;
+        let tags = some_tags(random, &bytes)?;
+        let round = if random.once_in(2) {
+            seen.note("from a start");
+            let arguments = arguments(random, &tree);
+            Round::started(bytes, tags, &arguments)?
+        } else {
+            seen.note("from any state");
+            let mut state = any_state(random, &tree);
+            if random.once_in(8) {
+                damage_state(random, &tree, &mut state);
+            }
+            Round::standing(bytes, tags, state)?
+        };
+        seen.note(round.tagging()?);
+        Ok(round)
+    }
+
     /// From a start with these arguments.
     pub fn started(bytes: Vec<u8>, tags: Vec<u8>, arguments: &[u32]) -> Result<Round, String> {
-        let tree = tree_of(&bytes)?;
-        let mut round = Round { bytes, tags, tree, own: State::zero(), lent: Lent::zero() };
-        round.own.nodes.fill(circuit::NodeState { status: 9, second: true, value: 7 });
-        round.lent = Lent::of(&round.own);
+        let mut before = State::zero();
+        before.nodes.fill(circuit::NodeState { status: 9, second: true, value: 7 });
+        before.functions.fill(circuit::FunctionState { registers: [5; 8], occupant: Node(600) });
+        let mut round = Round::standing(bytes, tags, before)?;
         let wanted = circuit::start(&round.bytes, &round.tags, arguments, &mut round.own);
         let found = crate::start(&round.bytes, &round.tags, arguments, &mut round.lent)?;
         round.expect(found == wanted, || format!("start said {found:?}, wanted {wanted:?} with {arguments:?}"))?;
@@ -67,7 +107,7 @@ impl Round {
     pub fn standing(bytes: Vec<u8>, tags: Vec<u8>, own: State) -> Result<Round, String> {
         let tree = tree_of(&bytes)?;
         let lent = Lent::of(&own);
-        Ok(Round { bytes, tags, tree, own, lent })
+        Ok(Round { bytes, tags, tree, own, lent, retraced: false })
     }
 
     fn expect(&self, holds: bool, otherwise: impl FnOnce() -> String) -> Outcome {
@@ -84,8 +124,20 @@ impl Round {
         self.lent.same_as(&self.own).map_err(|difference| self.told(format!("after {what}: {difference}")))
     }
 
-    pub fn answered(&self) -> bool {
-        self.own.node(self.tree.root(self.tree.main())).status == circuit::DONE
+    /// How the tags stand to the arbiter list.
+    pub fn tagging(&self) -> Result<&'static str, String> {
+        let list = tags_of(&self.bytes).map_err(|refusal| format!("{refusal:?}: {}", shown(&self.bytes)))?;
+        let holds = list.iter().zip(&self.tags).all(|(listed, tagged)| listed & !tagged == 0);
+        Ok(match holds {
+            _ if list.iter().all(|byte| *byte == 0) => EMPTY_LIST,
+            true => LIST_HELD,
+            false => LIST_MISSED,
+        })
+    }
+
+    /// The lowest node with a step, in a state that 24 lets pass.
+    pub fn lowest_step(&self) -> Option<Node> {
+        possible(&self.tree, &self.tags, &self.own).next()
     }
 
     /// A node to ask at: mostly one with a step, often a call that may have to wait or another node,
@@ -109,8 +161,10 @@ impl Round {
                 let nodes: Vec<Node> = self.tree.nodes().filter(waiting).collect();
                 nodes.first().map_or(1, |_| random.pick(&nodes).0)
             }
-            15 => random.pick(&[0, self.tree.node_count() as u16 + 1, 512, 513, u16::MAX]),
-            16 => random.number() as u16,
+            15 => {
+                let any = random.number() as u16;
+                random.pick(&[0, self.tree.node_count() as u16 + 1, 512, 513, u16::MAX, any])
+            }
             _ => random.within(1, self.tree.node_count()) as u16,
         }
     }
@@ -130,26 +184,20 @@ impl Round {
     }
 
     /// The node that the proved query names has to have a step, and it has to name one if there is any.
-    pub fn query(&self) -> Result<Option<Node>, String> {
-        let before = self.lent.clone();
-        let found = crate::query(&self.bytes, &self.tags, &self.lent)?;
-        self.expect(self.lent == before, || "a query changed the state".to_string())?;
-        match check_state(&self.tree, &self.own) {
-            Err(refusal) => {
-                self.expect(found == Err(refusal), || format!("query said {found:?}, wanted {refusal:?}"))?;
-                Ok(None)
-            }
-            Ok(()) => {
-                let nodes: Vec<Node> = possible(&self.tree, &self.tags, &self.own).collect();
-                let fits = match found {
-                    Ok(None) => nodes.is_empty(),
-                    Ok(Some(node)) => nodes.contains(&node),
-                    Err(_) => false,
-                };
-                self.expect(fits, || format!("query said {found:?}, possible are {nodes:?}"))?;
-                Ok(found.unwrap_or(None))
-            }
+    pub fn query(&self) -> Result<Result<Option<Node>, Refusal>, String> {
+        let found = crate::query(&self.bytes, &self.tags, &self.lent).map_err(|message| self.told(message))?;
+        if let Err(refusal) = check_state(&self.tree, &self.own) {
+            self.expect(found == Err(refusal), || format!("query said {found:?}, wanted {refusal:?}"))?;
+            return Ok(found);
         }
+        let nodes: Vec<Node> = possible(&self.tree, &self.tags, &self.own).collect();
+        let fits = match found {
+            Ok(None) => nodes.is_empty(),
+            Ok(Some(node)) => nodes.contains(&node),
+            Err(_) => false,
+        };
+        self.expect(fits, || format!("query said {found:?}, possible are {nodes:?}"))?;
+        Ok(found)
     }
 
     /// The run over a list of nodes.
@@ -195,6 +243,7 @@ impl Round {
         ensure(fits, || wrong("that isn't so"))?;
         let reached = reach(&self.tree, &self.tags, &self.own, &after, taken);
         ensure(reached != Some(false), || wrong("no such steps lead there"))?;
+        self.retraced = reached == Some(true);
         self.own = after;
         Ok(told)
     }

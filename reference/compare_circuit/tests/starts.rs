@@ -1,8 +1,7 @@
 //! Starts of the proved circuit against the reference, and what every entry does with a bad table or bad tags.
 
-use std::collections::BTreeMap;
-
 use compare_circuit::lent::Lent;
+use compare_circuit::seen::Seen;
 use compare_circuit::{drive, query, run, start, step};
 use design::circuit::{self, Answer, State};
 use design::damage::damaged;
@@ -51,44 +50,65 @@ fn some_arguments(random: &mut Random, bytes: &[u8]) -> Vec<u32> {
     }
 }
 
-/// What a refused start leaves: the lent state is made anew in any case.
-fn after_refused_start() -> State {
-    State::zero()
+/// Which of the causes of 10 it is, and whether 4 and 5 name a node.
+fn note_refusal(seen: &mut Seen, refusal: Refusal, bytes: &[u8], tags: &[u8]) {
+    let right_length = Tree::read(bytes).is_ok_and(|tree| tags.len() == tree.node_count().div_ceil(8));
+    seen.refused(refusal.number);
+    match (refusal.number, refusal.place) {
+        (4, 0) => seen.note("4 at a root out of range"),
+        (4, _) => seen.note("4 at a node"),
+        (5, 0) => seen.note("5 at a function record"),
+        (5, _) => seen.note("5 at a node"),
+        (10, 0) if right_length => seen.note("10 for a tag past N"),
+        (10, 0) => seen.note("10 for the length"),
+        (10, _) => seen.note("10 at a node"),
+        _ => {}
+    }
 }
 
+/// What `note_refusal` tells apart, each of it wanted this often.
+const CAUSES: [(&str, usize); 7] = [
+    ("4 at a root out of range", 20),
+    ("4 at a node", 50),
+    ("5 at a function record", 20),
+    ("5 at a node", 50),
+    ("10 for a tag past N", 50),
+    ("10 for the length", 50),
+    ("10 at a node", 50),
+];
+
+/// A start makes the whole state anew; a refused one keeps all of it.
 #[test]
 fn starts() -> Outcome {
-    let mut random = Random::new(411);
-    let mut seen: BTreeMap<u16, usize> = BTreeMap::new();
+    let (mut random, mut seen) = (Random::new(411), Seen::default());
     for _ in 0..STARTS {
         let bytes = some_table(&mut random);
         let tags = some_tags(&mut random, &bytes);
         let arguments = some_arguments(&mut random, &bytes);
-        let mut own = noise(&mut random);
-        let mut lent = Lent::of(&own);
+        let before = noise(&mut random);
+        let (mut own, mut lent) = (before.clone(), Lent::of(&before));
         let wanted = circuit::start(&bytes, &tags, &arguments, &mut own);
         let found = start(&bytes, &tags, &arguments, &mut lent)?;
         let with = || format!("table {}, tags {}, arguments {arguments:?}", shown(&bytes), shown(&tags));
         ensure(found == wanted, || format!("said {found:?}, wanted {wanted:?}: {}", with()))?;
-        if wanted.is_err() {
-            own = after_refused_start();
+        match wanted {
+            Ok(()) => seen.note("started"),
+            Err(refusal) => {
+                own = before;
+                note_refusal(&mut seen, refusal, &bytes, &tags);
+            }
         }
         lent.same_as(&own).map_err(|difference| format!("after {wanted:?} {difference}: {}", with()))?;
-        *seen.entry(wanted.map_or_else(|refusal| refusal.number, |()| 0)).or_insert(0) += 1;
     }
-    println!("{seen:?}");
-    for number in 0..=11 {
-        let count = seen.get(&number).copied().unwrap_or(0);
-        ensure(count >= 50, || format!("{number} in {count} cases: {seen:?}"))?;
-    }
-    ensure(seen[&0] >= 2000 && seen[&11] >= 500, || format!("{seen:?}"))
+    seen.often("starts", &CAUSES)?;
+    seen.at_least("starts", &[("started", 2000), ("refused 11", 500)])?;
+    seen.refused_often("starts", 1..=11, 50)
 }
 
 /// The refusals before any step: the table's, then the tags', then for a step 12, then 24. All keep the state.
 #[test]
 fn refused_before_any_step() -> Outcome {
-    let mut random = Random::new(412);
-    let mut seen: BTreeMap<u16, usize> = BTreeMap::new();
+    let (mut random, mut seen) = (Random::new(412), Seen::default());
     for _ in 0..STARTS {
         let bytes = some_table(&mut random);
         let tags = some_tags(&mut random, &bytes);
@@ -104,15 +124,11 @@ fn refused_before_any_step() -> Outcome {
         let Err(refusal) = circuit::query(&bytes, &tags, &own) else {
             continue;
         };
-        *seen.entry(refusal.number).or_insert(0) += 1;
+        note_refusal(&mut seen, refusal, &bytes, &tags);
         all_refused(&mut random, &bytes, &tags, &own, refusal)?;
     }
-    println!("{seen:?}");
-    for number in (1..=10).chain([24]) {
-        let count = seen.get(&number).copied().unwrap_or(0);
-        ensure(count >= 50, || format!("{number} in {count} cases: {seen:?}"))?;
-    }
-    Ok(())
+    seen.often("before any step", &CAUSES)?;
+    seen.refused_often("before any step", (1..=10).chain([24]), 50)
 }
 
 fn all_refused(random: &mut Random, bytes: &[u8], tags: &[u8], own: &State, refusal: Refusal) -> Outcome {

@@ -1,103 +1,129 @@
 //! Single steps of the proved circuit against the reference: the answer and the whole state after each.
 
-use std::collections::BTreeMap;
-
-use compare_circuit::rounds::{some_table, some_tags, tree_of, Round};
+use compare_circuit::rounds::{some_table, some_tags, tree_of, Round, EMPTY_LIST, LIST_HELD, LIST_MISSED};
+use compare_circuit::seen::Seen;
 use design::asm::assemble;
 use design::circuit::Answer;
 use design::difference::{ensure, Outcome};
 use design::random::Random;
-use design::reading::read;
+use design::reading::{read, Reading};
 use design::states::{any_state, arguments, damage_state};
 use design::towers::{any_comb, any_deep, any_tower};
 
 /// Schedules from a start, and rounds from any state.
-const SCHEDULES: usize = 12_000;
+const SCHEDULES: usize = 10_000;
 const STANDINGS: usize = 9_000;
 
 /// Steps up to which a reading is followed.
 const LIMIT: u64 = 400;
 
-/// Answers by refusal; 0 stands for a step taken.
-type Seen = BTreeMap<u16, usize>;
-
-fn note(seen: &mut Seen, answer: Answer) {
-    let number = match answer {
-        Answer::Refused(refusal) => refusal.number,
-        Answer::Taken | Answer::Answered(_) => 0,
-    };
-    *seen.entry(number).or_insert(0) += 1;
+/// One schedule from a start, and what occurred in it.
+struct Schedule {
+    round: Round,
+    arguments: Vec<u32>,
+    reading: Option<Reading>,
+    taken: u64,
+    refused: usize,
+    out_of_order: bool,
 }
 
-/// Asks until main answers and a little on, or until the asks are used up; tells whether main answered.
-fn schedule(random: &mut Random, seen: &mut Seen, bytes: Vec<u8>, mut asks: usize) -> Result<bool, String> {
-    let tags = some_tags(random, &bytes)?;
-    let tree = tree_of(&bytes)?;
-    let arguments = arguments(random, &tree);
-    let reading = read(&tree, &arguments, LIMIT);
-    let mut round = Round::started(bytes, tags, &arguments)?;
-    let (mut taken, mut answered) = (0, false);
+impl Schedule {
+    fn started(random: &mut Random, bytes: Vec<u8>) -> Result<Schedule, String> {
+        let tags = some_tags(random, &bytes)?;
+        let tree = tree_of(&bytes)?;
+        let arguments = arguments(random, &tree);
+        let reading = read(&tree, &arguments, LIMIT);
+        let round = Round::started(bytes, tags, &arguments)?;
+        Ok(Schedule { round, arguments, reading, taken: 0, refused: 0, out_of_order: false })
+    }
+
+    /// Asks at one node: an answer has to be the reading's, with its count, and no step comes after it.
+    fn ask(&mut self, random: &mut Random) -> Result<Answer, String> {
+        let node = self.round.some_node(random);
+        let lowest = self.round.lowest_step();
+        let answer = self.round.step(node)?;
+        if matches!(answer, Answer::Refused(_)) {
+            self.refused += 1;
+            return Ok(answer);
+        }
+        self.taken += 1;
+        self.out_of_order |= lowest.is_some_and(|lowest| lowest.0 != node);
+        let wanted = self.reading.map(|reading| (reading.value, reading.count));
+        let fits = match answer {
+            Answer::Answered(value) => wanted == Some((value, self.taken)),
+            _ => wanted.is_none_or(|(_, count)| self.taken < count),
+        };
+        let wrong = || format!("{answer:?} at step {}, wanted {wanted:?}, arguments {:?}", self.taken, self.arguments);
+        ensure(fits, || self.round.told(wrong()))?;
+        Ok(answer)
+    }
+}
+
+/// Asks until main answers and a little on, or until the asks are used up.
+fn schedule(random: &mut Random, seen: &mut Seen, bytes: Vec<u8>, mut asks: usize) -> Outcome {
+    let mut schedule = Schedule::started(random, bytes)?;
+    let tagging = schedule.round.tagging()?;
+    let mut answered = false;
     while asks > 0 {
         asks -= 1;
-        let node = round.some_node(random);
-        let answer = round.step(node)?;
-        note(seen, answer);
-        match answer {
-            Answer::Refused(_) => continue,
-            Answer::Taken => {}
-            Answer::Answered(value) => {
-                let (found, wanted) = ((value, taken + 1), reading.map(|reading| (reading.value, reading.count)));
-                let wrong = || format!("value and steps {found:?}, wanted {wanted:?}, arguments {arguments:?}");
-                ensure(wanted == Some(found), || round.told(wrong()))?;
-                answered = true;
-                asks = asks.min(4);
-            }
+        let answer = schedule.ask(random)?;
+        seen.answer(answer);
+        // The arbiter list is enough: with its calls tagged, none but a tagged one ever has to wait.
+        let untagged_waits = matches!(answer, Answer::Refused(refusal) if refusal.number == 23);
+        ensure(!untagged_waits || tagging == LIST_MISSED, || schedule.round.told(format!("23, and {tagging}")))?;
+        if matches!(answer, Answer::Answered(_)) {
+            answered = true;
+            asks = asks.min(4);
         }
-        taken += 1;
-        let too_many = reading.is_some_and(|reading| taken > reading.count);
-        ensure(!too_many, || round.told(format!("{taken} steps, wanted {reading:?}, arguments {arguments:?}")))?;
     }
-    Ok(answered)
-}
-
-fn often(seen: &Seen, numbers: &[u16]) -> Outcome {
-    println!("{seen:?}");
-    for number in numbers {
-        let count = seen.get(number).copied().unwrap_or(0);
-        ensure(count >= 1000, || format!("{number} in {count} cases: {seen:?}"))?;
-    }
+    seen.note(tagging);
+    seen.note_if("answered as the reading says", answered);
+    seen.note_if("answered so where the tags miss some of the list", answered && tagging == LIST_MISSED);
+    seen.note_if(
+        "answered so out of order, with refused steps",
+        answered && schedule.out_of_order && schedule.refused > 4,
+    );
+    seen.note_if("goes on past the limit", schedule.reading.is_none());
     Ok(())
 }
 
 #[test]
 fn schedules_from_a_start() -> Outcome {
-    let (mut random, mut seen) = (Random::new(401), Seen::new());
-    let mut answered = 0;
+    let (mut random, mut seen) = (Random::new(401), Seen::default());
     for _ in 0..SCHEDULES {
         let bytes = some_table(&mut random);
         let asks = if bytes.len() > 1000 { 60 } else { random.within(20, 400) };
-        answered += usize::from(schedule(&mut random, &mut seen, bytes, asks)?);
+        schedule(&mut random, &mut seen, bytes, asks)?;
     }
-    println!("{answered} of {SCHEDULES} answered");
-    ensure(3 * answered >= SCHEDULES, || format!("{answered} answered"))?;
-    often(&seen, &[0, 12, 20, 21, 22, 23])
+    let wanted = [
+        ("taken", 300_000),
+        (EMPTY_LIST, SCHEDULES / 10),
+        (LIST_HELD, SCHEDULES / 5),
+        (LIST_MISSED, SCHEDULES / 12),
+        ("answered as the reading says", SCHEDULES / 3),
+        ("answered so where the tags miss some of the list", SCHEDULES / 50),
+        ("answered so out of order, with refused steps", SCHEDULES / 6),
+        ("goes on past the limit", SCHEDULES / 20),
+    ];
+    seen.often("schedules", &wanted)?;
+    seen.refused_often("schedules", [12, 20, 21, 22, 23], 1000)
 }
 
 #[test]
 fn towers_and_deep_chains() -> Outcome {
-    let (mut random, mut seen) = (Random::new(402), Seen::new());
+    let (mut random, mut seen) = (Random::new(402), Seen::default());
     for _ in 0..40 {
         for bytes in [any_tower(&mut random), any_deep(&mut random), any_comb(&mut random)] {
             schedule(&mut random, &mut seen, bytes, 150)?;
         }
     }
-    Ok(())
+    seen.often("towers", &[("taken", 5000), (LIST_HELD, 40), (LIST_MISSED, 10)])
 }
 
 /// States that no start leads to: asked at many nodes each, and some steps on from there.
 #[test]
 fn steps_from_any_state() -> Outcome {
-    let (mut random, mut seen) = (Random::new(403), Seen::new());
+    let (mut random, mut seen) = (Random::new(403), Seen::default());
     for _ in 0..STANDINGS {
         let bytes = some_table(&mut random);
         let tree = tree_of(&bytes)?;
@@ -115,15 +141,16 @@ fn steps_from_any_state() -> Outcome {
         let mut round = Round::standing(bytes, tags, state)?;
         let (own, lent) = (round.own.clone(), round.lent.clone());
         for node in asked {
-            note(&mut seen, round.step(node)?);
+            seen.answer(round.step(node)?);
             (round.own, round.lent) = (own.clone(), lent.clone());
         }
         for _ in 0..random.below(30) {
             let node = round.some_node(&mut random);
-            note(&mut seen, round.step(node)?);
+            seen.answer(round.step(node)?);
         }
     }
-    often(&seen, &[0, 12, 20, 21, 22, 23, 24])
+    seen.often("any state", &[("taken", 50_000), ("answered", 1000)])?;
+    seen.refused_often("any state", [12, 20, 21, 22, 23, 24], 1000)
 }
 
 /// The steps of the rules: after 2, 3, 5, 4, 6, 3 the call at 5 has to wait.

@@ -67,6 +67,11 @@ pub fn accepted_of(random: &mut Random, nodes: usize) -> Vec<u8> {
 /// An accepted table with many calls of few functions, so that arms mostly share some.
 pub fn accepted_sharing(random: &mut Random) -> Vec<u8> {
     let nodes = size(random).max(random.within(12, 60));
+    accepted_sharing_of(random, nodes)
+}
+
+/// The same of just this many nodes.
+pub fn accepted_sharing_of(random: &mut Random, nodes: usize) -> Vec<u8> {
     let calls = random.within(6, 12);
     let callees = random.pick(&[Callees::Lowest, Callees::Nearest, Callees::Any]);
     let taste = Taste { calls, callees, ..taste(random) };

@@ -4,10 +4,12 @@ mod check;
 mod list;
 mod net;
 mod run;
+mod sets;
 
 pub use check::check;
 pub use list::{check_tags, list};
 pub use run::{run, run_watched, start, Ending, State};
+pub use sets::list_by_sets;
 
 /// Number and place of a refusal in one number; 0 stands for no refusal.
 pub(crate) const fn refusal(number: u32, place: u32) -> u32 {

@@ -11,6 +11,9 @@ use design::towers::{any_comb, any_deep, any_tower};
 use design::{check, Node, Tree};
 use fast::{run_watched, Ending, State};
 
+/// Both ways to the arbiter list.
+const LISTS: [fn(&[u8], &mut [u8; 64]) -> u32; 2] = [fast::list, fast::list_by_sets];
+
 fn code(answer: Result<(), design::Refusal>) -> u32 {
     answer.map_or_else(|refusal| refusal.code(), |()| 0)
 }
@@ -41,19 +44,44 @@ fn the_lists_agree() {
             _ => accepted(&mut random),
         };
         let wanted = tags_of(&bytes).expect("an accepted table");
-        let mut found = [0xff; 64];
-        assert_eq!(fast::list(&bytes, &mut found), 0);
-        assert_eq!(found[..wanted.len()], wanted, "{}", shown(&bytes));
-        assert!(found[wanted.len()..].iter().all(|byte| *byte == 0));
+        for list in LISTS {
+            let mut found = [0xff; 64];
+            assert_eq!(list(&bytes, &mut found), 0);
+            assert_eq!(found[..wanted.len()], wanted, "{}", shown(&bytes));
+            assert!(found[wanted.len()..].iter().all(|byte| *byte == 0));
+        }
         listed += usize::from(wanted.iter().any(|byte| *byte != 0));
         let tree = Tree::read(&bytes).expect("an accepted table");
         let tags = damaged_tags(&mut random, &tree);
         assert_eq!(fast::check_tags(&bytes, &tags), code(design::list::check_tags(&tree, &tags)));
     }
     assert!(listed > 2500, "{listed}");
-    let mut kept = [7; 64];
-    assert_eq!(fast::list(&[1, 0, 1], &mut kept), 1 << 16);
-    assert_eq!(kept, [7; 64]);
+}
+
+/// The two lists against each other, which is quick enough for many tables.
+#[test]
+fn the_two_lists_agree() {
+    let mut random = Random::new(16);
+    let (mut listed, mut refused) = (0, 0);
+    for round in 0..60000 {
+        let bytes = match round % 20 {
+            0 => any_tower(&mut random),
+            1 => any_deep(&mut random),
+            2 => any_comb(&mut random),
+            3..=10 => accepted_sharing(&mut random),
+            11..=15 => accepted(&mut random),
+            _ => damaged(&mut random),
+        };
+        let [words, sets] = LISTS.map(|list| {
+            let mut tags = [7; 64];
+            (list(&bytes, &mut tags), tags)
+        });
+        assert_eq!(sets, words, "{}", shown(&bytes));
+        assert!(sets.0 == 0 || sets.1 == [7; 64], "a refusal changed the tags: {}", shown(&bytes));
+        refused += usize::from(sets.0 != 0);
+        listed += usize::from(sets.0 == 0 && sets.1.iter().any(|byte| *byte != 0));
+    }
+    assert!(listed > 20000 && refused > 5000, "{listed} with a list, {refused} refused");
 }
 
 fn to_fast(state: &circuit::State) -> State {

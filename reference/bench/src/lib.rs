@@ -1,3 +1,0 @@
-//! What the sections share.
-
-pub mod measure;

@@ -1,0 +1,136 @@
+//! The arbiter list as one writes it at first: sets of calls as bits, each body walked once, and the sets of parts that
+//! run side by side held against each other where they meet.
+
+use crate::check::{survey, Survey};
+use crate::{first, next, Parts, CALL, IF, LET, MOST_FUNCTIONS, MOST_NODES, PRIMITIVE};
+
+/// Call nodes, node n at bit n - 1.
+type Calls = [u64; MOST_NODES / 64];
+
+/// Functions, f at bit f - 1.
+type Functions = u32;
+
+const NO_CALLS: Calls = [0; MOST_NODES / 64];
+
+/// The same answer and the same tags as `list`.
+pub fn list_by_sets(table: &[u8], tags: &mut [u8; 64]) -> u32 {
+    let refused = survey(table, &mut Survey::empty());
+    if refused != 0 {
+        return refused;
+    }
+    let listed = Walk::all_bodies(Parts::of(table));
+    for (bytes, word) in tags.chunks_exact_mut(8).zip(listed) {
+        bytes.copy_from_slice(&word.to_le_bytes());
+    }
+    0
+}
+
+struct Walk<'a> {
+    parts: Parts<'a>,
+    /// The function whose body is walked.
+    function: usize,
+    /// Of each body walked: the calls that may happen in it, and their callees.
+    bodies: [(Calls, Functions); MOST_FUNCTIONS + 1],
+    /// Of each function the calls of it that were met, no self calls.
+    sites: [Calls; MOST_FUNCTIONS + 1],
+    listed: Calls,
+}
+
+impl Walk<'_> {
+    fn all_bodies(parts: Parts) -> Calls {
+        let mut walk = Walk {
+            parts,
+            function: 0,
+            bodies: [(NO_CALLS, 0); MOST_FUNCTIONS + 1],
+            sites: [NO_CALLS; MOST_FUNCTIONS + 1],
+            listed: NO_CALLS,
+        };
+        // A callee comes before its callers.
+        for function in 1..=parts.functions() {
+            walk.function = function;
+            let mut calls = NO_CALLS;
+            let callees = walk.node(parts.root(function), &mut calls);
+            walk.bodies[function] = (calls, callees);
+        }
+        walk.listed
+    }
+
+    /// Adds the calls that may happen at or below a node; returns their callees.
+    fn node(&mut self, node: usize, calls: &mut Calls) -> Functions {
+        let record = self.parts.record(node);
+        match record[0] {
+            PRIMITIVE => self.side_by_side(first(record), 0, calls),
+            IF => self.branches(first(record), calls),
+            LET => {
+                let body = self.last(first(record));
+                self.side_by_side(first(record), body, calls) | self.node(body, calls)
+            }
+            CALL => self.side_by_side(first(record), 0, calls) | self.call(node, record[2].into(), calls),
+            _ => 0,
+        }
+    }
+
+    fn branches(&mut self, mut child: usize, calls: &mut Calls) -> Functions {
+        let mut callees = 0;
+        while child != 0 {
+            callees |= self.node(child, calls);
+            child = next(self.parts.record(child));
+        }
+        callees
+    }
+
+    fn last(&self, mut child: usize) -> usize {
+        loop {
+            match next(self.parts.record(child)) {
+                0 => return child,
+                after => child = after,
+            }
+        }
+    }
+
+    /// Siblings from this one up to, and without, an end: all of them may happen at once.
+    fn side_by_side(&mut self, mut child: usize, end: usize, calls: &mut Calls) -> Functions {
+        let mut own = NO_CALLS;
+        let (mut callees, mut shared) = (0, 0);
+        while child != end {
+            let more = self.node(child, &mut own);
+            shared |= callees & more;
+            callees |= more;
+            child = next(self.parts.record(child));
+        }
+        if callees != 0 {
+            self.list(&own, shared);
+            join(calls, &own);
+        }
+        callees
+    }
+
+    /// Lists those of the calls whose callee two of the parts share.
+    fn list(&mut self, calls: &Calls, mut shared: Functions) {
+        while shared != 0 {
+            let function = shared.trailing_zeros() as usize + 1;
+            for ((listed, call), site) in self.listed.iter_mut().zip(calls).zip(&self.sites[function]) {
+                *listed |= call & site;
+            }
+            shared &= shared - 1;
+        }
+    }
+
+    fn call(&mut self, node: usize, callee: usize, calls: &mut Calls) -> Functions {
+        if callee == self.function {
+            return 0;
+        }
+        let (word, bit) = ((node - 1) / 64, 1 << ((node - 1) % 64));
+        calls[word] |= bit;
+        self.sites[callee][word] |= bit;
+        let (below, callees) = &self.bodies[callee];
+        join(calls, below);
+        callees | 1 << (callee - 1)
+    }
+}
+
+fn join(calls: &mut Calls, more: &Calls) {
+    for (word, more) in calls.iter_mut().zip(more) {
+        *word |= more;
+    }
+}
