@@ -17,10 +17,7 @@ impl Seen {
 
     /// A kind that never occurs is shown too.
     pub fn note_if(&mut self, kind: &str, there: bool) {
-        match self.counts.get_mut(kind) {
-            Some(count) => *count += usize::from(there),
-            None => drop(self.counts.insert(kind.to_string(), there.into())),
-        }
+        *self.counts.entry(kind.to_string()).or_insert(0) += usize::from(there);
     }
 
     pub fn refused(&mut self, number: u16) {
@@ -35,7 +32,7 @@ impl Seen {
         }
     }
 
-    pub fn count(&self, kind: &str) -> usize {
+    fn count(&self, kind: &str) -> usize {
         self.counts.get(kind).copied().unwrap_or(0)
     }
 

@@ -1,13 +1,18 @@
-//! The query and the run over a list of the proved circuit against the reference.
+//! The query and the run over a list of the proved circuit against the reference and the plain reading.
 
-use compare_circuit::rounds::{Round, EMPTY_LIST, LIST_HELD, LIST_MISSED};
+use compare_circuit::rounds::{some_table, some_tags, tree_of, Round, EMPTY_LIST, LIST_HELD, LIST_MISSED};
 use compare_circuit::seen::Seen;
 use design::circuit::{self, possible, Answer};
-use design::difference::Outcome;
+use design::difference::{ensure, Outcome};
 use design::random::Random;
+use design::reading::read;
+use design::states::arguments;
 use design::Node;
 
 const RUNS: usize = 6_000;
+
+/// Steps up to which a reading is followed.
+const LIMIT: u64 = 1_000;
 
 /// Both beginnings and each sort of tags have to occur in every test.
 const ROUNDS: [(&str, usize); 5] = [
@@ -89,6 +94,42 @@ fn runs_over_lists() -> Outcome {
     seen.often("runs", &ROUNDS)?;
     seen.at_least("runs", &[("whole", 1000), ("refused after some steps", 1000)])?;
     seen.refused_often("runs", [12, 20, 21, 22, 23, 24], 50)
+}
+
+/// From a start, a list of steps in any order that leads to the answer: value and count are the reading's.
+#[test]
+fn runs_to_the_answer() -> Outcome {
+    let (mut random, mut seen) = (Random::new(425), Seen::default());
+    for _ in 0..RUNS / 2 {
+        let bytes = some_table(&mut random);
+        let tree = tree_of(&bytes)?;
+        let arguments = arguments(&mut random, &tree);
+        let Some(reading) = read(&tree, &arguments, LIMIT) else {
+            continue;
+        };
+        let tags = some_tags(&mut random, &bytes)?;
+        let mut round = Round::started(bytes, tags, &arguments)?;
+        seen.note(round.tagging()?);
+        let nodes = good_nodes(&mut random, &round, usize::MAX);
+        let told = round.run(&nodes)?;
+        let root = *round.own.node(tree.root(tree.main()));
+        let fits =
+            told == (reading.count as usize, None) && (root.status, root.value) == (circuit::DONE, reading.value);
+        let wrong = || format!("{told:?}, root {root:?}, wanted {reading:?}, arguments {arguments:?}");
+        ensure(fits, || round.told(wrong()))?;
+        let past = round.run(&[random.within(1, tree.node_count()) as u16])?;
+        ensure(matches!(past, (0, Some(refusal)) if refusal.number == 20), || round.told(format!("then {past:?}")))?;
+        seen.note("answered as the reading says");
+        seen.note_if("in more than 100 steps", reading.count > 100);
+    }
+    let wanted = [
+        (EMPTY_LIST, RUNS / 20),
+        (LIST_HELD, RUNS / 20),
+        (LIST_MISSED, RUNS / 50),
+        ("answered as the reading says", RUNS / 4),
+        ("in more than 100 steps", RUNS / 100),
+    ];
+    seen.often("runs to the answer", &wanted)
 }
 
 #[test]

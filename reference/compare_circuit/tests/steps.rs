@@ -11,7 +11,7 @@ use design::states::{any_state, arguments, damage_state};
 use design::towers::{any_comb, any_deep, any_tower};
 
 /// Schedules from a start, and rounds from any state.
-const SCHEDULES: usize = 10_000;
+const SCHEDULES: usize = 20_000;
 const STANDINGS: usize = 9_000;
 
 /// Steps up to which a reading is followed.

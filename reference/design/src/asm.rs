@@ -231,6 +231,17 @@ impl Reader {
         Ok(node)
     }
 
+    fn unknown_callee<T>(&self, name: &str) -> Result<T, TextError> {
+        let is_head = |pair: &&[(Token, usize)]| {
+            pair[0].0 == Token::Keyword("fun") && matches!(&pair[1].0, Token::Name(other) if other == name)
+        };
+        let later = match self.tokens[self.at..].windows(2).find(is_head) {
+            Some(head) => format!(", which is defined later, on line {}", head[1].1),
+            None => String::new(),
+        };
+        self.error(self.line(), format!("expected a primitive or a function defined so far, found `{name}`{later}"))
+    }
+
     fn call(&mut self, name: &str) -> Result<usize, TextError> {
         let line = self.line();
         let callee = self.functions.iter().position(|(other, _)| other == name);
@@ -243,7 +254,7 @@ impl Reader {
                 let count = self.functions[index].1;
                 (self.node(CALL, 0, index as u32 + 1)?, count, count)
             }
-            (None, None) => return self.expected("a primitive or a function defined so far"),
+            (None, None) => return self.unknown_callee(name),
         };
         self.at += 2;
         let mut children = Vec::new();

@@ -75,7 +75,9 @@ fn token(word: &str, start: char, line: usize) -> Result<Token, TextError> {
     if "(),=".contains(start) {
         return Ok(Token::Symbol(start));
     }
-    Err(TextError { line, message: format!("expected a name, a number or one of `(),=`, found `{start}`") })
+    // What can't be seen is told by its number.
+    let shown = if start.is_ascii_graphic() { start.to_string() } else { start.escape_debug().to_string() };
+    Err(TextError { line, message: format!("expected a name, a number or one of `(),=`, found `{shown}`") })
 }
 
 fn number(word: &str) -> Option<u32> {

@@ -20,6 +20,8 @@ fn errors_name_the_line_and_what_was_expected() {
     says("fun f(x)\n1", 2, "expected `=`, found `1`");
     says("fun f(x) = y", 1, "expected a parameter or a let name in scope, found `y`");
     says("fun f(x) = g(x)", 1, "expected a primitive or a function defined so far, found `g`");
+    let later = "expected a primitive or a function defined so far, found `g`, which is defined later, on line 3";
+    says("fun f(x) =\n  g(x)\nfun g(x) = x", 2, later);
     says("fun f(x) = x\nfun f(x) = x", 2, "expected a new function name, found `f` again");
     says("fun add(x) = x", 1, "expected a new function name, found `add` again");
     says("fun f(x) =\n\n  if x then 1", 3, "expected `else`, found the end of the text");

@@ -11,8 +11,10 @@ use design::towers::{any_comb, any_deep, any_tower};
 use design::{check, Node, Tree};
 use fast::{run_watched, Ending, State};
 
+type List = fn(&[u8], &mut [u8; 64]) -> u32;
+
 /// Both ways to the arbiter list.
-const LISTS: [fn(&[u8], &mut [u8; 64]) -> u32; 2] = [fast::list, fast::list_by_sets];
+const LISTS: [List; 2] = [fast::list, fast::list_by_sets];
 
 fn code(answer: Result<(), design::Refusal>) -> u32 {
     answer.map_or_else(|refusal| refusal.code(), |()| 0)
