@@ -7,10 +7,10 @@ const SAMPLES: usize = 61;
 const FEWEST_SAMPLES: usize = 5;
 
 /// A way has this long for all its samples on an input.
-const INPUT_NANOS: f64 = 5_000_000.0;
+const INPUT_NANOS: f64 = 8_000_000.0;
 
 /// A sample repeats its work for at least this long, so that reading the clock doesn't count.
-const SAMPLE_NANOS: f64 = 40_000.0;
+const SAMPLE_NANOS: f64 = 100_000.0;
 
 /// Medians over all inputs.
 pub struct Times<const WAYS: usize> {
@@ -61,8 +61,9 @@ fn plan(work: impl Fn()) -> Plan {
     }
 }
 
-/// Nanoseconds for one piece of work.
+/// Nanoseconds for one piece of work. One goes before the clock: else a way pays for what the one before it left behind.
 fn time(work: impl Fn(), repeats: usize) -> f64 {
+    work();
     let begin = Instant::now();
     for _ in 0..repeats {
         work();
