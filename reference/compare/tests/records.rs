@@ -41,7 +41,9 @@ fn records_in_order() -> Outcome {
         listed += usize::from(count > 0);
         all += count;
     }
-    ensure(listed > TABLES / 4 && all > TABLES, || format!("{listed} tables with a list, {all} records: too few to tell"))
+    ensure(listed > TABLES / 4 && all > TABLES, || {
+        format!("{listed} tables with a list, {all} records: too few to tell")
+    })
 }
 
 #[test]
