@@ -15,7 +15,7 @@ use Rattle.rules.specs.Reading.{ReadsTo}
 use Rattle.rules.specs.Runs.{RunPlays, andThen, standing, runFrom, runAfter, runOf, MainDone, mainValue, Ended, gave, atRest}
 use Rattle.rules.specs.Runs.{barred, Driven, Says, Picks, DrivesAfter, Drives, Found, names, nothing, unasked, FindsAfter, Finds}
 use Rattle.rules.specs.Demand.{Answers}
-use Rattle.rules.specs.Companions.{UnderAnyTags, DriveDemand}
+use Rattle.rules.specs.Companions.{UnderAnyTags, RunDemand, DriveDemand}
 use Rattle.rules.proofs.Logs.{played-state, played-nodes, asks-join}
 use Rattle.rules.proofs.Demands.{Passes, start-passes, under-any-tags}
 use Rattle.rules.proofs.AnyState.{refused-unchanged, done-none}
@@ -127,6 +127,17 @@ module _ (t tags args : List ℕ) (s : State512) (start : startOf t tags args �
   pub start-run : (ns ms : List ℕ)
       → RunPlays t tags (playOf t tags s ns .state) ms (runOf t tags (playOf t tags s ns .state) ms)
   start-run ns ms = run-plays t tags (playOf t tags s ns .state) ms (functions t) (nodes t) (start-stands ns)
+
+  -- the run's steps as steps since the start
+  pub run-demand : (ns ms : List ℕ) → RunDemand t tags s ns ms (runOf t tags (playOf t tags s ns .state) ms)
+  run-demand ns ms =
+      let p = start-run ns ms in
+      let k : ℕ = runOf t tags (playOf t tags s ns .state) ms .taken in
+      record {
+        state = sym (play-state t tags s ns (take k ms) ∙ p .state);
+        steps = play-nodes t tags s ns (take k ms) ∙ ap (λ l. playOf t tags s ns .nodes ++ l) (p .steps);
+        number = sym (p .number);
+      }
 
   -- a query says none only after the answer
   pub start-query : (ns : List ℕ) → Finds t tags (playOf t tags s ns .state) nothing → (v : ℕ) × Answers (playOf t tags s ns) v

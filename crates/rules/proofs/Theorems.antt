@@ -18,7 +18,7 @@ use Rattle.rules.specs.Circuit.{started, startOf, stepOf, playsOf, playO
 use Rattle.rules.specs.Runs.{standing, runOf, RunPlays, MainDone, mainValue, Driven, Drives, Found, nothing, Finds}
 use Rattle.rules.specs.Reading.{ReadsTo}
 use Rattle.rules.specs.Demand.{Answers, DemandThree, ThirdDemand}
-use Rattle.rules.specs.Companions.{Phases, UnderAnyTags, AgreeWithin, AgreePast, DriveDemand, Word, Words, Bytes, Fits}
+use Rattle.rules.specs.Companions.{Phases, UnderAnyTags, AgreeWithin, AgreePast, RunDemand, DriveDemand, Word, Words, Bytes, Fits}
 use Rattle.rules.proofs.Demands as Demands
 use Rattle.rules.proofs.OwnList as OwnList
 use Rattle.rules.proofs.AnyState as AnyState
@@ -147,6 +147,10 @@ module _ (t tags args : List ℕ) (s : State512) (start : startOf t tags args �
   -- a run over a list ms
   pub start-run : (ms : List ℕ) → RunPlays t tags (playOf t tags s ns .state) ms (runOf t tags (playOf t tags s ns .state) ms)
   start-run = RunFacts.start-run t tags args s start ns
+
+  -- its steps as steps since the start
+  pub run-demand : (ms : List ℕ) → RunDemand t tags s ns ms (runOf t tags (playOf t tags s ns .state) ms)
+  run-demand = RunFacts.run-demand t tags args s start ns
 
   -- a query says none only after the answer
   pub start-query : Finds t tags (playOf t tags s ns .state) nothing → (v : ℕ) × Answers (playOf t tags s ns) v

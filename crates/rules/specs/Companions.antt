@@ -5,7 +5,7 @@ use mathlib.Core.Logic.{_⊎_}
 use mathlib.Core.Bool.{true}
 use mathlib.Core.List.{List, _++_}
 use lib.Dec.{eqb}
-use lib.ListN.{length, getD}
+use lib.ListN.{length, getD, take}
 use Rattle.table.specs.Pick.{pick}
 use Rattle.table.specs.Bytes.{functions, nodes}
 use Rattle.table.specs.Check.{accepted}
@@ -16,7 +16,7 @@ use Rattle.rules.specs.State.{State512, View, entry, view}
 use Rattle.rules.specs.Step.{does, enters, leaves, refusal}
 use Rattle.rules.specs.Play.{Ask, count, calls}
 use Rattle.rules.specs.Circuit.{stepOf, playsOf, playOf, entriesOf, leavingsOf, Possible, actOf}
-use Rattle.rules.specs.Runs.{MainDone, mainValue, standing, gave, atRest, barred, Driven}
+use Rattle.rules.specs.Runs.{MainDone, mainValue, standing, gave, atRest, barred, Driven, Ran}
 use Rattle.rules.specs.Demand.{Answers}
 
 -- the steps at call node c of function f, k of them taken before: the next is the (k + 1)st
@@ -72,6 +72,13 @@ AgreeWithin t s s′ = Agree (λ n. (1 ≤ n) × (n ≤ nodes t)) (λ f. (1 ≤ 
 -- past N and F
 abbrev pub AgreePast : (t : List ℕ) → State512 → State512 → Type 0
 AgreePast t s s′ = Agree (λ n. nodes t < n) (λ f. functions t < f) (view s) (view s′)
+
+-- a run over the list ms, after steps asked at the numbers `ns` from a start, and what it tells
+-- "The steps of a run are such steps, and the number it tells is that of the steps taken in it"
+pub record RunDemand (t tags : List ℕ) (s : State512) (ns ms : List ℕ) (r : Ran) : Type 0 where
+  pub state : r .state ≡ playOf t tags s (ns ++ take (r .taken) ms) .state
+  pub steps : playOf t tags s (ns ++ take (r .taken) ms) .nodes ≡ playOf t tags s ns .nodes ++ take (r .taken) ms
+  pub number : r .taken ≡ length (take (r .taken) ms)
 
 -- a run with a budget, after steps asked at the numbers `ns` from a start; it picks the steps `picked`
 pub record DriveDemand (t tags args : List ℕ) (s : State512) (ns : List ℕ) (r : Driven) : Type 0 where
