@@ -1,16 +1,13 @@
 -- a node's calls and conflicts by its kind, and those of a chain of siblings, link by link
-use Prim.Native.Nat.{ℕ, zero, suc, _+_, _*_, _≤_, _<_}
+use Prim.Native.Nat.{ℕ, _≤_, _<_}
 use mathlib.Core.Path.{_≡_, refl, subst, sym, ap, ap₂, _∙_}
 use mathlib.Core.Bool.{Bool, true, false, _&&_, _||_, true≢false}
 use mathlib.Core.List.{List}
 use native.Mathlib.Omega.{arith}
-use lib.Bits.{bitOr, bitAnd}
 use lib.Dec.{eqb}
 use native.Mathlib.Decide.{ℕ-discrete}
-use Rattle.table.specs.Pick.{pick, Range}
 use Rattle.table.specs.Syntax.{Expr, Exprs, const, param, prim, call, self, cond, bind, bound, none, some}
 use Rattle.table.specs.Bytes.{functions, nodes, root, kind, extra, word, first, next}
-use Rattle.table.specs.Naming.{owner}
 use Rattle.table.specs.Expressions.{lastOf, exprsAt, exprAt, bodyOf, defsAt, finalAt, thenAt, elseAt}
 use Rattle.table.specs.Working.{IsNode, IsFunction, Linked}
 use Rattle.table.proofs.Passed.{Passed, passed}
@@ -18,16 +15,14 @@ use Rattle.table.proofs.Links.{link}
 use Rattle.table.proofs.Family.{first-node, next-node, owner-root, owner-first, owner-next, owner-in}
 use Rattle.table.proofs.Tree.{exprs-none, exprs-some, defs-none, defs-some}
 use Rattle.table.proofs.View.{View, is-const, is-param, is-prim, is-call, is-self, is-cond, is-bind, is-bound, view, kids-three}
-use Rattle.table.proofs.LaidOut.{laid}
 use Rattle.list.specs.Arbiters.{Test, nothing, joined, callsIn, parallel, conflicts}
-use Rattle.list.specs.Tags.{calleeOf, isCall, listed}
+use Rattle.list.specs.Tags.{calleeOf}
 use Rattle.list.specs.CallSets.{callee}
-use Rattle.list.specs.Working.{bitAt, Callee, Taken, callsBy, callsAt, callsAt*, conflictsAt, conflictsAt*, parallelAt, calledIn}
+use Rattle.list.specs.Working.{Taken, callsBy, callsAt, callsAt*, conflictsAt, conflictsAt*, parallelAt, calledIn}
 use Rattle.list.specs.Working.{twiceIn, siblings, kidsAt, Within, Beside, Reach}
-use Rattle.list.proofs.BitLaws.{or-bit, and-bit, zero-bit}
 use Rattle.list.proofs.Meets.{or-no}
-use Rattle.list.proofs.CallLaws.{or-left, or-right, calls-called, node-listed}
-use Rattle.list.proofs.ParallelLaws.{called-none, called-same, called-two}
+use Rattle.list.proofs.CallLaws.{or-left, calls-called, node-listed}
+use Rattle.list.proofs.ParallelLaws.{called-none}
 use Rattle.list.proofs.Callees.{callee-word}
 
 -- the calls s and the conflicts x of an expression
@@ -127,13 +122,6 @@ module _ (t : List ℕ) where
       and-no : (p : Bool) → p && false ≡ false
       and-no true = refl
       and-no false = refl
-
-  -- the masks of a node and of the siblings after it
-  pub twice-more : (e : Expr) (es : Exprs) (mask once twice h : ℕ) → bitAt mask h ≡ calledIn t (callsAt t e) h
-      → bitAt once h ≡ calledIn t (callsAt* t es) h → bitAt twice h ≡ twiceIn t es h
-      → bitAt (bitOr twice (bitAnd mask once)) h ≡ twiceIn t (some e es) h
-  twice-more e es mask once twice h p q r =
-      or-bit twice (bitAnd mask once) h ∙ ap₂ (λ a b. a || b) r (and-bit mask once h ∙ ap₂ (λ a b. a && b) p q) ∙ sym (some-twice e es h)
 
 module _ (t : List ℕ) (f n : ℕ) (at : Within t f n) where
   abbrev ok : Passed t

@@ -29,7 +29,7 @@ or-out : (a b : Bool) → a || b ≡ true → (a ≡ true) ⊎ (b ≡ true)
 or-out true b e = inl refl
 or-out false b e = inr e
 
-joined-is : (s s′ : Test) (m : ℕ) → joined s s′ m ≡ s m || s′ m
+pub joined-is : (s s′ : Test) (m : ℕ) → joined s s′ m ≡ s m || s′ m
 unfolding joined
 joined-is s s′ m = refl
 

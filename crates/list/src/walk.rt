@@ -164,29 +164,29 @@ fn chain_walk(
     ensures { λ r. ⌜ Chained (now (table .entry)) (f .0) (c .0) defs r (now (set .entry)) (now (set .exit))
         (now (bodies .exit)) (now (called .entry)) (now (called .exit)) (now (found .entry)) (now (found .exit)) ⌝ }
 {
-    let next = fields::next(table, c);
-    if next.0 == 0 {
-        if defs {
-            return Siblings {
-                once: 0,
-                twice: 0,
-                last: c,
-            };
-        }
-        let mask = node_walk(table, sites, f, c, bodies, called, found, set);
+    let mut at = c;
+    let mut once: u32 = 0;
+    let mut twice: u32 = 0;
+    let mut next = fields::next(table, at);
+    while next.0 != 0 {
+        let mask = node_walk(table, sites, f, at, bodies, called, found, set);
+        twice = twice | (once & mask);
+        once = once | mask;
+        at = next;
+        next = fields::next(table, at);
+    }
+    if defs {
         return Siblings {
-            once: mask,
-            twice: 0,
-            last: c,
+            once,
+            twice,
+            last: at,
         };
     }
-    let mask = node_walk(table, sites, f, c, bodies, called, found, set);
-    let rest = chain_walk(table, sites, f, next, defs, bodies, called, found, set);
-    let last = rest.last;
+    let mask = node_walk(table, sites, f, at, bodies, called, found, set);
     Siblings {
-        once: mask | rest.once,
-        twice: rest.twice | (mask & rest.once),
-        last,
+        once: once | mask,
+        twice: twice | (once & mask),
+        last: at,
     }
 }
 

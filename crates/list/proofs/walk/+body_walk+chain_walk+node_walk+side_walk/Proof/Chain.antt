@@ -1,69 +1,78 @@
 -- siblings, one after the other
-use Prim.Native.Nat.{ℕ}
-use mathlib.Core.Path.{_≡_, refl, sym, subst, _∙_}
+use Prim.Native.Nat.{ℕ, _-_}
+use mathlib.Core.Path.{_≡_, refl, sym, _∙_}
 use native.Mathlib.Omega.{arith}
-use Rattle.list.specs.Working.{Within}
+use Rattle.table.specs.Bytes.{nodes, next}
 use Rattle.list.proofs.NodeLaws.{reach, next-there}
-use Rattle.list.proofs.ChainLaws.{chain-end, chain-one, chain-more}
+use Rattle.list.proofs.SiblingLaws.{Along, along-none, along-more, along-body, along-last}
 use Rattle.list.proofs.walk.chain_walk.Reads as chain-walk
 use Rattle.list.proofs.fields.next.Reads as next-reads
 use Rattle.list.proofs.walk.node_walk.Reads as node-walk
 use Rattle.list.proofs.walk.+body_walk+chain_walk+node_walk+side_walk.Lts-chain_walk as lts
-use Rattle.list.proofs.walk.+body_walk+chain_walk+node_walk+side_walk.Proof.Measures.{chain-walk-at, chain-walk-below}
-use Rattle.list.proofs.walk.+body_walk+chain_walk+node_walk+side_walk.Proof.Measures.{node-walk-below}
+use Rattle.list.proofs.walk.+body_walk+chain_walk+node_walk+side_walk.Proof.Measures.{chain-walk-at, node-walk-below}
+
+abbrev pub Inv-loop : lts.InvT-loop
+Inv-loop table sites f defs bodies₀ called₀ found₀ set₀ at₀ once₀ twice₀ after₀ bodies called found set at once twice after =
+    Along table (f .0) (at₀ .0) defs (at .0) once twice set₀ set bodies called₀ called found₀ found × (after .0 ≡ next table (at .0))
+
+abbrev pub μ-loop : lts.MeasureT-loop
+μ-loop table sites f defs bodies₀ called₀ found₀ set₀ at₀ once₀ twice₀ after₀ bodies called found set at once twice after =
+    nodes table - at .0
 
 module _ (t : ℕ) where
   abbrev pub given : lts.Claims
-  given = (next-reads.Asked, next-reads.Learnt, node-walk-below t, node-walk.Post, chain-walk-below t, chain-walk.Post)
+  given = (next-reads.Asked, next-reads.Learnt, node-walk-below t, node-walk.Post)
 
-  pub next-requires : lts.Need-next-requires given (chain-walk-at t) chain-walk.Post
+  pub next-requires : lts.Need-next-requires given (chain-walk-at t) chain-walk.Post Inv-loop μ-loop
   next-requires c κs = reach _ _ _ (c .before .pre .1 .1 .0)
 
-  pub returns : lts.Need-returns given (chain-walk-at t) chain-walk.Post
+  pub loop-holds : lts.Need-loop-holds given (chain-walk-at t) chain-walk.Post Inv-loop μ-loop
+  loop-holds c =
+      let p = c .before .before .pre .1 in
+      (along-none _ _ _ _ _ _ _ _ (p .1 .0) (p .0) (p .1 .1 .1), c .next .ensures)
+
+  pub node-walk-requires : lts.Need-node-walk-requires given (chain-walk-at t) chain-walk.Post Inv-loop μ-loop
+  node-walk-requires c κs =
+      let p = c .before .before .before .before .before .before .before .before .before .pre in
+      let a = c .before .before .before .before .before .before .loop .inv .0 in
+      let w = a .left .walk in
+      (omega (arith, p .0, a .low), (w .added .size, (a .here, (p .1 .1 .1 .0, w .memo))))
+
+  pub next-requires-2 : lts.Need-next-requires-2 given (chain-walk-at t) chain-walk.Post Inv-loop μ-loop
+  next-requires-2 c κs =
+      let i = c .before .before .before .before .before .before .before .loop .inv in
+      let z = c .before .before .before .before .before .if1 .taken in
+      reach _ _ _ (along-more _ _ _ _ _ _ _ _ _ _ _ _ _ _ (i .0) _ _ _ _ _ _ (λ q. z (i .1 ∙ q)) (i .1) (c .node-walk .ensures) .here)
+
+  pub loop-less : lts.Need-loop-less given (chain-walk-at t) chain-walk.Post Inv-loop μ-loop
+  loop-less c =
+      let i = c .before .before .before .before .before .before .before .before .loop .inv in
+      let z = c .before .before .before .before .before .before .if1 .taken in
+      let u = next-there _ _ _ (i .0 .here) (λ q. z (i .1 ∙ q)) in
+      omega (arith, i .1, u .1, u .0 .node .1)
+
+  pub loop-again : lts.Need-loop-again given (chain-walk-at t) chain-walk.Post Inv-loop μ-loop
+  loop-again c =
+      let i = c .before .before .before .before .before .before .before .before .loop .inv in
+      let z = c .before .before .before .before .before .before .if1 .taken in (
+        along-more _ _ _ _ _ _ _ _ _ _ _ _ _ _ (i .0) _ _ _ _ _ _ (λ q. z (i .1 ∙ q)) (i .1) (c .before .node-walk .ensures),
+        c .next2 .ensures,
+      )
+
+  pub returns : lts.Need-returns given (chain-walk-at t) chain-walk.Post Inv-loop μ-loop
   returns c =
-      let p = c .before .before .before .before .before .pre .1 in
-      chain-end _ _ _ (p .1 .0) _ _ _ _ _ _ (c .if2 .taken) refl (sym (c .before .before .before .next .ensures)
-      ∙ c .before .if1 .taken) (p .0) (p .1 .1 .1)
+      let i = c .before .before .before .loop .inv in
+      along-body _ _ _ _ _ _ _ _ _ _ _ _ _ _ (i .0) _ (c .if2 .taken) refl (sym (i .1) ∙ c .before .if1 .left)
 
-  pub node-walk-requires : lts.Need-node-walk-requires given (chain-walk-at t) chain-walk.Post
-  node-walk-requires c κs = let p = c .before .before .before .before .before .before .before .before .before .pre in (
-    omega
-        (arith, p .0),
-    p .1,
-  )
+  pub node-walk-requires-2 : lts.Need-node-walk-requires-2 given (chain-walk-at t) chain-walk.Post Inv-loop μ-loop
+  node-walk-requires-2 c κs =
+      let p = c .before .before .before .before .before .before .before .before .before .before .pre in
+      let a = c .before .before .before .before .before .before .before .loop .inv .0 in
+      let w = a .left .walk in
+      (omega (arith, p .0, a .low), (w .added .size, (a .here, (p .1 .1 .1 .0, w .memo))))
 
-  pub returns-2 : lts.Need-returns-2 given (chain-walk-at t) chain-walk.Post
+  pub returns-2 : lts.Need-returns-2 given (chain-walk-at t) chain-walk.Post Inv-loop μ-loop
   returns-2 c =
-      let p = c .before .before .before .before .before .before .before .before .before .before .pre .1 in
-      chain-one _ _ _ (p .1 .0) _ _ _ _ _ _ _ _ _ _ (c .before .before .before .before .before .if2 .left) (sym
-      (c .before .before .before .before .before .before .before .before .next .ensures)
-      ∙ c .before .before .before .before .before .before .if1 .taken) (c .node-walk .ensures)
-
-  pub node-walk-requires-2 : lts.Need-node-walk-requires-2 given (chain-walk-at t) chain-walk.Post
-  node-walk-requires-2 c κs = let p = c .before .before .before .before .before .before .before .before .pre in (
-    omega
-        (arith, p .0),
-    p .1,
-  )
-
-  pub chain-walk-requires : lts.Need-chain-walk-requires given (chain-walk-at t) chain-walk.Post
-  chain-walk-requires c κs =
-      let p = c .before .before .before .before .before .before .before .before .before .before .before .before .before .pre in
-      let a = c .before .before .before .before .before .before .before .before .before .before .before .before .before .args in
-      let e = c .before .before .before .before .before .before .before .before .before .before .before .next .ensures in
-      let u = next-there (a .table .now) (a .f .0) (a .c .0) (p .1 .1 .0)
-      (λ q. c .before .before .before .before .before .before .before .before .before .if1 .left (e ∙ q)) in
-      let w = c .before .before .before .before .node-walk2 .ensures in
-      (omega (arith, p .0, e, u .1, u .0 .node .1), (w .added .size, (subst (Within _ _) (sym e) (u .0), (p .1 .1 .1 .0, w .memo))))
-
-  pub returns-3 : lts.Need-returns-3 given (chain-walk-at t) chain-walk.Post
-  returns-3 c =
-      let p = c .before .before .before .before .before .before .before .before .before .before .before .before .before .before
-      .before .before .before .before .pre .1 in
-      let e = c .before .before .before .before .before .before .before .before .before .before .before .before .before .before
-      .before .before .next .ensures in
-      chain-more _ _ _ (p .1 .0) _ _ _ _ (c .before .before .before .before .chain-walk .result) _ _ _ _ _ _ _ _ _ _ _
-      (λ q. c .before .before .before .before .before .before .before .before .before .before .before .before .before
-      .before .if1 .left (e ∙ q)) e refl
-      (c .before .before .before .before .before .before .before .before .before .node-walk2 .ensures)
-      (c .before .before .before .before .chain-walk .ensures)
+      let i = c .before .before .before .before .before .before .before .before .loop .inv in
+      along-last _ _ _ _ _ _ _ _ _ _ _ _ _ _ (i .0) _ _ _ _ _ _ (c .before .before .before .before .before .if2 .left)
+      (sym (i .1) ∙ c .before .before .before .before .before .before .if1 .left) (c .node-walk2 .ensures)
