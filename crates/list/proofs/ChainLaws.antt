@@ -1,14 +1,10 @@
--- what the walks along siblings and over children come to, from what they called
+-- what the walk over a node's children comes to, from what it called
 use Prim.Native.Nat.{ℕ}
 use mathlib.Core.Path.{_≡_, refl, subst, sym, ap, _∙_}
-use mathlib.Core.Bool.{Bool, true, false, _&&_, _||_, true≢false}
-use lib.Dec.{eqb}
-use borrow.Author.Tests.{eqb-true}
+use mathlib.Core.Bool.{Bool, true, false, _&&_, _||_}
 use Rattle.list.proofs.ParallelLaws.{parallel-is}
 use mathlib.Core.List.{List}
 use lib.ListN.{length, replicate}
-use Rattle.table.specs.declared.Node.{Node}
-use Rattle.table.specs.Pick.{pick}
 use Rattle.table.specs.Syntax.{none, some}
 use Rattle.table.specs.Bytes.{first, next}
 use Rattle.table.specs.Expressions.{exprAt}
@@ -16,27 +12,21 @@ use Rattle.list.specs.declared.walk.Siblings.{Siblings}
 use Rattle.list.specs.Arbiters.{joined}
 use Rattle.list.specs.Tags.{tagged, calleeOf}
 use Rattle.list.specs.Working.{callsAt, callsAt*, conflictsAt, conflictsAt*, parallelAt, siblings, kidsAt}
-use Rattle.list.specs.Working.{meetOf, Sited, Adds, Memo, Walk, Within, Chained, Beside, Sided}
+use Rattle.list.specs.Working.{meetOf, Sited, Adds, Memo, Walk, WalkKids, Within, Chained, Beside, Sided}
 use Rattle.list.proofs.WalkLaws.{walk-none, walk-same, walk-side}
 use Rattle.list.proofs.NodeLaws.{none-calls, none-conflicts, none-parallel, lone-calls}
 use Rattle.list.proofs.NodeLaws.{lone-conflicts, lone-twice, ends-plain}
 use Rattle.list.proofs.NodeLaws.{no-child}
 
-abbrev found : (once twice : ℕ) → Node → Siblings
-found o w x = record { once = o; twice = w; last = x }
-
 module _ (t : List ℕ) (f c : ℕ) (at : Within t f c) where
   -- no children
-  pub side-none : (defs : Bool) (x : Node) (set bodies called cs : List ℕ) → Beside t c defs → first t c ≡ 0 → length set ≡ 64
-      → Memo t bodies called cs → Sided t f c defs (found 0 0 x) set set bodies called called cs cs
-  side-none true x set bodies called cs b z l k = absurd (b .some refl z)
-  side-none false x set bodies called cs b z l k = record {
-    walk = subst (λ es. Walk t (callsAt* t es) (joined (parallelAt t es) (conflictsAt* t es)) 0 set set bodies called called cs cs)
-        (sym (no-child t f c at z))
-        (walk-none t (callsAt* t none) (joined (parallelAt t none) (conflictsAt* t none)) set bodies called cs
-        (none-calls t) none-both l k);
-    last = λ p. absurd (true≢false (sym p));
-  }
+  pub kids-none : (set bodies called cs : List ℕ) → first t c ≡ 0 → length set ≡ 64 → Memo t bodies called cs
+      → WalkKids t c false 0 set set bodies called called cs cs
+  kids-none set bodies called cs z l k =
+      subst (λ es. Walk t (callsAt* t es) (joined (parallelAt t es) (conflictsAt* t es)) 0 set set bodies called called cs cs)
+      (sym (no-child t f c at z))
+      (walk-none t (callsAt* t none) (joined (parallelAt t none) (conflictsAt* t none)) set bodies called cs
+      (none-calls t) none-both l k)
     where
       none-both : (m : ℕ) → joined (parallelAt t none) (conflictsAt* t none) m ≡ false
       none-both = unfold joined in (λ m. rw (none-parallel t m, none-conflicts t m))
@@ -55,21 +45,17 @@ module _ (t : List ℕ) (f c : ℕ) (at : Within t f c) where
       u = subst (λ k. Chained t f k defs r (replicate 64 0) own b′ q q′ g g′) y v
 
   -- one child alone
-  pub side-one : (defs b : Bool) (d mask : ℕ) (x : Node) (set set′ b′ q q′ g g′ : List ℕ) → Beside t c defs → Within t f d → d ≡ first t c
-      → b ≡ pick defs false (eqb (next t d) 0) → b ≡ true
+  pub kids-one : (d mask : ℕ) (set set′ b′ q q′ g g′ : List ℕ) → Beside t c false → Within t f d → d ≡ first t c → next t d ≡ 0
       → Walk t (callsAt t (exprAt t d)) (conflictsAt t (exprAt t d)) mask set set′ b′ q q′ g g′
-      → Sided t f c defs (found mask 0 x) set set′ b′ q q′ g g′
-  side-one true b d mask x set set′ b′ q q′ g g′ bs w y e z v = absurd (true≢false (sym z ∙ e))
-  side-one false b d mask x set set′ b′ q q′ g g′ bs w y e z v = record {
-    walk = subst (λ es. Walk t (callsAt* t es) (joined (parallelAt t es) (conflictsAt* t es)) mask set set′ b′ q q′ g g′) (sym here)
-        (walk-same t (callsAt t (exprAt t d)) (callsAt* t (some (exprAt t d) none)) (conflictsAt t (exprAt t d))
-        (joined (parallelAt t (some (exprAt t d) none)) (conflictsAt* t (some (exprAt t d) none))) mask set set′ b′ q q′ g g′
-        (lone-calls t (exprAt t d)) alone v);
-    last = λ p. absurd (true≢false (sym p));
-  }
+      → WalkKids t c false mask set set′ b′ q q′ g g′
+  kids-one d mask set set′ b′ q q′ g g′ bs w y z v =
+      subst (λ es. Walk t (callsAt* t es) (joined (parallelAt t es) (conflictsAt* t es)) mask set set′ b′ q q′ g g′) (sym here)
+      (walk-same t (callsAt t (exprAt t d)) (callsAt* t (some (exprAt t d) none)) (conflictsAt t (exprAt t d))
+      (joined (parallelAt t (some (exprAt t d) none)) (conflictsAt* t (some (exprAt t d) none))) mask set set′ b′ q q′ g g′
+      (lone-calls t (exprAt t d)) alone v)
     where
       here : kidsAt t false c ≡ some (exprAt t d) none
-      here = ap (siblings t false) (sym y) ∙ ends-plain t f d w (eqb-true (next t d) 0 (sym e ∙ z))
+      here = ap (siblings t false) (sym y) ∙ ends-plain t f d w z
 
       none-held : (m : ℕ) → parallelAt t (some (exprAt t d) none) m ≡ false
       none-held m =

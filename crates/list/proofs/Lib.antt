@@ -15,6 +15,7 @@ pub mod SiblingLaws
 pub mod ChainLaws
 pub mod ListLaws
 pub mod SiteLaws
+pub mod CellLaws
 pub mod NodeWalks
 pub mod WalkMeasure
 pub mod TagFacts

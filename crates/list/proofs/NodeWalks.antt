@@ -1,29 +1,23 @@
 -- what the walk of a node comes to, by its kind, from what it called
 use Prim.Native.Nat.{ℕ, _+_, _*_, _^_, _≤_, _<_}
 use mathlib.Core.Path.{_≡_, refl, subst, sym, ap, _∙_}
-use mathlib.Core.Bool.{Bool, true, false}
+use mathlib.Core.Bool.{true, false}
 use mathlib.Core.List.{List}
 use native.Mathlib.Omega.{arith}
 use lib.Bits.{bitOr}
 use lib.Dec.{eqb}
 use lib.ListN.{length, getD, set, replicate}
-use Rattle.table.specs.Bytes.{functions, nodes, root, kind, word, first}
-use Rattle.table.specs.Naming.{owner}
-use Rattle.table.specs.Expressions.{exprAt, bodyOf, finalAt}
-use Rattle.table.specs.Working.{IsNode, IsFunction}
+use Rattle.table.specs.Bytes.{root, kind, word, first}
+use Rattle.table.specs.Expressions.{exprAt, finalAt}
+use Rattle.table.specs.Working.{IsFunction}
 use Rattle.list.specs.declared.walk.Siblings.{Siblings}
 use Rattle.list.specs.Arbiters.{Test, nothing, joined}
-use Rattle.list.specs.Tags.{tagged}
+use Rattle.list.specs.Tags.{tagged, calleeOf}
 use Rattle.list.specs.Working.{Taken, callsBy, callsAt, callsAt*, conflictsAt, conflictsAt*, parallelAt, siblings, kidsAt, Seen}
-use Rattle.list.specs.Working.{Adds, Kept, Memo, Grown, Walk, Within, Chained, Sided}
-use Rattle.list.proofs.BitLaws.{bit-is}
-use Rattle.list.proofs.WalkLaws.{walk-none, walk-same, walk-two, walk-call, walk-body}
-use Rattle.list.proofs.NodeLaws.{Is, leaf, operation, again, Entering, entering, Choosing, choosing, Binding, binding, body-root}
-use Rattle.list.proofs.NodeLaws.{few, owner-few}
-
--- what is left where a kind is 3 to 6, and none of 5, 3 and 6: a call
-pub call-kind : (k : ℕ) → 3 ≤ k → k ≤ 6 → (k ≡ 5 → ⊥) → (k ≡ 3 → ⊥) → (k ≡ 6 → ⊥) → k ≡ 4
-call-kind k a b x y z = omega arith
+use Rattle.list.specs.Working.{entryAt, Adds, Kept, Memo, Grown, Walk, WalkKids, Within, KindTo, Chained, Sided}
+use Rattle.list.proofs.WalkLaws.{walk-none, walk-same, walk-two, walk-entry, walk-body}
+use Rattle.list.proofs.NodeLaws.{Is, leaf, apart, enters-none, enters-again, entering, choosing, binding, body-root}
+use Rattle.list.proofs.NodeLaws.{entry-none, entry-is, few, owner-few}
 
 module _ (t : List ℕ) (f n : ℕ) (at : Within t f n) where
   by-is : (s x : Test) (mask : ℕ) (set set′ b′ c c′ r r′ : List ℕ) → Is t (exprAt t n) s x → Walk t s x mask set set′ b′ c c′ r r′
@@ -31,14 +25,22 @@ module _ (t : List ℕ) (f n : ℕ) (at : Within t f n) where
   by-is s x mask set set′ b′ c c′ r r′ is w =
       walk-same t s (callsAt t (exprAt t n)) x (conflictsAt t (exprAt t n)) mask set set′ b′ c c′ r r′ (is .calls) (is .conflicts) w
 
+  -- what is left where a kind is 3 or 4, and not 3
+  pub call-kind : (k : ℕ) → KindTo t n k 4 → (k ≡ 3 → ⊥) → kind t n ≡ 4
+  call-kind k e q = sym (e .is) ∙ omega (arith, e .low, e .high, q)
+
+  none-there : (m : ℕ) → nothing m ≡ false
+  none-there = unfold nothing in (λ m. refl)
+
+  enter-none : (set b c r : List ℕ) → calleeOf t n ≡ 0 → length set ≡ 64 → Memo t b c r
+      → Walk t (entryAt t n) nothing 0 set set b c c r r
+  enter-none set b c r z l memo = walk-none t (entryAt t n) nothing set b c r (entry-none t n z) none-there l memo
+
   at-leaf : (k : ℕ) (set b c r : List ℕ) → k ≡ kind t n → (k ≡ 3 → ⊥) → (k ≡ 4 → ⊥) → (k ≡ 5 → ⊥) → (k ≡ 6 → ⊥) → length set ≡ 64
       → Memo t b c r → Walk t (callsAt t (exprAt t n)) (conflictsAt t (exprAt t n)) 0 set set b c c r r
   at-leaf k set b c r e x y z w l memo =
       by-is nothing nothing 0 set set b c c r r (leaf t f n at (λ q. x (e ∙ q)) (λ q. y (e ∙ q)) (λ q. z (e ∙ q)) (λ q. w (e ∙ q)))
       (walk-none t nothing nothing set b c r none-there none-there l memo)
-    where
-      none-there : (m : ℕ) → nothing m ≡ false
-      none-there = unfold nothing in (λ m. refl)
 
   -- kinds below 3 and above 6 are leaves
   pub at-low : (k : ℕ) (set b c r : List ℕ) → k ≡ kind t n → k < 3 → length set ≡ 64 → Memo t b c r
@@ -51,22 +53,21 @@ module _ (t : List ℕ) (f n : ℕ) (at : Within t f n) where
   at-high k set b c r e h =
       at-leaf k set b c r e (λ q. omega (arith, q, h)) (λ q. omega (arith, q, h)) (λ q. omega (arith, q, h)) (λ q. omega (arith, q, h))
 
-  pub at-operation : (k : ℕ) (s : Siblings) (set set′ b′ c c′ r r′ : List ℕ) → k ≡ kind t n → k ≡ 3
-      → Sided t f n false s set set′ b′ c c′ r r′
-      → Walk t (callsAt t (exprAt t n)) (conflictsAt t (exprAt t n)) (s .once) set set′ b′ c c′ r r′
-  at-operation k s set set′ b′ c c′ r r′ e q v =
+  -- an operation, a call: what it enters, then its children
+  pub at-apart : (k own mask : ℕ) (set set′ set″ b′ b″ c c′ c″ r r′ r″ : List ℕ) → KindTo t n k 6 → (k ≡ 5 → ⊥) → (k ≡ 6 → ⊥)
+      → Walk t (entryAt t n) nothing own set set′ b′ c c′ r r′ → WalkKids t n false mask set′ set″ b″ c′ c″ r′ r″
+      → Walk t (callsAt t (exprAt t n)) (conflictsAt t (exprAt t n)) (bitOr own mask) set set″ b″ c c″ r r″
+  at-apart k own mask set set′ set″ b′ b″ c c′ c″ r r′ r″ e x y v w =
       let es = kidsAt t false n in
-      by-is (callsAt* t es) (joined (parallelAt t es) (conflictsAt* t es)) (s .once) set set′ b′ c c′ r r′ (operation t f n at (sym e
-      ∙ q)) (v .walk)
-
-  pub at-again : (k w : ℕ) (s : Siblings) (set set′ b′ c c′ r r′ : List ℕ) → k ≡ kind t n → k ≡ 4 → w ≡ word t n → w ≡ f
-      → Sided t f n false s set set′ b′ c c′ r r′
-      → Walk t (callsAt t (exprAt t n)) (conflictsAt t (exprAt t n)) (s .once) set set′ b′ c c′ r r′
-  at-again k w s set set′ b′ c c′ r r′ e q u y v =
-      let es = kidsAt t false n in
-      by-is (callsAt* t es) (joined (parallelAt t es) (conflictsAt* t es)) (s .once) set set′ b′ c c′ r r′ (again t f n at (sym e
-      ∙ q) (sym u ∙ y))
-      (v .walk)
+      let held = joined (parallelAt t es) (conflictsAt* t es) in
+      by-is (joined (entryAt t n) (callsAt* t es)) held (bitOr own mask) set set″ b″ c c″ r r″
+      (apart t f n at (omega (arith, e .is, e .low)) (omega (arith, e .is, e .high, x, y)))
+      (walk-same t (joined (entryAt t n) (callsAt* t es)) (joined (entryAt t n) (callsAt* t es)) (joined nothing held) held
+      (bitOr own mask) set set″ b″ c c″ r r″ (λ m. refl) (none-joined held)
+      (walk-two t (entryAt t n) (callsAt* t es) nothing held own mask set set′ set″ b′ b″ c c′ c″ r r′ r″ v w))
+    where
+      none-joined : (x : Test) (m : ℕ) → x m ≡ joined nothing x m
+      none-joined x = unfold joined nothing in (λ m. refl)
 
   pub at-choice : (k d : ℕ) (s : Siblings) (set set′ b′ c c′ r r′ : List ℕ) → k ≡ kind t n → k ≡ 5 → d ≡ first t n
       → Chained t f d false s set set′ b′ c c′ r r′
@@ -92,33 +93,34 @@ module _ (t : List ℕ) (f n : ℕ) (at : Within t f n) where
       c′ c″ r r′ r″ (v .walk)
       (subst (λ u. Walk t (callsAt t u) (conflictsAt t u) mask set′ set″ b″ c′ c″ r′ r″) (sym (v .last refl .3)) w))
 
+  -- an operation and a self call enter nothing
+  pub at-same : (k : ℕ) (set b c r : List ℕ) → KindTo t n k 4 → k ≡ 3 → length set ≡ 64 → Memo t b c r
+      → Walk t (entryAt t n) nothing 0 set set b c c r r
+  at-same k set b c r e q = enter-none set b c r (enters-none t f n at (sym (e .is) ∙ q))
+
+  pub at-again : (k w : ℕ) (set b c r : List ℕ) → KindTo t n k 4 → (k ≡ 3 → ⊥) → w ≡ word t n → w ≡ f → length set ≡ 64 → Memo t b c r
+      → Walk t (entryAt t n) nothing 0 set set b c c r r
+  at-again k w set b c r e q u y = enter-none set b c r (enters-again t f n at (call-kind k e q) (sym u ∙ y))
+
   -- the callee's number
-  pub callee-there : (k w : ℕ) → k ≡ kind t n → k ≡ 4 → w ≡ word t n → (w ≡ f → ⊥) → IsFunction t w × (w < f) × (w ≤ 31)
+  pub callee-there : (k w : ℕ) → KindTo t n k 4 → (k ≡ 3 → ⊥) → w ≡ word t n → (w ≡ f → ⊥) → IsFunction t w × (w < f) × (w ≤ 31)
   callee-there k w e q u y =
-      let g = entering t f n at (sym e ∙ q) (λ z. y (u ∙ z)) in
+      let g = entering t f n at (call-kind k e q) (λ z. y (u ∙ z)) in
       let o = owner-few t f n at in
       let l = few t (at .taken) .0 in
       ((omega (arith, g .low, u), omega (arith, g .below, u, o .1)), omega (arith, g .below, u), omega (arith, g .below, u, o .1, l))
 
-  pub at-call : (k w v : ℕ) (s : Siblings) (set set′ set″ set‴ b′ b″ c c′ c″ r r′ r″ : List ℕ) → k ≡ kind t n → k ≡ 4 → w ≡ word t n
-      → (w ≡ f → ⊥)
-      → v ≡ 2 ^ w → Sided t f n false s set set′ b′ c c′ r r′ → Memo t b″ c″ r″ × Grown c′ c″ r′ r″ × Seen c″ w → Adds (eqb n) set′ set″
-      → Adds (λ m. tagged b″ (512 * w + m)) set″ set‴
-      → Walk t (callsAt t (exprAt t n)) (conflictsAt t (exprAt t n)) (bitOr (s .once) (bitOr (getD c″ w 0) v)) set set‴ b″ c c″ r r″
-  at-call k w v s set set′ set″ set‴ b′ b″ c c′ c″ r r′ r″ e q u y h side body put add =
-      let es = kidsAt t false n in
-      let g = entering t f n at (sym e ∙ q) (λ z. y (u ∙ z)) in
+  -- a call of another function
+  pub at-entry : (k w v : ℕ) (set set′ set″ b c c′ r r′ : List ℕ) → KindTo t n k 4 → (k ≡ 3 → ⊥) → w ≡ word t n → (w ≡ f → ⊥) → v ≡ 2 ^ w
+      → Memo t b c′ r′ × Grown c c′ r r′ × Seen c′ w → Adds (eqb n) set set′ → Adds (λ m. tagged b (512 * w + m)) set′ set″
+      → Walk t (entryAt t n) nothing (bitOr (getD c′ w 0) v) set set″ b c c′ r r′
+  at-entry k w v set set′ set″ b c c′ r r′ e q u y h body put add =
+      let g = entering t f n at (call-kind k e q) (λ z. y (u ∙ z)) in
       let i = callee-there k w e q u y in
-      subst (λ z. Walk t (callsAt t (exprAt t n)) (conflictsAt t (exprAt t n)) (bitOr (s .once) (bitOr
-      (getD c″ w 0) z)) set set‴ b″ c c″ r r″) (sym h)
-      (by-is (joined (callsAt* t es) (joined (eqb n) (callsBy t w))) (joined (parallelAt t es) (conflictsAt* t es))
-      (bitOr (s .once) (bitOr (getD c″ w 0) (2 ^ w))) set set‴ b″ c c″ r r″
-      (subst (λ z. Is t (exprAt t n) (joined (callsAt* t es) (joined (eqb n) (callsBy t z))) (joined (parallelAt t es)
-      (conflictsAt* t es))) (sym u)
-      (g .is))
-      (walk-call t n w (callsAt* t es) (joined (parallelAt t es) (conflictsAt* t es)) (s .once) set set′ set″ set‴ b′ b″ c c′ c″ r r′ r″
-      (at .node)
-      (i .0) (g .target ∙ sym u) (side .walk) (body .0) (body .1) (body .2) put add))
+      subst (λ z. Walk t (entryAt t n) nothing (bitOr (getD c′ w 0) z) set set″ b c c′ r r′) (sym h)
+      (walk-same t (joined (eqb n) (callsBy t w)) (entryAt t n) nothing nothing (bitOr (getD c′ w 0) (2 ^ w)) set set″ b c c′ r r′
+      (entry-is t n w (g .target ∙ sym u) (i .0 .0)) (λ m. refl)
+      (walk-entry t n w set set′ set″ b c c′ r r′ (at .node) (i .0) (g .target ∙ sym u) (body .0) (body .1) (body .2) put add))
 
 -- a body, walked from its root
 pub at-body : (t : List ℕ) → Taken t → (g d mask : ℕ) (own b′ b″ c c′ r r′ : List ℕ) → IsFunction t g → d ≡ root t g
