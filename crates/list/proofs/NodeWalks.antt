@@ -112,15 +112,15 @@ module _ (t : List ℕ) (f n : ℕ) (at : Within t f n) where
 
   -- a call of another function
   pub at-entry : (k w v : ℕ) (set set′ set″ b c c′ r r′ : List ℕ) → KindTo t n k 4 → (k ≡ 3 → ⊥) → w ≡ word t n → (w ≡ f → ⊥) → v ≡ 2 ^ w
-      → Memo t b c′ r′ × Grown c c′ r r′ × Seen c′ w → Adds (eqb n) set set′ → Adds (λ m. tagged b (512 * w + m)) set′ set″
+      → Memo t b c′ r′ × Grown c c′ r r′ × Seen c′ w → Adds (λ m. tagged b (512 * w + m)) set set′ → Adds (eqb n) set′ set″
       → Walk t (entryAt t n) nothing (bitOr (getD c′ w 0) v) set set″ b c c′ r r′
-  at-entry k w v set set′ set″ b c c′ r r′ e q u y h body put add =
+  at-entry k w v set set′ set″ b c c′ r r′ e q u y h body add put =
       let g = entering t f n at (call-kind k e q) (λ z. y (u ∙ z)) in
       let i = callee-there k w e q u y in
       subst (λ z. Walk t (entryAt t n) nothing (bitOr (getD c′ w 0) z) set set″ b c c′ r r′) (sym h)
       (walk-same t (joined (eqb n) (callsBy t w)) (entryAt t n) nothing nothing (bitOr (getD c′ w 0) (2 ^ w)) set set″ b c c′ r r′
       (entry-is t n w (g .target ∙ sym u) (i .0 .0)) (λ m. refl)
-      (walk-entry t n w set set′ set″ b c c′ r r′ (at .node) (i .0) (g .target ∙ sym u) (body .0) (body .1) (body .2) put add))
+      (walk-entry t n w set set′ set″ b c c′ r r′ (at .node) (i .0) (g .target ∙ sym u) (body .0) (body .1) (body .2) add put))
 
 -- a body, walked from its root
 pub at-body : (t : List ℕ) → Taken t → (g d mask : ℕ) (own b′ b″ c c′ r r′ : List ℕ) → IsFunction t g → d ≡ root t g

@@ -117,14 +117,14 @@ module _ (t : List ℕ) where
 
   -- a call of another function: itself, and its callee's body, which has been walked
   pub walk-entry : (n g : ℕ) (set set′ set″ b c c′ f f′ : List ℕ) → IsNode t n → IsFunction t g → calleeOf t n ≡ g → Memo t b c′ f′
-      → Grown c c′ f f′ → Seen c′ g → Adds (eqb n) set set′ → Adds (λ m. tagged b (512 * g + m)) set′ set″
+      → Grown c c′ f f′ → Seen c′ g → Adds (λ m. tagged b (512 * g + m)) set set′ → Adds (eqb n) set′ set″
       → Walk t (joined (eqb n) (callsBy t g)) nothing (bitOr (getD c′ g 0) (2 ^ g)) set set″ b c c′ f f′
-  walk-entry n g set set′ set″ b c c′ f f′ i j e k grow seen put add = record {
+  walk-entry n g set set′ set″ b c c′ f f′ i j e k grow seen add put = record {
     memo = k;
     grown = grow;
-    added = adds-two (eqb n) (callsBy t g) (joined (eqb n) (callsBy t g)) set set′ set″ put
-        (adds-same (λ m. tagged b (512 * g + m)) (callsBy t g) set′ set″ add (λ m b. sym (k .sets g m j seen b)))
-        (λ m b. joined-is (eqb n) (callsBy t g) m);
+    added = adds-two (callsBy t g) (eqb n) (joined (eqb n) (callsBy t g)) set set′ set″
+        (adds-same (λ m. tagged b (512 * g + m)) (callsBy t g) set set′ add (λ m b. sym (k .sets g m j seen b))) put
+        (λ m b. joined-is (eqb n) (callsBy t g) m ∙ or-swap (eqb n m) (callsBy t g m));
     functions = λ h q. or-bit (getD c′ g 0) (2 ^ g) h
         ∙ ap₂ (λ p q. p || q) (k .masks g h j seen q) (pow-bit g h ∙ turn g h ∙ ap (eqb h) (sym e))
         ∙ or-swap (calledIn t (callsBy t g) h) (eqb h (calleeOf t n)) ∙ ap (λ p. p || calledIn t (callsBy t g) h) (sym (called-one t n h i))

@@ -131,8 +131,8 @@ fn enter_walk(
     }
     let g = Function(word);
     body_walk(table, cells, sites, g, bodies, called, found);
-    bits::put(set, n);
     bits::join_at(set, bodies, g);
+    bits::put(set, n);
     let at = word as usize;
     let below = called[at];
     below | (1u32 << word)

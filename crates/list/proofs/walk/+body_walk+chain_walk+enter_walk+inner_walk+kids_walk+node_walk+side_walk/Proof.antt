@@ -43,7 +43,7 @@ pub +body-walk+chain-walk+enter-walk+inner-walk+kids-walk+node-walk+side-walk-sp
     (chain.next-requires t) (chain.loop-holds t) (chain.node-walk-requires t) (chain.next-requires-2 t) (chain.loop-less t)
     (chain.loop-again t) (chain.returns t) (chain.node-walk-requires-2 t) (chain.returns-2 t))
     (λ t. enter-lts.spec (enter.given t) (measures.enter-walk-at t) enter-walk.Post (enter.returns t) (enter.word-requires t)
-    (enter.returns-2 t) (enter.body-walk-requires t) (enter.put-requires t) (enter.join-at-requires t) (enter.cast-at t)
+    (enter.returns-2 t) (enter.body-walk-requires t) (enter.join-at-requires t) (enter.put-requires t) (enter.cast-at t)
     (enter.mul-below t) (enter.element-copy-out-below t) (enter.cast-result t) (enter.shl-result t) (enter.returns-3 t))
     (λ t. inner-lts.spec (inner.given t) (measures.inner-walk-at t) inner-walk.Post (inner.first-requires t)
     (inner.chain-walk-requires t) (inner.returns t) (inner.side-walk-requires t) (inner.node-walk-requires t)

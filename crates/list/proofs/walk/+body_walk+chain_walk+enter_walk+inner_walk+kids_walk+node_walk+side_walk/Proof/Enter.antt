@@ -20,10 +20,10 @@ module _ (t : ℕ) where
     word-reads.Learnt,
     measures.body-walk-below t,
     body-walk.Post,
-    put-reads.Asked,
-    put-reads.Learnt,
     join-at-reads.Asked,
     join-at-reads.Learnt,
+    put-reads.Asked,
+    put-reads.Learnt,
   )
 
   pub returns : lts.Need-returns given (measures.enter-walk-at t) enter-walk.Post
@@ -55,19 +55,18 @@ module _ (t : ℕ) where
         ),
       )
 
-  pub put-requires : lts.Need-put-requires given (measures.enter-walk-at t) enter-walk.Post
-  put-requires c κs =
-      let p = c .before .before .before .before .before .before .before .before .before .before .pre .1 in
-      let w = p .1 .0 in
-      (p .0, (w .node .0, omega (arith, w .node .1, few _ (w .taken) .1)))
-
   pub join-at-requires : lts.Need-join-at-requires given (measures.enter-walk-at t) enter-walk.Post
   join-at-requires c κs =
-      let p = c .before .before .before .before .before .before .before .before .before .before .before .before .before .pre .1 in
+      let p = c .before .before .before .before .before .before .before .before .before .before .before .pre .1 in
       let u = callee-there _ _ _ (p .1 .0) _ _ (p .1 .1 .0) (c .before .before .before .before .before .before .before .before .before
-      .before .before .if1 .left) (c .before .before .before .before .before .before .before .before .before .before .word .ensures) (c
-      .before .before .before .before .before .before .before .before .if2 .left) in
-      (c .before .before .put .ensures .size, omega (arith, u .2))
+      .if1 .left) (c .before .before .before .before .before .before .before .before .word .ensures) (c .before .before .before .before
+      .before .before .if2 .left) in
+      (p .0, omega (arith, u .2))
+
+  pub put-requires : lts.Need-put-requires given (measures.enter-walk-at t) enter-walk.Post
+  put-requires c κs =
+      let w = c .before .before .before .before .before .before .before .before .before .before .before .before .before .pre .1 .1 .0 in
+      (c .before .join-at .ensures .size, (w .node .0, omega (arith, w .node .1, few _ (w .taken) .1)))
 
   pub cast-at : lts.Need-cast-at given (measures.enter-walk-at t) enter-walk.Post
   cast-at c = search needs
@@ -111,5 +110,5 @@ module _ (t : ℕ) where
       .before .before .before .before .before .if1 .left) (c .before .before .before .before .before .before .before .before .before
       .before .before .before .word .ensures) (c .before .before .before .before .before .before .before .before .before .before .if2
       .left)
-      (bit-is _ 32 (omega (arith, u .2))) (c .before .before .before .before .before .before .body-walk .ensures) (c .before .before
-      .before .before .put .ensures) (c .before .join-at .ensures)
+      (bit-is _ 32 (omega (arith, u .2))) (c .before .before .before .before .before .before .body-walk .ensures)
+      (c .before .before .before .join-at .ensures) (c .before .put .ensures)
