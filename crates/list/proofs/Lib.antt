@@ -11,6 +11,7 @@ pub mod CallLaws
 pub mod ParallelLaws
 pub mod WalkLaws
 pub mod NodeLaws
+pub mod OntoLaws
 pub mod SiblingLaws
 pub mod ChainLaws
 pub mod ListLaws

@@ -14,8 +14,9 @@ use Rattle.list.specs.declared.walk.Siblings.{Siblings}
 use Rattle.list.specs.Arbiters.{Test, nothing, joined}
 use Rattle.list.specs.Tags.{tagged, calleeOf}
 use Rattle.list.specs.Working.{Taken, callsBy, callsAt, callsAt*, conflictsAt, conflictsAt*, parallelAt, siblings, kidsAt, Seen}
-use Rattle.list.specs.Working.{entryAt, Adds, Kept, Memo, Grown, Walk, WalkKids, Within, KindTo, Chained, Sided}
-use Rattle.list.proofs.WalkLaws.{walk-none, walk-same, walk-two, walk-entry, walk-body}
+use Rattle.list.specs.Working.{entryAt, Adds, Kept, Memo, Grown, Walk, Onto, OntoNode, OntoKids, Within, KindTo, Chained, Sided}
+use Rattle.list.proofs.WalkLaws.{walk-none, walk-same, walk-entry, walk-body}
+use Rattle.list.proofs.OntoLaws.{onto-one, onto-walk, onto-same, onto-two}
 use Rattle.list.proofs.NodeLaws.{Is, leaf, apart, enters-none, enters-again, entering, choosing, binding, body-root}
 use Rattle.list.proofs.NodeLaws.{entry-none, entry-is, few, owner-few}
 
@@ -54,17 +55,16 @@ module _ (t : List ℕ) (f n : ℕ) (at : Within t f n) where
       at-leaf k set b c r e (λ q. omega (arith, q, h)) (λ q. omega (arith, q, h)) (λ q. omega (arith, q, h)) (λ q. omega (arith, q, h))
 
   -- an operation, a call: what it enters, then its children
-  pub at-apart : (k own mask : ℕ) (set set′ set″ b′ b″ c c′ c″ r r′ r″ : List ℕ) → KindTo t n k 6 → (k ≡ 5 → ⊥) → (k ≡ 6 → ⊥)
-      → Walk t (entryAt t n) nothing own set set′ b′ c c′ r r′ → WalkKids t n false mask set′ set″ b″ c′ c″ r′ r″
-      → Walk t (callsAt t (exprAt t n)) (conflictsAt t (exprAt t n)) (bitOr own mask) set set″ b″ c c″ r r″
-  at-apart k own mask set set′ set″ b′ b″ c c′ c″ r r′ r″ e x y v w =
+  pub at-apart : (k mask mask′ mask″ : ℕ) (set set′ set″ b′ b″ c c′ c″ r r′ r″ : List ℕ) → KindTo t n k 6 → (k ≡ 5 → ⊥) → (k ≡ 6 → ⊥)
+      → Onto t (entryAt t n) nothing mask mask′ set set′ b′ c c′ r r′ → OntoKids t n mask′ mask″ set′ set″ b″ c′ c″ r′ r″
+      → OntoNode t n mask mask″ set set″ b″ c c″ r r″
+  at-apart k mask mask′ mask″ set set′ set″ b′ b″ c c′ c″ r r′ r″ e x y v w =
       let es = kidsAt t false n in
       let held = joined (parallelAt t es) (conflictsAt* t es) in
-      by-is (joined (entryAt t n) (callsAt* t es)) held (bitOr own mask) set set″ b″ c c″ r r″
-      (apart t f n at (omega (arith, e .is, e .low)) (omega (arith, e .is, e .high, x, y)))
-      (walk-same t (joined (entryAt t n) (callsAt* t es)) (joined (entryAt t n) (callsAt* t es)) (joined nothing held) held
-      (bitOr own mask) set set″ b″ c c″ r r″ (λ m. refl) (none-joined held)
-      (walk-two t (entryAt t n) (callsAt* t es) nothing held own mask set set′ set″ b′ b″ c c′ c″ r r′ r″ v w))
+      let is = apart t f n at (omega (arith, e .is, e .low)) (omega (arith, e .is, e .high, x, y)) in
+      onto-same t (joined (entryAt t n) (callsAt* t es)) (joined nothing held) mask set set″ b″ c c″ r r″ (callsAt t (exprAt t n))
+      (conflictsAt t (exprAt t n)) mask″ (is .calls) (λ m. is .conflicts m ∙ none-joined held m)
+      (onto-two t (entryAt t n) nothing mask set set′ b′ c c′ r r′ (callsAt* t es) held mask′ mask″ set″ b″ c″ r″ v w)
     where
       none-joined : (x : Test) (m : ℕ) → x m ≡ joined nothing x m
       none-joined x = unfold joined nothing in (λ m. refl)
@@ -78,20 +78,19 @@ module _ (t : List ℕ) (f n : ℕ) (at : Within t f n) where
       (subst (λ x. Walk t (callsAt* t (siblings t false x)) (conflictsAt* t (siblings t false x)) (s .once) set set′ b′ c c′ r r′) y
       (v .walk))
 
-  pub at-let : (k : ℕ) (s : Siblings) (mask : ℕ) (set set′ set″ b′ b″ c c′ c″ r r′ r″ : List ℕ) → k ≡ kind t n → k ≡ 6
-      → Sided t f n true s set set′ b′ c c′ r r′
-      → Walk t (callsAt t (exprAt t (s .last .0))) (conflictsAt t (exprAt t (s .last .0))) mask set′ set″ b″ c′ c″ r′ r″
-      → Walk t (callsAt t (exprAt t n)) (conflictsAt t (exprAt t n)) (bitOr (s .once) mask) set set″ b″ c c″ r r″
-  at-let k s mask set set′ set″ b′ b″ c c′ c″ r r′ r″ e q v w =
+  pub at-let : (k mask mask′ : ℕ) (s : Siblings) (set set′ set″ b′ b″ c c′ c″ r r′ r″ : List ℕ) → k ≡ kind t n → k ≡ 6
+      → Sided t f n true s set set′ b′ c c′ r r′ → OntoNode t (s .last .0) (bitOr mask (s .once)) mask′ set′ set″ b″ c′ c″ r′ r″
+      → OntoNode t n mask mask′ set set″ b″ c c″ r r″
+  at-let k mask mask′ s set set′ set″ b′ b″ c c′ c″ r r′ r″ e q v w =
       let ds = kidsAt t true n in
       let b = finalAt t (first t n) in
-      by-is (joined (callsAt* t ds) (callsAt t b)) (joined (joined (parallelAt t ds) (conflictsAt* t ds)) (conflictsAt t b)) (bitOr
-      (s .once) mask)
-      set set″ b″ c c″ r r″ (binding t f n at (sym e ∙ q) .is)
-      (walk-two t (callsAt* t ds) (callsAt t b) (joined (parallelAt t ds) (conflictsAt* t ds)) (conflictsAt t b)
-      (s .once) mask set set′ set″ b′ b″ c
-      c′ c″ r r′ r″ (v .walk)
-      (subst (λ u. Walk t (callsAt t u) (conflictsAt t u) mask set′ set″ b″ c′ c″ r′ r″) (sym (v .last refl .3)) w))
+      let held = joined (parallelAt t ds) (conflictsAt* t ds) in
+      let is = binding t f n at (sym e ∙ q) .is in
+      onto-same t (joined (callsAt* t ds) (callsAt t b)) (joined held (conflictsAt t b)) mask set set″ b″ c c″ r r″
+      (callsAt t (exprAt t n)) (conflictsAt t (exprAt t n)) mask′ (is .calls) (is .conflicts)
+      (onto-two t (callsAt* t ds) held mask set set′ b′ c c′ r r′ (callsAt t b) (conflictsAt t b) (bitOr mask (s .once)) mask′ set″ b″ c″ r″
+      (onto-one t (callsAt* t ds) held mask set set′ b′ c c′ r r′ (s .once) (v .walk))
+      (subst (λ u. Onto t (callsAt t u) (conflictsAt t u) (bitOr mask (s .once)) mask′ set′ set″ b″ c′ c″ r′ r″) (sym (v .last refl .3)) w))
 
   -- an operation and a self call enter nothing
   pub at-same : (k : ℕ) (set b c r : List ℕ) → KindTo t n k 4 → k ≡ 3 → length set ≡ 64 → Memo t b c r
@@ -124,9 +123,10 @@ module _ (t : List ℕ) (f n : ℕ) (at : Within t f n) where
 
 -- a body, walked from its root
 pub at-body : (t : List ℕ) → Taken t → (g d mask : ℕ) (own b′ b″ c c′ r r′ : List ℕ) → IsFunction t g → d ≡ root t g
-    → Walk t (callsAt t (exprAt t d)) (conflictsAt t (exprAt t d)) mask (replicate 64 0) own b′ c c′ r r′ → Kept g own b′ b″
+    → OntoNode t d 0 mask (replicate 64 0) own b′ c c′ r r′ → Kept g own b′ b″
     → Memo t b″ (set c′ g (bitOr mask 1)) r′ × Grown c (set c′ g (bitOr mask 1)) r r′ × Seen (set c′ g (bitOr mask 1)) g
 at-body t ok g d mask own b′ b″ c c′ r r′ i e w kept =
     walk-body t ok g mask own b′ b″ c c′ r r′ i (omega (arith, i .1, few t ok .0))
     (subst (λ u. Walk t (callsAt t u) (conflictsAt t u) mask (replicate 64 0) own b′ c c′ r r′) (ap (exprAt t) e
-    ∙ sym (body-root t g)) w) kept
+    ∙ sym (body-root t g))
+    (onto-walk t (callsAt t (exprAt t d)) (conflictsAt t (exprAt t d)) mask (replicate 64 0) own b′ c c′ r r′ w)) kept

@@ -15,11 +15,12 @@ use Rattle.table.specs.Working.{IsNode}
 use Rattle.list.specs.declared.walk.Siblings.{Siblings}
 use Rattle.list.specs.Arbiters.{Test, nothing, joined}
 use Rattle.list.specs.Working.{bitAt, Callee, callsAt, callsAt*, conflictsAt, conflictsAt*, calledIn, twiceIn, siblings}
-use Rattle.list.specs.Working.{Memo, Walk, Within, Chained}
+use Rattle.list.specs.Working.{Memo, Walk, OntoNode, Within, Chained}
 use Rattle.list.proofs.BitLaws.{or-bit, and-bit, zero-bit}
 use Rattle.list.proofs.Meets.{or-no}
 use Rattle.list.proofs.ParallelLaws.{called-none, called-same, called-two}
 use Rattle.list.proofs.WalkLaws.{joined-is, walk-none, walk-same, walk-two}
+use Rattle.list.proofs.OntoLaws.{onto-walk}
 use Rattle.list.proofs.NodeLaws.{none-calls, none-conflicts, none-twice, some-calls, some-conflicts, some-twice}
 use Rattle.list.proofs.NodeLaws.{ends-defs, ends-plain, goes-on, final-here, final-next, next-there}
 
@@ -134,7 +135,7 @@ module _ (t : List ℕ) (f c : ℕ) (defs : Bool) where
   module _ (n once twice : ℕ) (set set′ b′ q q′ r r′ : List ℕ) (a : Along t f c defs n once twice set set′ b′ q q′ r r′) where
     -- a node that is not the last
     pub along-more : (d mask : ℕ) (set″ b″ q″ r″ : List ℕ) → (next t n ≡ 0 → ⊥) → d ≡ next t n
-        → Walk t (callsAt t (exprAt t n)) (conflictsAt t (exprAt t n)) mask set′ set″ b″ q′ q″ r′ r″
+        → OntoNode t n 0 mask set′ set″ b″ q′ q″ r′ r″
         → Along t f c defs d (bitOr once mask) (bitOr twice (bitAnd once mask)) set set″ b″ q q″ r r″
     along-more d mask set″ b″ q″ r″ z y w =
         let u = next-there t f n (a .here) z in
@@ -144,7 +145,8 @@ module _ (t : List ℕ) (f c : ℕ) (defs : Bool) where
           final = a .final ∙ final-next t f n (a .here) z ∙ ap (finalAt t) (sym y);
           left = left-more t (siblings t defs c) (exprAt t n) (siblings t defs d) once twice mask set set′ set″ b′ b″ q q′ q″ r r′ r″
               (subst (λ es. Left t (siblings t defs c) es once twice set set′ b′ q q′ r r′)
-              (goes-on t f n (a .here) defs z ∙ ap (λ k. some (exprAt t n) (siblings t defs k)) (sym y)) (a .left)) w;
+              (goes-on t f n (a .here) defs z ∙ ap (λ k. some (exprAt t n) (siblings t defs k)) (sym y)) (a .left))
+              (onto-walk t (callsAt t (exprAt t n)) (conflictsAt t (exprAt t n)) mask set′ set″ b″ q′ q″ r′ r″ w);
         }
 
     -- a let's body ends the definientia
@@ -163,7 +165,7 @@ module _ (t : List ℕ) (f c : ℕ) (defs : Bool) where
 
     -- the last sibling
     pub along-last : (x : Node) (mask : ℕ) (set″ b″ q″ r″ : List ℕ) → defs ≡ false → next t n ≡ 0
-        → Walk t (callsAt t (exprAt t n)) (conflictsAt t (exprAt t n)) mask set′ set″ b″ q′ q″ r′ r″
+        → OntoNode t n 0 mask set′ set″ b″ q′ q″ r′ r″
         → Chained t f c defs (found (bitOr once mask) (bitOr twice (bitAnd once mask)) x) set set″ b″ q q″ r r″
     along-last x mask set″ b″ q″ r″ d z w = record {
       walk = left-none t (siblings t defs c) (bitOr once mask) (bitOr twice (bitAnd once mask)) set set″ b″ q q″ r r″ l;
@@ -174,4 +176,5 @@ module _ (t : List ℕ) (f c : ℕ) (defs : Bool) where
         l : Left t (siblings t defs c) none (bitOr once mask) (bitOr twice (bitAnd once mask)) set set″ b″ q q″ r r″
         l = left-more t (siblings t defs c) (exprAt t n) none once twice mask set set′ set″ b′ b″ q q′ q″ r r′ r″
             (subst (λ es. Left t (siblings t defs c) es once twice set set′ b′ q q′ r r′)
-            (ap (λ b. siblings t b n) d ∙ ends-plain t f n (a .here) z) (a .left)) w
+            (ap (λ b. siblings t b n) d ∙ ends-plain t f n (a .here) z) (a .left))
+            (onto-walk t (callsAt t (exprAt t n)) (conflictsAt t (exprAt t n)) mask set′ set″ b″ q′ q″ r′ r″ w)

@@ -161,6 +161,15 @@ pub record Walk (t : List ℕ) (s x : Test) (mask : ℕ) (set set′ bodies′ c
   pub functions : (h : ℕ) → Callee h → bitAt mask h ≡ calledIn t s h
   pub finds : (m : ℕ) → Bit m → x m ≡ true → tagged found′ m ≡ true
 
+-- a walk whose functions are put to those of a mask
+pub record Onto (t : List ℕ) (s x : Test) (mask mask′ : ℕ) (set set′ bodies′ called called′ found found′ : List ℕ) : Type 0 where
+  pub own : ℕ
+  pub walk : Walk t s x own set set′ bodies′ called called′ found found′
+  pub joins : (h : ℕ) → Callee h → bitAt mask′ h ≡ bitAt mask h || bitAt own h
+
+abbrev pub OntoNode : (t : List ℕ) (n mask mask′ : ℕ) (set set′ bodies′ called called′ found found′ : List ℕ) → Type 0
+OntoNode t n = Onto t (callsAt t (exprAt t n)) (conflictsAt t (exprAt t n))
+
 -- a node of function f in an accepted table
 pub record Within (t : List ℕ) (f n : ℕ) : Type 0 where
   pub taken : Taken t
@@ -190,6 +199,9 @@ pub record Beside (t : List ℕ) (n : ℕ) (defs : Bool) : Type 0 where
 abbrev pub WalkKids : (t : List ℕ) (n : ℕ) (defs : Bool) (mask : ℕ) (set set′ bodies′ called called′ found found′ : List ℕ) → Type 0
 WalkKids t n defs =
     Walk t (callsAt* t (kidsAt t defs n)) (joined (parallelAt t (kidsAt t defs n)) (conflictsAt* t (kidsAt t defs n)))
+
+abbrev pub OntoKids : (t : List ℕ) (n mask mask′ : ℕ) (set set′ bodies′ called called′ found found′ : List ℕ) → Type 0
+OntoKids t n = Onto t (callsAt* t (kidsAt t false n)) (joined (parallelAt t (kidsAt t false n)) (conflictsAt* t (kidsAt t false n)))
 
 pub record Sided (t : List ℕ) (f n : ℕ) (defs : Bool) (r : Siblings) (set set′ bodies′ called called′ found found′ : List ℕ)
     : Type 0 where

@@ -44,7 +44,7 @@ pub(crate) fn arbiters(table: &[u8]) -> [u8; 64]
     let mut f: u16 = main.0;
     while 0 < f {
         walk::body_walk(
-            table,
+            &table,
             &cells,
             &row,
             Function(f),

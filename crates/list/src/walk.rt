@@ -1,5 +1,6 @@
 // The walk over expressions: C of section 4.2 as packed sets, and PC wherever expressions are evaluated side by side.
 // Node walk and chain walk call each other, into the bodies of callees too; each body is walked once, and what it came to is kept.
+// What is called last gets the functions met so far, `mask`, and the table behind a thin reference: so LLVM makes a loop of such calls.
 use crate::bits;
 use crate::cells;
 use table::Function;
@@ -9,11 +10,10 @@ ghost use mathlib.Core.Path.{_≡_};
 ghost use mathlib.Core.Bool.{false};
 ghost use lib.ListN.{length};
 ghost use Rattle.table.specs.Bytes.{first};
-ghost use Rattle.table.specs.Expressions.{exprAt};
 ghost use Rattle.table.specs.Working.{IsFunction};
 ghost use Rattle.list.specs.Arbiters.{nothing};
-ghost use Rattle.list.specs.Working.{Taken, callsAt, conflictsAt, entryAt, Seen, Memo, Grown};
-ghost use Rattle.list.specs.Working.{Ready, Walk, WalkKids, Within, KindTo, Beside, Sided, Chained};
+ghost use Rattle.list.specs.Working.{Taken, entryAt, Seen, Memo, Grown, Ready, Onto, OntoNode, OntoKids};
+ghost use Rattle.list.specs.Working.{Within, KindTo, Beside, Sided, Chained};
 
 // Of a chain of siblings: the functions called in one of them, and in two of them; the body of a let.
 pub struct Siblings {
@@ -22,60 +22,72 @@ pub struct Siblings {
     pub last: Node,
 }
 
-// The calls at and below node n of function f go to `set`, its conflicts to `found`; the functions called there come back.
+// The calls at and below node n of function f go to `set`, its conflicts to `found`; the functions called there come back, put to `mask`.
 fn node_walk(
-    table: &[u8],
+    table: &&[u8],
     cells: &[u16; 2052],
     sites: &[u8; 2112],
     f: Function,
     n: Node,
+    mask: u32,
     bodies: &mut [u8; 2112],
     called: &mut [u32; 33],
     found: &mut [u8; 64],
     set: &mut [u8; 64],
 ) -> u32
     requires { ⌜ length (now set) ≡ 64 ⌝ }
-    requires { ⌜ Within (now table) (f .0) (n .0) ⌝ }
-    requires { ⌜ Ready (now table) (now sites) (now cells) ⌝ }
-    requires { ⌜ Memo (now table) (now bodies) (now called) (now found) ⌝ }
-    ensures { λ r. ⌜ Walk (now (table .entry)) (callsAt (now (table .entry)) (exprAt (now (table .entry)) (n .0)))
-        (conflictsAt (now (table .entry)) (exprAt (now (table .entry)) (n .0))) r (now (set .entry)) (now (set .exit))
+    requires { ⌜ Within (now (now table)) (f .0) (n .0) ⌝ }
+    requires { ⌜ Ready (now (now table)) (now sites) (now cells) ⌝ }
+    requires { ⌜ Memo (now (now table)) (now bodies) (now called) (now found) ⌝ }
+    ensures { λ r. ⌜ OntoNode (now (now (table .entry))) (n .0) mask r (now (set .entry)) (now (set .exit))
         (now (bodies .exit)) (now (called .entry)) (now (called .exit)) (now (found .entry)) (now (found .exit)) ⌝ }
 {
-    let kind = cells::kind(table, cells, n);
+    let kind = cells::kind(*table, cells, n);
     if kind < 3 {
-        return 0;
+        return mask;
     }
     if 6 < kind {
-        return 0;
+        return mask;
     }
-    inner_walk(table, cells, sites, f, n, kind, bodies, called, found, set)
+    inner_walk(
+        table,
+        cells,
+        sites,
+        f,
+        n,
+        kind,
+        mask,
+        bodies,
+        called,
+        found,
+        set,
+    )
 }
 
 // A node that has more to it, by its kind.
 fn inner_walk(
-    table: &[u8],
+    table: &&[u8],
     cells: &[u16; 2052],
     sites: &[u8; 2112],
     f: Function,
     n: Node,
     kind: u16,
+    mask: u32,
     bodies: &mut [u8; 2112],
     called: &mut [u32; 33],
     found: &mut [u8; 64],
     set: &mut [u8; 64],
 ) -> u32
     requires { ⌜ length (now set) ≡ 64 ⌝ }
-    requires { ⌜ Within (now table) (f .0) (n .0) ⌝ }
-    requires { ⌜ KindTo (now table) (n .0) kind 6 ⌝ }
-    requires { ⌜ Ready (now table) (now sites) (now cells) ⌝ }
-    requires { ⌜ Memo (now table) (now bodies) (now called) (now found) ⌝ }
-    ensures { λ r. ⌜ Walk (now (table .entry)) (callsAt (now (table .entry)) (exprAt (now (table .entry)) (n .0)))
-        (conflictsAt (now (table .entry)) (exprAt (now (table .entry)) (n .0))) r (now (set .entry)) (now (set .exit))
+    requires { ⌜ Within (now (now table)) (f .0) (n .0) ⌝ }
+    requires { ⌜ KindTo (now (now table)) (n .0) kind 6 ⌝ }
+    requires { ⌜ Ready (now (now table)) (now sites) (now cells) ⌝ }
+    requires { ⌜ Memo (now (now table)) (now bodies) (now called) (now found) ⌝ }
+    ensures { λ r. ⌜ OntoNode (now (now (table .entry))) (n .0) mask r (now (set .entry)) (now (set .exit))
         (now (bodies .exit)) (now (called .entry)) (now (called .exit)) (now (found .entry)) (now (found .exit)) ⌝ }
 {
     if kind == 5 {
-        let first = cells::first(table, cells, n);
+        let first = cells::first(*table, cells, n);
         let r = chain_walk(
             table,
             cells,
@@ -88,46 +100,69 @@ fn inner_walk(
             found,
             set,
         );
-        return r.once;
+        return mask | r.once;
     }
     if kind == 6 {
         let r = side_walk(table, cells, sites, f, n, true, bodies, called, found, set);
+        let both = mask | r.once;
         let last = r.last;
-        let mask = node_walk(table, cells, sites, f, last, bodies, called, found, set);
-        return r.once | mask;
+        return node_walk(
+            table,
+            cells,
+            sites,
+            f,
+            last,
+            both,
+            bodies,
+            called,
+            found,
+            set,
+        );
     }
-    let own = enter_walk(table, cells, sites, f, n, kind, bodies, called, found, set);
-    let mask = kids_walk(table, cells, sites, f, n, bodies, called, found, set);
-    own | mask
+    let own = enter_walk(
+        table,
+        cells,
+        sites,
+        f,
+        n,
+        kind,
+        mask,
+        bodies,
+        called,
+        found,
+        set,
+    );
+    kids_walk(table, cells, sites, f, n, own, bodies, called, found, set)
 }
 
 // What node n, a primitive or a call, calls besides its children: where it calls another function, itself and the calls of that body.
 fn enter_walk(
-    table: &[u8],
+    table: &&[u8],
     cells: &[u16; 2052],
     sites: &[u8; 2112],
     f: Function,
     n: Node,
     kind: u16,
+    mask: u32,
     bodies: &mut [u8; 2112],
     called: &mut [u32; 33],
     found: &mut [u8; 64],
     set: &mut [u8; 64],
 ) -> u32
     requires { ⌜ length (now set) ≡ 64 ⌝ }
-    requires { ⌜ Within (now table) (f .0) (n .0) ⌝ }
-    requires { ⌜ KindTo (now table) (n .0) kind 4 ⌝ }
-    requires { ⌜ Ready (now table) (now sites) (now cells) ⌝ }
-    requires { ⌜ Memo (now table) (now bodies) (now called) (now found) ⌝ }
-    ensures { λ r. ⌜ Walk (now (table .entry)) (entryAt (now (table .entry)) (n .0)) nothing r (now (set .entry)) (now (set .exit))
-        (now (bodies .exit)) (now (called .entry)) (now (called .exit)) (now (found .entry)) (now (found .exit)) ⌝ }
+    requires { ⌜ Within (now (now table)) (f .0) (n .0) ⌝ }
+    requires { ⌜ KindTo (now (now table)) (n .0) kind 4 ⌝ }
+    requires { ⌜ Ready (now (now table)) (now sites) (now cells) ⌝ }
+    requires { ⌜ Memo (now (now table)) (now bodies) (now called) (now found) ⌝ }
+    ensures { λ r. ⌜ Onto (now (now (table .entry))) (entryAt (now (now (table .entry))) (n .0)) nothing mask r (now (set .entry))
+        (now (set .exit)) (now (bodies .exit)) (now (called .entry)) (now (called .exit)) (now (found .entry)) (now (found .exit)) ⌝ }
 {
     if kind == 3 {
-        return 0;
+        return mask;
     }
-    let word = cells::word(table, cells, n);
+    let word = cells::word(*table, cells, n);
     if word == f.0 {
-        return 0;
+        return mask;
     }
     let g = Function(word);
     body_walk(table, cells, sites, g, bodies, called, found);
@@ -135,44 +170,56 @@ fn enter_walk(
     bits::put(set, n);
     let at = word as usize;
     let below = called[at];
-    below | (1u32 << word)
+    mask | (below | (1u32 << word))
 }
 
 // The children of node n, side by side. One alone is held against nothing, and needs no set of its own.
 fn kids_walk(
-    table: &[u8],
+    table: &&[u8],
     cells: &[u16; 2052],
     sites: &[u8; 2112],
     f: Function,
     n: Node,
+    mask: u32,
     bodies: &mut [u8; 2112],
     called: &mut [u32; 33],
     found: &mut [u8; 64],
     set: &mut [u8; 64],
 ) -> u32
     requires { ⌜ length (now set) ≡ 64 ⌝ }
-    requires { ⌜ Within (now table) (f .0) (n .0) ⌝ }
-    requires { ⌜ Beside (now table) (n .0) false ⌝ }
-    requires { ⌜ Ready (now table) (now sites) (now cells) ⌝ }
-    requires { ⌜ Memo (now table) (now bodies) (now called) (now found) ⌝ }
-    ensures { λ r. ⌜ WalkKids (now (table .entry)) (n .0) false r (now (set .entry)) (now (set .exit))
+    requires { ⌜ Within (now (now table)) (f .0) (n .0) ⌝ }
+    requires { ⌜ Beside (now (now table)) (n .0) false ⌝ }
+    requires { ⌜ Ready (now (now table)) (now sites) (now cells) ⌝ }
+    requires { ⌜ Memo (now (now table)) (now bodies) (now called) (now found) ⌝ }
+    ensures { λ r. ⌜ OntoKids (now (now (table .entry))) (n .0) mask r (now (set .entry)) (now (set .exit))
         (now (bodies .exit)) (now (called .entry)) (now (called .exit)) (now (found .entry)) (now (found .exit)) ⌝ }
 {
-    let first = cells::first(table, cells, n);
+    let first = cells::first(*table, cells, n);
     if first.0 == 0 {
-        return 0;
+        return mask;
     }
-    let next = cells::next(table, cells, first);
+    let next = cells::next(*table, cells, first);
     if next.0 == 0 {
-        return node_walk(table, cells, sites, f, first, bodies, called, found, set);
+        return node_walk(
+            table,
+            cells,
+            sites,
+            f,
+            first,
+            mask,
+            bodies,
+            called,
+            found,
+            set,
+        );
     }
     let r = side_walk(table, cells, sites, f, n, false, bodies, called, found, set);
-    r.once
+    mask | r.once
 }
 
 // The children of node n, of which there are some: their sets are held against each other. Of a let (defs) the definientia alone.
 fn side_walk(
-    table: &[u8],
+    table: &&[u8],
     cells: &[u16; 2052],
     sites: &[u8; 2112],
     f: Function,
@@ -184,14 +231,14 @@ fn side_walk(
     set: &mut [u8; 64],
 ) -> Siblings
     requires { ⌜ length (now set) ≡ 64 ⌝ }
-    requires { ⌜ Within (now table) (f .0) (n .0) ⌝ }
-    requires { ⌜ Beside (now table) (n .0) defs × (first (now table) (n .0) ≡ 0 → ⊥) ⌝ }
-    requires { ⌜ Ready (now table) (now sites) (now cells) ⌝ }
-    requires { ⌜ Memo (now table) (now bodies) (now called) (now found) ⌝ }
-    ensures { λ r. ⌜ Sided (now (table .entry)) (f .0) (n .0) defs r (now (set .entry)) (now (set .exit))
+    requires { ⌜ Within (now (now table)) (f .0) (n .0) ⌝ }
+    requires { ⌜ Beside (now (now table)) (n .0) defs × (first (now (now table)) (n .0) ≡ 0 → ⊥) ⌝ }
+    requires { ⌜ Ready (now (now table)) (now sites) (now cells) ⌝ }
+    requires { ⌜ Memo (now (now table)) (now bodies) (now called) (now found) ⌝ }
+    ensures { λ r. ⌜ Sided (now (now (table .entry))) (f .0) (n .0) defs r (now (set .entry)) (now (set .exit))
         (now (bodies .exit)) (now (called .entry)) (now (called .exit)) (now (found .entry)) (now (found .exit)) ⌝ }
 {
-    let first = cells::first(table, cells, n);
+    let first = cells::first(*table, cells, n);
     let mut own = [0u8; 64];
     let r = chain_walk(
         table,
@@ -212,7 +259,7 @@ fn side_walk(
 
 // Node c and the siblings after it; of a let (defs) the last one, its body, is left out and named.
 fn chain_walk(
-    table: &[u8],
+    table: &&[u8],
     cells: &[u16; 2052],
     sites: &[u8; 2112],
     f: Function,
@@ -224,22 +271,22 @@ fn chain_walk(
     set: &mut [u8; 64],
 ) -> Siblings
     requires { ⌜ length (now set) ≡ 64 ⌝ }
-    requires { ⌜ Within (now table) (f .0) (c .0) ⌝ }
-    requires { ⌜ Ready (now table) (now sites) (now cells) ⌝ }
-    requires { ⌜ Memo (now table) (now bodies) (now called) (now found) ⌝ }
-    ensures { λ r. ⌜ Chained (now (table .entry)) (f .0) (c .0) defs r (now (set .entry)) (now (set .exit))
+    requires { ⌜ Within (now (now table)) (f .0) (c .0) ⌝ }
+    requires { ⌜ Ready (now (now table)) (now sites) (now cells) ⌝ }
+    requires { ⌜ Memo (now (now table)) (now bodies) (now called) (now found) ⌝ }
+    ensures { λ r. ⌜ Chained (now (now (table .entry))) (f .0) (c .0) defs r (now (set .entry)) (now (set .exit))
         (now (bodies .exit)) (now (called .entry)) (now (called .exit)) (now (found .entry)) (now (found .exit)) ⌝ }
 {
     let mut at = c;
     let mut once: u32 = 0;
     let mut twice: u32 = 0;
-    let mut next = cells::next(table, cells, at);
+    let mut next = cells::next(*table, cells, at);
     while next.0 != 0 {
-        let mask = node_walk(table, cells, sites, f, at, bodies, called, found, set);
+        let mask = node_walk(table, cells, sites, f, at, 0, bodies, called, found, set);
         twice = twice | (once & mask);
         once = once | mask;
         at = next;
-        next = cells::next(table, cells, at);
+        next = cells::next(*table, cells, at);
     }
     if defs {
         return Siblings {
@@ -248,7 +295,7 @@ fn chain_walk(
             last: at,
         };
     }
-    let mask = node_walk(table, cells, sites, f, at, bodies, called, found, set);
+    let mask = node_walk(table, cells, sites, f, at, 0, bodies, called, found, set);
     Siblings {
         once: once | mask,
         twice: twice | (once & mask),
@@ -258,7 +305,7 @@ fn chain_walk(
 
 // Walks the body of g, unless that was done before, and keeps its set and the functions called in it.
 pub(crate) fn body_walk(
-    table: &[u8],
+    table: &&[u8],
     cells: &[u16; 2052],
     sites: &[u8; 2112],
     g: Function,
@@ -266,17 +313,17 @@ pub(crate) fn body_walk(
     called: &mut [u32; 33],
     found: &mut [u8; 64],
 )
-    requires { ⌜ Taken (now table) × IsFunction (now table) (g .0) ⌝ }
-    requires { ⌜ Ready (now table) (now sites) (now cells) ⌝ }
-    requires { ⌜ Memo (now table) (now bodies) (now called) (now found) ⌝ }
-    ensures { λ _. ⌜ Memo (now (table .entry)) (now (bodies .exit)) (now (called .exit)) (now (found .exit))
+    requires { ⌜ Taken (now (now table)) × IsFunction (now (now table)) (g .0) ⌝ }
+    requires { ⌜ Ready (now (now table)) (now sites) (now cells) ⌝ }
+    requires { ⌜ Memo (now (now table)) (now bodies) (now called) (now found) ⌝ }
+    ensures { λ _. ⌜ Memo (now (now (table .entry))) (now (bodies .exit)) (now (called .exit)) (now (found .exit))
         × Grown (now (called .entry)) (now (called .exit)) (now (found .entry)) (now (found .exit)) × Seen (now (called .exit)) (g .0) ⌝ }
 {
     let at = g.0 as usize;
     if called[at] != 0 {
         return;
     }
-    let root = read::root(table, g);
+    let root = read::root(*table, g);
     let mut set = [0u8; 64];
     let mask = node_walk(
         table,
@@ -284,6 +331,7 @@ pub(crate) fn body_walk(
         sites,
         g,
         root,
+        0,
         bodies,
         called,
         found,

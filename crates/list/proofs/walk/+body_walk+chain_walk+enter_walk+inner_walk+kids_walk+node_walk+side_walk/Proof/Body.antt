@@ -22,13 +22,13 @@ module _ (t : ℕ) where
   cast-at c = search needs
 
   pub mul-if1 : lts.Need-mul-if1 given (measures.body-walk-at t) body-walk.Post
-  mul-if1 c = record { fits = let p = c .before .before .pre .1 .0 in omega (arith, p .1 .1, few _ (p .0) .0) }
+  mul-if1 c = record { fits = let p = c .before .pre .1 .0 in omega (arith, p .1 .1, few _ (p .0) .0) }
 
   pub element-copy-out-if1 : lts.Need-element-copy-out-if1 given (measures.body-walk-at t) body-walk.Post
-  element-copy-out-if1 c = let p = c .before .before .pre .1 .0 in omega (arith, p .1 .1, few _ (p .0) .0)
+  element-copy-out-if1 c = let p = c .before .pre .1 .0 in omega (arith, p .1 .1, few _ (p .0) .0)
 
   pub returns : lts.Need-returns given (measures.body-walk-at t) body-walk.Post
-  returns c = (c .before .before .before .before .pre .1 .1 .1, grown-none _ _, c .if1 .taken)
+  returns c = (c .before .before .before .pre .1 .1 .1, grown-none _ _, c .if1 .taken)
 
   pub root-requires : lts.Need-root-requires given (measures.body-walk-at t) body-walk.Post
   root-requires c κs = tt
@@ -44,7 +44,7 @@ module _ (t : ℕ) where
 
   pub keep-requires : lts.Need-keep-requires given (measures.body-walk-at t) body-walk.Post
   keep-requires c κs = (
-    c .before .before .node-walk .ensures .memo .size-bodies,
+    c .before .before .node-walk .ensures .walk .memo .size-bodies,
     let p = c .before .before .before .before
         .before .before .before .before .before .before .before .before .pre .1 .0 in omega (arith, p .1 .1, few _ (p .0) .0),
   )

@@ -1,8 +1,9 @@
 -- siblings, one after the other
 use Prim.Native.Nat.{ℕ, _-_}
-use mathlib.Core.Path.{_≡_, refl, sym, _∙_}
+use mathlib.Core.Path.{_≡_, refl, sym, subst, _∙_}
 use native.Mathlib.Omega.{arith}
 use Rattle.table.specs.Bytes.{nodes, next}
+use Rattle.list.specs.Working.{Within}
 use Rattle.list.proofs.NodeLaws.{cell, next-there}
 use Rattle.list.proofs.SiblingLaws.{Along, along-none, along-more, along-body, along-last}
 use Rattle.list.proofs.walk.chain_walk.Reads as chain-walk
@@ -13,11 +14,12 @@ use Rattle.list.proofs.walk.+body_walk+chain_walk+enter_walk+inner_walk
 
 abbrev pub Inv-loop : lts.InvT-loop
 Inv-loop table cells sites f defs bodies₀ called₀ found₀ set₀ at₀ once₀ twice₀ after₀ bodies called found set at once twice after =
-    Along table (f .0) (at₀ .0) defs (at .0) once twice set₀ set bodies called₀ called found₀ found × (after .0 ≡ next table (at .0))
+    Along (table .now) (f .0) (at₀ .0) defs (at .0) once twice set₀ set bodies called₀ called found₀ found × (after .0 ≡ next (table
+    .now) (at .0))
 
 abbrev pub μ-loop : lts.MeasureT-loop
 μ-loop table cells sites f defs bodies₀ called₀ found₀ set₀ at₀ once₀ twice₀ after₀ bodies called found set at once twice after =
-    nodes table - at .0
+    nodes (table .now) - at .0
 
 module _ (t : ℕ) where
   abbrev pub given : lts.Claims
@@ -40,24 +42,25 @@ module _ (t : ℕ) where
 
   pub next-requires-2 : lts.Need-next-requires-2 given (measures.chain-walk-at t) chain-walk.Post Inv-loop μ-loop
   next-requires-2 c κs =
-      let i = c .before .before .before .before .before .before .before .loop .inv in
-      let z = c .before .before .before .before .before .if1 .taken in
-      let p = c .before .before .before .before .before .before .before .before .before .before .pre .1 in
-      cell _ _ _ _ _ (p .1 .1 .0) (along-more _ _ _ _ _ _ _ _ _ _ _ _ _ _ (i .0) _ _ _ _ _ _ (λ q. z (i .1 ∙ q)) (i .1) (c .node-walk
-      .ensures) .here)
+      let i = c .before .before .before .before .before .before .before .before .loop .inv in
+      let z = c .before .before .before .before .before .before .if1 .taken in
+      let p = c .before .before .before .before .before .before .before .before .before .before .before .pre .1 in
+      let u = next-there _ _ _ (i .0 .here) (λ q. z (i .1 ∙ q)) in
+      cell _ _ _ _ _ (p .1 .1 .0) (subst (Within _ _) (sym (i .1)) (u .0))
 
   pub loop-less : lts.Need-loop-less given (measures.chain-walk-at t) chain-walk.Post Inv-loop μ-loop
   loop-less c =
-      let i = c .before .before .before .before .before .before .before .before .loop .inv in
-      let z = c .before .before .before .before .before .before .if1 .taken in
+      let i = c .before .before .before .before .before .before .before .before .before .loop .inv in
+      let z = c .before .before .before .before .before .before .before .if1 .taken in
       let u = next-there _ _ _ (i .0 .here) (λ q. z (i .1 ∙ q)) in
       omega (arith, i .1, u .1, u .0 .node .1)
 
   pub loop-again : lts.Need-loop-again given (measures.chain-walk-at t) chain-walk.Post Inv-loop μ-loop
   loop-again c =
-      let i = c .before .before .before .before .before .before .before .before .loop .inv in
-      let z = c .before .before .before .before .before .before .if1 .taken in (
-        along-more _ _ _ _ _ _ _ _ _ _ _ _ _ _ (i .0) _ _ _ _ _ _ (λ q. z (i .1 ∙ q)) (i .1) (c .before .node-walk .ensures),
+      let i = c .before .before .before .before .before .before .before .before .before .loop .inv in
+      let z = c .before .before .before .before .before .before .before .if1 .taken in (
+        along-more _ _ _ _ _ _ _ _ _ _ _ _ _ _ (i .0) _ _ _ _ _ _ (λ q. z (i .1 ∙ q)) (i .1)
+            (c .before .before .node-walk .ensures),
         c .next2 .ensures,
       )
 

@@ -4,6 +4,7 @@ use native.Mathlib.Omega.{arith}
 use borrow.Author.Needs.{needs}
 use Rattle.list.proofs.BitLaws.{bit-is}
 use Rattle.list.proofs.NodeLaws.{cell, few}
+use Rattle.list.proofs.OntoLaws.{onto-none, onto-one}
 use Rattle.list.proofs.NodeWalks.{call-kind, at-same, at-again, callee-there, at-entry}
 use Rattle.list.proofs.walk.enter_walk.Reads as enter-walk
 use Rattle.list.proofs.cells.word.Reads as word-reads
@@ -28,25 +29,26 @@ module _ (t : ℕ) where
 
   pub returns : lts.Need-returns given (measures.enter-walk-at t) enter-walk.Post
   returns c =
-      let p = c .before .before .pre .1 in
-      at-same _ _ _ (p .1 .0) _ _ _ _ _ (p .1 .1 .0) (c .if1 .taken) (p .0) (p .1 .1 .1 .1)
+      let p = c .before .pre .1 in
+      onto-none _ _ _ _ _ _ _ _ _ _ _ (at-same _ _ _ (p .1 .0) _ _ _ _ _ (p .1 .1 .0) (c .if1 .taken) (p .0) (p .1 .1 .1 .1))
 
   pub word-requires : lts.Need-word-requires given (measures.enter-walk-at t) enter-walk.Post
   word-requires c κs =
       let p = c .before .before .pre .1 in
-      (cell _ _ _ _ _ (p .1 .1 .1 .0) (p .1 .0), call-kind _ _ _ (p .1 .0) _ (p .1 .1 .0) (c .if1 .left))
+      (cell _ _ _ _ _ (p .1 .1 .1 .0) (p .1 .0), call-kind _ _ _ (p .1 .0) _ (p .1 .1 .0) (c .before .if1 .left))
 
   pub returns-2 : lts.Need-returns-2 given (measures.enter-walk-at t) enter-walk.Post
   returns-2 c =
       let p = c .before .before .before .before .before .pre .1 in
-      at-again _ _ _ (p .1 .0) _ _ _ _ _ _ (p .1 .1 .0) (c .before .before .before .if1 .left) (c .before .before .word .ensures) (c
-      .if2 .taken) (p .0) (p .1 .1 .1 .1)
+      onto-none _ _ _ _ _ _ _ _ _ _ _
+      (at-again _ _ _ (p .1 .0) _ _ _ _ _ _ (p .1 .1 .0) (c .before .before .before .before .if1 .left) (c .before .before .word
+      .ensures) (c .if2 .taken) (p .0) (p .1 .1 .1 .1))
 
   pub body-walk-requires : lts.Need-body-walk-requires given (measures.enter-walk-at t) enter-walk.Post
   body-walk-requires c κs =
       let p = c .before .before .before .before .before .before .before .before .pre .1 in
-      let u = callee-there _ _ _ (p .1 .0) _ _ (p .1 .1 .0) (c .before .before .before .before .before .before .if1 .left) (c .before
-      .before .before .before .before .word .ensures) (c .before .before .before .if2 .left) in (
+      let u = callee-there _ _ _ (p .1 .0) _ _ (p .1 .1 .0) (c .before .before .before .before .before .before .before .if1 .left) (c
+      .before .before .before .before .before .word .ensures) (c .before .before .before .if2 .left) in (
         omega (arith, c .before .before .before .before .before .before .before .before .pre .0, u .1),
         (
           (p .1 .0 .taken, u .0),
@@ -59,8 +61,8 @@ module _ (t : ℕ) where
   join-at-requires c κs =
       let p = c .before .before .before .before .before .before .before .before .before .before .before .pre .1 in
       let u = callee-there _ _ _ (p .1 .0) _ _ (p .1 .1 .0) (c .before .before .before .before .before .before .before .before .before
-      .if1 .left) (c .before .before .before .before .before .before .before .before .word .ensures) (c .before .before .before .before
-      .before .before .if2 .left) in
+      .before .if1 .left) (c .before .before .before .before .before .before .before .before .word .ensures) (c .before .before .before
+      .before .before .before .if2 .left) in
       (p .0, omega (arith, u .2))
 
   pub put-requires : lts.Need-put-requires given (measures.enter-walk-at t) enter-walk.Post
@@ -75,16 +77,16 @@ module _ (t : ℕ) where
   mul-below c =
       let p = c .before .before .before .before .before .before .before .before .before .before .before .before .before .before .pre .1 in
       let u = callee-there _ _ _ (p .1 .0) _ _ (p .1 .1 .0) (c .before .before .before .before .before .before .before .before .before
-      .before .before .before .if1 .left) (c .before .before .before .before .before .before .before .before .before .before .before
-      .word .ensures) (c .before .before .before .before .before .before .before .before .before .if2 .left) in
+      .before .before .before .before .if1 .left) (c .before .before .before .before .before .before .before .before .before .before
+      .before .word .ensures) (c .before .before .before .before .before .before .before .before .before .if2 .left) in
       record { fits = omega (arith, u .2) }
 
   pub element-copy-out-below : lts.Need-element-copy-out-below given (measures.enter-walk-at t) enter-walk.Post
   element-copy-out-below c =
       let p = c .before .before .before .before .before .before .before .before .before .before .before .before .before .before .pre .1 in
       let u = callee-there _ _ _ (p .1 .0) _ _ (p .1 .1 .0) (c .before .before .before .before .before .before .before .before .before
-      .before .before .before .if1 .left) (c .before .before .before .before .before .before .before .before .before .before .before
-      .word .ensures) (c .before .before .before .before .before .before .before .before .before .if2 .left) in
+      .before .before .before .before .if1 .left) (c .before .before .before .before .before .before .before .before .before .before
+      .before .word .ensures) (c .before .before .before .before .before .before .before .before .before .if2 .left) in
       omega (arith, u .2)
 
   pub cast-result : lts.Need-cast-result given (measures.enter-walk-at t) enter-walk.Post
@@ -95,8 +97,9 @@ module _ (t : ℕ) where
       let p = c .before .before .before .before .before .before .before .before .before .before .before .before .before .before .before
       .pre .1 in
       let u = callee-there _ _ _ (p .1 .0) _ _ (p .1 .1 .0) (c .before .before .before .before .before .before .before .before .before
-      .before .before .before .before .if1 .left) (c .before .before .before .before .before .before .before .before .before .before
-      .before .before .word .ensures) (c .before .before .before .before .before .before .before .before .before .before .if2 .left) in
+      .before .before .before .before .before .if1 .left) (c .before .before .before .before .before .before .before .before .before
+      .before .before .before .word .ensures) (c .before .before .before .before .before .before .before .before .before .before .if2
+      .left) in
       omega (arith, u .2)
 
   pub returns-3 : lts.Need-returns-3 given (measures.enter-walk-at t) enter-walk.Post
@@ -104,11 +107,13 @@ module _ (t : ℕ) where
       let p = c .before .before .before .before .before .before .before .before .before .before .before .before .before .before .before
       .pre .1 in
       let u = callee-there _ _ _ (p .1 .0) _ _ (p .1 .1 .0) (c .before .before .before .before .before .before .before .before .before
-      .before .before .before .before .if1 .left) (c .before .before .before .before .before .before .before .before .before .before
-      .before .before .word .ensures) (c .before .before .before .before .before .before .before .before .before .before .if2 .left) in
-      at-entry _ _ _ (p .1 .0) _ _ _ _ _ _ _ _ _ _ _ (p .1 .1 .0) (c .before .before .before .before .before .before .before .before
       .before .before .before .before .before .if1 .left) (c .before .before .before .before .before .before .before .before .before
       .before .before .before .word .ensures) (c .before .before .before .before .before .before .before .before .before .before .if2
-      .left)
-      (bit-is _ 32 (omega (arith, u .2))) (c .before .before .before .before .before .before .body-walk .ensures)
-      (c .before .before .before .join-at .ensures) (c .before .put .ensures)
+      .left) in
+      onto-one _ _ _ _ _ _ _ _ _ _ _ _
+      (at-entry _ _ _ (p .1 .0) _ _ _ _ _ _ _ _ _ _ _ (p .1 .1 .0) (c .before .before .before .before .before .before .before .before
+      .before .before .before .before .before .before .if1 .left) (c .before .before .before .before .before .before .before .before
+      .before .before .before .before .word .ensures) (c .before .before .before .before .before .before .before .before .before
+      .before .if2 .left)
+      (bit-is _ 32 (omega (arith, u .2))) (c .before .before .before .before .before .before .body-walk .ensures) (c .before .before
+      .before .join-at .ensures) (c .before .put .ensures))

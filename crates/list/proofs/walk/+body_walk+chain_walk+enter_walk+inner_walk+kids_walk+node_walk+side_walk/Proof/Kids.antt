@@ -4,6 +4,7 @@ use mathlib.Core.Path.{sym, subst, _∙_}
 use native.Mathlib.Omega.{arith}
 use Rattle.list.specs.Working.{Within}
 use Rattle.list.proofs.NodeLaws.{cell, first-there}
+use Rattle.list.proofs.OntoLaws.{onto-none, onto-one}
 use Rattle.list.proofs.ChainLaws.{kids-none, kids-one}
 use Rattle.list.proofs.walk.kids_walk.Reads as kids-walk
 use Rattle.list.proofs.cells.first.Reads as first-reads
@@ -32,42 +33,47 @@ module _ (t : ℕ) where
   pub returns : lts.Need-returns given (measures.kids-walk-at t) kids-walk.Post
   returns c =
       let p = c .before .before .before .before .pre .1 in
-      kids-none _ _ _ (p .1 .0) _ _ _ _ (sym (c .before .before .first .ensures) ∙ c .if1 .taken) (p .0) (p .1 .1 .1 .1)
+      onto-none _ _ _ _ _ _ _ _ _ _ _
+      (kids-none _ _ _ (p .1 .0) _ _ _ _ (sym (c .before .before .first .ensures) ∙ c .if1 .taken) (p .0) (p .1 .1 .1 .1))
 
   pub next-requires : lts.Need-next-requires given (measures.kids-walk-at t) kids-walk.Post
   next-requires c κs =
-      let p = c .before .before .before .before .pre in
-      let a = c .before .before .before .before .args in
-      let e = c .before .before .first .ensures in
-      let u = first-there (a .table .now) (a .f .0) (a .n .0) (p .1 .1 .0) (λ q. c .if1 .left (e ∙ q)) in
+      let p = c .before .before .before .before .before .pre in
+      let a = c .before .before .before .before .before .args in
+      let e = c .before .before .before .first .ensures in
+      let u = first-there (a .table .now .now) (a .f .0) (a .n .0) (p .1 .1 .0) (λ q. c .before .if1 .left (e ∙ q)) in
       let w = subst (Within _ _) (sym e) (u .0) in
       cell _ _ _ _ _ (p .1 .1 .1 .1 .0) w
 
   pub node-walk-requires : lts.Need-node-walk-requires given (measures.kids-walk-at t) kids-walk.Post
   node-walk-requires c κs =
-      let p = c .before .before .before .before .before .before .before .before .before .before .before .pre in
-      let a = c .before .before .before .before .before .before .before .before .before .before .before .args in
-      let e = c .before .before .before .before .before .before .before .before .before .first .ensures in
-      let u = first-there (a .table .now) (a .f .0) (a .n .0) (p .1 .1 .0) (λ q. c .before .before .before .before .before .before
-      .before .if1 .left (e ∙ q)) in
+      let p = c .before .before .before .before .before .before .before .before .before .before .before .before .pre in
+      let a = c .before .before .before .before .before .before .before .before .before .before .before .before .args in
+      let e = c .before .before .before .before .before .before .before .before .before .before .first .ensures in
+      let u = first-there (a .table .now .now) (a .f .0) (a .n .0) (p .1 .1 .0) (λ q. c .before .before .before .before .before .before
+      .before .before .if1 .left (e ∙ q)) in
       let w = subst (Within _ _) (sym e) (u .0) in
       (omega (arith, p .0, e, u .1, u .0 .node .1), (p .1 .0, (w, p .1 .1 .1 .1)))
 
   pub returns-2 : lts.Need-returns-2 given (measures.kids-walk-at t) kids-walk.Post
   returns-2 c =
-      let p = c .before .before .before .before .before .before .before .before .before .before .before .before .pre in
-      let a = c .before .before .before .before .before .before .before .before .before .before .before .before .args in
-      let e = c .before .before .before .before .before .before .before .before .before .before .first .ensures in
-      let u = first-there (a .table .now) (a .f .0) (a .n .0) (p .1 .1 .0) (λ q. c .before .before .before .before .before .before
-      .before .before .if1 .left (e ∙ q)) in
+      let p = c .before .before .before .before .before .before .before .before .before .before .before .before .before .pre in
+      let a = c .before .before .before .before .before .before .before .before .before .before .before .before .before .args in
+      let e = c .before .before .before .before .before .before .before .before .before .before .before .first .ensures in
+      let u = first-there (a .table .now .now) (a .f .0) (a .n .0) (p .1 .1 .0) (λ q. c .before .before .before .before .before .before
+      .before .before .before .if1 .left (e ∙ q)) in
       let w = subst (Within _ _) (sym e) (u .0) in
-      kids-one _ _ _ (p .1 .1 .0) _ _ _ _ _ _ _ _ _ (p .1 .1 .1 .0) w e (sym (c .before .before .before .before .before .before .before
-      .next .ensures) ∙ c .before .before .before .before .before .if2 .taken)
-      (c .node-walk .ensures)
+      let o = c .node-walk .ensures in
+      record {
+        own = o .own;
+        walk = kids-one _ _ _ (p .1 .1 .0) _ _ _ _ _ _ _ _ _ (p .1 .1 .1 .0) w e (sym (c .before .before .before .before .before
+            .before .before .next .ensures) ∙ c .before .before .before .before .before .if2 .taken) (o .walk);
+        joins = o .joins;
+      }
 
   pub side-walk-requires : lts.Need-side-walk-requires given (measures.kids-walk-at t) kids-walk.Post
   side-walk-requires c κs =
-      let p = c .before .before .before .before .before .before .before .before .before .before .before .pre in
+      let p = c .before .before .before .before .before .before .before .before .before .before .before .before .pre in
       let b = p .1 .1 .1 .0 in (
         omega (arith, p .0),
         (
@@ -77,8 +83,8 @@ module _ (t : ℕ) where
             (
               (
                 b,
-                λ q. c .before .before .before .before .before .before .before .if1 .left (c
-                    .before .before .before .before .before .before .before .before .before .first .ensures ∙ q),
+                λ q. c .before .before .before .before .before .before .before .before .if1
+                    .left (c .before .before .before .before .before .before .before .before .before .before .first .ensures ∙ q),
               ),
               p .1 .1 .1 .1,
             ),
@@ -87,4 +93,4 @@ module _ (t : ℕ) where
       )
 
   pub returns-3 : lts.Need-returns-3 given (measures.kids-walk-at t) kids-walk.Post
-  returns-3 c = c .side-walk .ensures .walk
+  returns-3 c = onto-one _ _ _ _ _ _ _ _ _ _ _ _ (c .before .side-walk .ensures .walk)

@@ -2,6 +2,7 @@
 use Prim.Native.Nat.{ℕ}
 use native.Mathlib.Omega.{arith}
 use Rattle.list.proofs.NodeLaws.{cell}
+use Rattle.list.proofs.OntoLaws.{onto-none}
 use Rattle.list.proofs.NodeWalks.{at-low, at-high}
 use Rattle.list.proofs.walk.node_walk.Reads as node-walk
 use Rattle.list.proofs.cells.kind.Reads as kind-reads
@@ -19,12 +20,13 @@ module _ (t : ℕ) where
   pub returns : lts.Need-returns given (measures.node-walk-at t) node-walk.Post
   returns c =
       let p = c .before .before .before .pre .1 in
-      at-low _ _ _ (p .1 .0) _ _ _ _ _ (c .before .kind .ensures) (c .if1 .taken) (p .0) (p .1 .1 .1)
+      onto-none _ _ _ _ _ _ _ _ _ _ _ (at-low _ _ _ (p .1 .0) _ _ _ _ _ (c .before .kind .ensures) (c .if1 .taken) (p .0) (p .1 .1 .1))
 
   pub returns-2 : lts.Need-returns-2 given (measures.node-walk-at t) node-walk.Post
   returns-2 c =
       let p = c .before .before .before .before .pre .1 in
-      at-high _ _ _ (p .1 .0) _ _ _ _ _ (c .before .before .kind .ensures) (c .if2 .taken) (p .0) (p .1 .1 .1)
+      onto-none _ _ _ _ _ _ _ _ _ _ _ (at-high _ _ _ (p .1 .0) _ _ _ _ _ (c .before .before .kind .ensures) (c .if2 .taken) (p .0) (p
+      .1 .1 .1))
 
   pub inner-walk-requires : lts.Need-inner-walk-requires given (measures.node-walk-at t) node-walk.Post
   inner-walk-requires c κs =
@@ -37,8 +39,8 @@ module _ (t : ℕ) where
             (
               record {
                 is = c .before .before .before .before .before .before .kind .ensures;
-                low
-                    = c .before .before .before .before .before .if1 .left;
+                low = c .before .before .before .before
+                    .before .if1 .left;
                 high = c .before .before .before .before .if2 .left;
               },
               p .1 .1 .1,

@@ -34,7 +34,7 @@ module _ (t : ℕ) where
       let p = c .before .before .before .before .before .before .pre in
       let a = c .before .before .before .before .before .before .args in
       let e = c .before .before .before .before .first .ensures in
-      let u = first-there (a .table .now) (a .f .0) (a .n .0) (p .1 .1 .0) (p .1 .1 .1 .0 .1) in
+      let u = first-there (a .table .now .now) (a .f .0) (a .n .0) (p .1 .1 .0) (p .1 .1 .1 .0 .1) in
       let w = subst (Within _ _) (sym e) (u .0) in
       (omega (arith, p .0, e, u .1, u .0 .node .1), (refl, (w, p .1 .1 .1 .1)))
 
