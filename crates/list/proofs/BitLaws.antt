@@ -4,7 +4,7 @@ use mathlib.Core.Path.{_≡_, refl, sym, ap, ap₂, _∙_}
 use mathlib.Core.Bool.{Bool, true, false, _&&_, _||_}
 use mathlib.Core.List.{List, [], _∷_}
 use native.Mathlib.Omega.{arith}
-use native.Mathlib.Nat.{one-mul, mod-eq-of-lt, pow-suc, div-self, div-eq-of-lt, zero-div}
+use native.Mathlib.Nat.{one-mul, mod-eq-of-lt, pow-suc, div-self, div-eq-of-lt, zero-div, div-div-eq-div-mul}
 use native.Mathlib.Decide.{decLt, ℕ-discrete}
 use lib.Dec.{eqb}
 use lib.Pow.{pow-lt, shl-shr, pow-add, pow-pos}
@@ -91,6 +91,16 @@ small-bit x (suc k) p q = ap (λ z. eqb (z % 2) 1) (div-eq-of-lt (less x (2 ^ k)
   where
     less : (x y : ℕ) → x < 2 → 0 < y → 2 ^ suc k ≡ y * 2 → x < 2 ^ suc k
     less x y a b c = omega arith
+
+-- no bit above h is left
+pub high-bit : (x h k : ℕ) → x / 2 ^ h < 2 → h < k → bitAt x k ≡ false
+high-bit x h k l q =
+    ap (bitAt x) (there h k q)
+    ∙ sym (ap (λ z. eqb (z % 2) 1) (div-div-eq-div-mul x (2 ^ h) (2 ^ (k - h)) ∙ ap (λ z. x / z) (sym (pow-add 2 h (k - h)))))
+    ∙ small-bit (x / 2 ^ h) (k - h) l (omega arith)
+  where
+    there : (h k : ℕ) → h < k → k ≡ h + (k - h)
+    there h k q = omega arith
 
 -- a node's bit is in its byte
 pub tagged-bit : (l : List ℕ) (m : ℕ) → tagged l m ≡ bitAt (getD l ((m - 1) / 8) 0) ((m - 1) % 8)

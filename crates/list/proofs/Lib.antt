@@ -11,9 +11,12 @@ pub mod CallLaws
 pub mod ParallelLaws
 pub mod WalkLaws
 pub mod NodeLaws
+pub mod OntoLaws
+pub mod SiblingLaws
 pub mod ChainLaws
 pub mod ListLaws
 pub mod SiteLaws
+pub mod CellLaws
 pub mod NodeWalks
 pub mod WalkMeasure
 pub mod TagFacts

@@ -1,6 +1,6 @@
 -- a set held against the sets of a row that a mask names, one after the other
-use Prim.Native.Nat.{ℕ, zero, suc, _+_, _*_, _<_, _≤_}
-use mathlib.Core.Path.{_≡_, refl, sym, ap, ap₂, _∙_}
+use Prim.Native.Nat.{ℕ, zero, suc, _+_, _*_, _/_, _^_, _<_, _≤_}
+use mathlib.Core.Path.{_≡_, refl, subst, sym, ap, ap₂, _∙_}
 use mathlib.Core.Bool.{Bool, true, false, _&&_, _||_}
 use mathlib.Core.List.{List}
 use native.Mathlib.Omega.{arith}
@@ -9,7 +9,7 @@ use lib.ListN.{length}
 use Rattle.list.specs.Arbiters.{Test, anyUpTo}
 use Rattle.list.specs.Tags.{tagged}
 use Rattle.list.specs.Working.{bitAt, Bit, Adds, meetOf}
-use Rattle.list.proofs.BitLaws.{small-bit}
+use Rattle.list.proofs.BitLaws.{high-bit}
 
 pub or-no : (p : Bool) → p || false ≡ p
 or-no true = refl
@@ -43,13 +43,6 @@ none-of zero p f = refl
 none-of (suc k) p f = ap₂ (λ a b. a || b) (f (suc k) (omega arith)) (none-of k p f)
 
 module _ (set row : List ℕ) (mask : ℕ) where
-  pub meet-small : (k m : ℕ) → mask < 2 → meetOf set row mask k m ≡ false
-  unfolding meetOf
-  meet-small k m h =
-      ap (λ a. tagged set m && a)
-      (none-of k (λ h. bitAt mask h && tagged row (512 * h + m)) (λ i l. ap (λ a. a && tagged row (512 * i + m)) (small-bit mask i h l)))
-      ∙ and-no (tagged set m)
-
   pub meet-zero : (m : ℕ) → meetOf set row mask 0 m ≡ false
   unfolding meetOf anyUpTo
   meet-zero m = and-no (tagged set m)
@@ -87,3 +80,15 @@ module _ (set row : List ℕ) (mask : ℕ) where
       adds-same (meetOf set row mask h) (meetOf set row mask (h + 1)) x y p
       (λ m b. meet-next h m
       ∙ ap (λ a. meetOf set row mask h m || (a && (tagged set m && tagged row (512 * (h + 1) + m)))) e ∙ or-no (meetOf set row mask h m))
+
+  -- where no higher bit is left
+  pub meet-rest : (h d : ℕ) (x y : List ℕ) → mask / 2 ^ h < 2 → Adds (meetOf set row mask h) x y → Adds (meetOf set row mask (h + d)) x y
+  meet-rest h zero x y l p = subst (λ k. Adds (meetOf set row mask k) x y) (same h) p
+    where
+      same : (h : ℕ) → h ≡ h + 0
+      same h = omega arith
+  meet-rest h (suc d) x y l p = subst (λ k. Adds (meetOf set row mask k) x y) (next h d)
+      (meet-skip (h + d) x y (meet-rest h d x y l p) (high-bit mask h (h + d + 1) l (omega arith)))
+    where
+      next : (h d : ℕ) → h + d + 1 ≡ h + suc d
+      next h d = omega arith

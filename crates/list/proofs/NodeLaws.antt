@@ -1,16 +1,14 @@
 -- a node's calls and conflicts by its kind, and those of a chain of siblings, link by link
-use Prim.Native.Nat.{ℕ, zero, suc, _+_, _*_, _≤_, _<_}
+use Prim.Native.Nat.{ℕ, _≤_, _<_}
 use mathlib.Core.Path.{_≡_, refl, subst, sym, ap, ap₂, _∙_}
-use mathlib.Core.Bool.{Bool, true, false, _&&_, _||_, true≢false}
+use mathlib.Core.Bool.{Bool, true, false, _&&_, _||_}
 use mathlib.Core.List.{List}
 use native.Mathlib.Omega.{arith}
-use lib.Bits.{bitOr, bitAnd}
 use lib.Dec.{eqb}
-use native.Mathlib.Decide.{ℕ-discrete}
-use Rattle.table.specs.Pick.{pick, Range}
+use borrow.Author.Tests.{ne-eqb}
+use Rattle.table.specs.Pick.{pick}
 use Rattle.table.specs.Syntax.{Expr, Exprs, const, param, prim, call, self, cond, bind, bound, none, some}
 use Rattle.table.specs.Bytes.{functions, nodes, root, kind, extra, word, first, next}
-use Rattle.table.specs.Naming.{owner}
 use Rattle.table.specs.Expressions.{lastOf, exprsAt, exprAt, bodyOf, defsAt, finalAt, thenAt, elseAt}
 use Rattle.table.specs.Working.{IsNode, IsFunction, Linked}
 use Rattle.table.proofs.Passed.{Passed, passed}
@@ -18,16 +16,15 @@ use Rattle.table.proofs.Links.{link}
 use Rattle.table.proofs.Family.{first-node, next-node, owner-root, owner-first, owner-next, owner-in}
 use Rattle.table.proofs.Tree.{exprs-none, exprs-some, defs-none, defs-some}
 use Rattle.table.proofs.View.{View, is-const, is-param, is-prim, is-call, is-self, is-cond, is-bind, is-bound, view, kids-three}
-use Rattle.table.proofs.LaidOut.{laid}
 use Rattle.list.specs.Arbiters.{Test, nothing, joined, callsIn, parallel, conflicts}
-use Rattle.list.specs.Tags.{calleeOf, isCall, listed}
+use Rattle.list.specs.Tags.{calleeOf}
 use Rattle.list.specs.CallSets.{callee}
-use Rattle.list.specs.Working.{bitAt, Callee, Taken, callsBy, callsAt, callsAt*, conflictsAt, conflictsAt*, parallelAt, calledIn}
-use Rattle.list.specs.Working.{twiceIn, siblings, kidsAt, Within, Beside, Reach}
-use Rattle.list.proofs.BitLaws.{or-bit, and-bit, zero-bit}
+use Rattle.list.specs.Working.{Taken, callsBy, callsAt, callsAt*, conflictsAt, conflictsAt*, parallelAt, calledIn}
+use Rattle.list.specs.Working.{twiceIn, entryAt, siblings, kidsAt, Within, Beside, Reach, Cells, Cell, Ready}
 use Rattle.list.proofs.Meets.{or-no}
 use Rattle.list.proofs.CallLaws.{or-left, or-right, calls-called, node-listed}
-use Rattle.list.proofs.ParallelLaws.{called-none, called-same, called-two}
+use Rattle.list.proofs.ParallelLaws.{called-none}
+use Rattle.list.proofs.WalkLaws.{joined-is, or-swap}
 use Rattle.list.proofs.Callees.{callee-word}
 
 -- the calls s and the conflicts x of an expression
@@ -80,6 +77,19 @@ module _ (t : List ℕ) where
   unfolding joined
   joined-left s s′ m e = or-left (s m) (s′ m) e
 
+  joined-right : (s s′ : Test) (m : ℕ) → s′ m ≡ true → joined s s′ m ≡ true
+  unfolding joined
+  joined-right s s′ m e = or-right (s m) (s′ m) e
+
+  pub entry-none : (n : ℕ) → calleeOf t n ≡ 0 → (m : ℕ) → entryAt t n m ≡ false
+  unfolding entryAt
+  entry-none n z m = ap (λ g. pick (eqb g 0) false (eqb n m || callsBy t g m)) z
+
+  pub entry-is : (n g : ℕ) → calleeOf t n ≡ g → 1 ≤ g → (m : ℕ) → entryAt t n m ≡ joined (eqb n) (callsBy t g) m
+  unfolding entryAt joined
+  entry-is n g e l m = ap (λ g. pick (eqb g 0) false (eqb n m || callsBy t g m)) e
+      ∙ ap (λ b. pick b false (eqb n m || callsBy t g m)) (ne-eqb g 0 (λ z. omega (arith, z, l)))
+
   -- siblings, link by link
   pub none-calls : (m : ℕ) → callsAt* t none m ≡ false
   unfolding callsAt* callsIn nothing
@@ -128,13 +138,6 @@ module _ (t : List ℕ) where
       and-no true = refl
       and-no false = refl
 
-  -- the masks of a node and of the siblings after it
-  pub twice-more : (e : Expr) (es : Exprs) (mask once twice h : ℕ) → bitAt mask h ≡ calledIn t (callsAt t e) h
-      → bitAt once h ≡ calledIn t (callsAt* t es) h → bitAt twice h ≡ twiceIn t es h
-      → bitAt (bitOr twice (bitAnd mask once)) h ≡ twiceIn t (some e es) h
-  twice-more e es mask once twice h p q r =
-      or-bit twice (bitAnd mask once) h ∙ ap₂ (λ a b. a || b) r (and-bit mask once h ∙ ap₂ (λ a b. a && b) p q) ∙ sym (some-twice e es h)
-
 module _ (t : List ℕ) (f n : ℕ) (at : Within t f n) where
   abbrev ok : Passed t
   ok = passed t (functions t) (nodes t) (at .taken) .0
@@ -162,46 +165,78 @@ module _ (t : List ℕ) (f n : ℕ) (at : Within t f n) where
       go (is-bind k x y q e) = absurd (d k)
       go (is-bound k z s e) = is-nothing-bound t (exprAt t n) n (word t n) e
 
-  -- an operation, a self call: what the children call, side by side
-  pub operation : kind t n ≡ 3
-      → Is t (exprAt t n) (callsAt* t (kidsAt t false n)) (joined (parallelAt t (kidsAt t false n)) (conflictsAt* t (kidsAt t false n)))
-  operation p = go v
+  -- an operation, a call: what it enters, and what the children call, side by side
+  pub apart : 3 ≤ kind t n → kind t n ≤ 4 → Is t (exprAt t n) (joined (entryAt t n) (callsAt* t (kidsAt t false n)))
+      (joined (parallelAt t (kidsAt t false n)) (conflictsAt* t (kidsAt t false n)))
+  apart p r = go v
     where
-      go : View t n
-          → Is t (exprAt t n) (callsAt* t (kidsAt t false n)) (joined (parallelAt t (kidsAt t false n)) (conflictsAt* t
-          (kidsAt t false n)))
+      es : Exprs
+      es = kidsAt t false n
+
+      held : Test
+      held = joined (parallelAt t es) (conflictsAt* t es)
+
+      entering-none : calleeOf t n ≡ 0 → Is t (exprAt t n) (callsAt* t es) held
+          → Is t (exprAt t n) (joined (entryAt t n) (callsAt* t es)) held
+      entering-none z is = record {
+        calls = λ m. is .calls m ∙ sym (joined-is (entryAt t n) (callsAt* t es) m
+            ∙ ap (λ b. b || callsAt* t es m) (entry-none t n z m));
+        conflicts = is .conflicts;
+      }
+
+      entering-one : (g : ℕ) → calleeOf t n ≡ g → 1 ≤ g → Is t (exprAt t n) (joined (callsAt* t es) (joined (eqb n) (callsBy t g))) held
+          → Is t (exprAt t n) (joined (entryAt t n) (callsAt* t es)) held
+      entering-one g e l is = record {
+        calls = λ m. is .calls m ∙ joined-is (callsAt* t es) (joined (eqb n) (callsBy t g)) m
+            ∙ or-swap (callsAt* t es m) (joined (eqb n) (callsBy t g) m)
+            ∙ ap (λ b. b || callsAt* t es m) (sym (entry-is t n g e l m)) ∙ sym (joined-is (entryAt t n) (callsAt* t es) m);
+        conflicts = is .conflicts;
+      }
+
+      go : View t n → Is t (exprAt t n) (joined (entryAt t n) (callsAt* t es)) held
       go (is-const k z e) = absurd (omega (arith, k, p))
       go (is-param k z l e) = absurd (omega (arith, k, p))
-      go (is-prim k q e) = is-operation t (exprAt t n) n (extra t n) (exprsAt t (first t n)) e
+      go (is-prim k q e) =
+          entering-none (callee-word t n ∙ ap callee e) (is-operation t (exprAt t n) n (extra t n) (exprsAt t (first t n)) e)
+      go (is-call k l h q e) =
+          entering-one (word t n) (callee-word t n ∙ ap callee e) l (is-entry t (exprAt t n) n (word t n) (exprsAt t (first t n)) e)
+      go (is-self k w l q e) = entering-none (callee-word t n ∙ ap callee e) (is-again t (exprAt t n) n (exprsAt t (first t n)) e)
+      go (is-cond k x y w z e) = absurd (omega (arith, k, r))
+      go (is-bind k x y q e) = absurd (omega (arith, k, r))
+      go (is-bound k z s e) = absurd (omega (arith, k, r))
+
+  -- an operation and a self call enter nothing
+  pub enters-none : kind t n ≡ 3 → calleeOf t n ≡ 0
+  enters-none p = go v
+    where
+      go : View t n → calleeOf t n ≡ 0
+      go (is-const k z e) = absurd (omega (arith, k, p))
+      go (is-param k z l e) = absurd (omega (arith, k, p))
+      go (is-prim k q e) = callee-word t n ∙ ap callee e
       go (is-call k l h q e) = absurd (omega (arith, k, p))
       go (is-self k w l q e) = absurd (omega (arith, k, p))
       go (is-cond k x y w z e) = absurd (omega (arith, k, p))
       go (is-bind k x y q e) = absurd (omega (arith, k, p))
       go (is-bound k z s e) = absurd (omega (arith, k, p))
 
-  pub again : kind t n ≡ 4 → word t n ≡ f
-      → Is t (exprAt t n) (callsAt* t (kidsAt t false n)) (joined (parallelAt t (kidsAt t false n)) (conflictsAt* t (kidsAt t false n)))
-  again p r = go v
+  pub enters-again : kind t n ≡ 4 → word t n ≡ f → calleeOf t n ≡ 0
+  enters-again p r = go v
     where
-      go : View t n
-          → Is t (exprAt t n) (callsAt* t (kidsAt t false n)) (joined (parallelAt t (kidsAt t false n)) (conflictsAt* t
-          (kidsAt t false n)))
+      go : View t n → calleeOf t n ≡ 0
       go (is-const k z e) = absurd (omega (arith, k, p))
       go (is-param k z l e) = absurd (omega (arith, k, p))
       go (is-prim k q e) = absurd (omega (arith, k, p))
       go (is-call k l h q e) = absurd (omega (arith, h, r, at .own))
-      go (is-self k w l q e) = is-again t (exprAt t n) n (exprsAt t (first t n)) e
+      go (is-self k w l q e) = callee-word t n ∙ ap callee e
       go (is-cond k x y w z e) = absurd (omega (arith, k, p))
       go (is-bind k x y q e) = absurd (omega (arith, k, p))
       go (is-bound k z s e) = absurd (omega (arith, k, p))
 
-  -- a call of another function: that too, and its body
+  -- a call of another function
   pub record Entering : Type 0 where
     pub low : 1 ≤ word t n
     pub below : word t n < f
     pub target : calleeOf t n ≡ word t n
-    pub is : Is t (exprAt t n) (joined (callsAt* t (kidsAt t false n)) (joined (eqb n) (callsBy t (word t n))))
-        (joined (parallelAt t (kidsAt t false n)) (conflictsAt* t (kidsAt t false n)))
 
   pub entering : kind t n ≡ 4 → (word t n ≡ f → ⊥) → Entering
   entering p r = go v
@@ -210,12 +245,7 @@ module _ (t : List ℕ) (f n : ℕ) (at : Within t f n) where
       go (is-const k z e) = absurd (omega (arith, k, p))
       go (is-param k z l e) = absurd (omega (arith, k, p))
       go (is-prim k q e) = absurd (omega (arith, k, p))
-      go (is-call k l h q e) = record {
-        low = l;
-        below = omega (arith, h, at .own);
-        target = callee-word t n ∙ ap callee e;
-        is = is-entry t (exprAt t n) n (word t n) (exprsAt t (first t n)) e;
-      }
+      go (is-call k l h q e) = record { low = l; below = omega (arith, h, at .own); target = callee-word t n ∙ ap callee e }
       go (is-self k w l q e) = absurd (r (w ∙ at .own))
       go (is-cond k x y w z e) = absurd (omega (arith, k, p))
       go (is-bind k x y q e) = absurd (omega (arith, k, p))
@@ -277,50 +307,25 @@ module _ (t : List ℕ) (f n : ℕ) (at : Within t f n) where
       go (is-bound k z s e) = absurd (omega (arith, k, p))
 
   -- children whose calls and conflicts are their node's
-  beside-by : (defs : Bool) (s x : Test) → Is t (exprAt t n) s x → (defs ≡ true → first t n ≡ 0 → ⊥)
-      → ((m : ℕ) → callsAt* t (kidsAt t defs n) m ≡ true → s m ≡ true) → ((m : ℕ) → parallelAt t (kidsAt t defs n) m ≡ true → x m ≡ true)
-      → Beside t n defs
-  beside-by defs s x is z p q = record {
-    some = z;
+  beside-by : (defs : Bool) (s x : Test) → Is t (exprAt t n) s x → ((m : ℕ) → callsAt* t (kidsAt t defs n) m ≡ true → s m ≡ true)
+      → ((m : ℕ) → parallelAt t (kidsAt t defs n) m ≡ true → x m ≡ true) → Beside t n defs
+  beside-by defs s x is p q = record {
     calls = λ m e. calls-called t (at .taken) n i m (is .calls m ∙ p m e);
     conflicts = λ m e. node-listed t (at .taken) n i m (is .conflicts m ∙ q m e);
   }
 
-  plain : Bool → false ≡ true → first t n ≡ 0 → ⊥
-  plain b e z = true≢false (sym e)
-
-  pub beside-operation : kind t n ≡ 3 → Beside t n false
-  beside-operation p =
+  pub beside-apart : 3 ≤ kind t n → kind t n ≤ 4 → Beside t n false
+  beside-apart p r =
       let es = kidsAt t false n in
-      beside-by false (callsAt* t es) (joined (parallelAt t es) (conflictsAt* t es)) (operation p) (plain true) (λ m e. e)
-      (λ m e. joined-left t (parallelAt t es) (conflictsAt* t es) m e)
-
-  pub beside-again : kind t n ≡ 4 → word t n ≡ f → Beside t n false
-  beside-again p r =
-      let es = kidsAt t false n in
-      beside-by false (callsAt* t es) (joined (parallelAt t es) (conflictsAt* t es)) (again p r) (plain true) (λ m e. e)
-      (λ m e. joined-left t (parallelAt t es) (conflictsAt* t es) m e)
-
-  pub beside-entering : kind t n ≡ 4 → (word t n ≡ f → ⊥) → Beside t n false
-  beside-entering p r =
-      let es = kidsAt t false n in
-      beside-by false (joined (callsAt* t es) (joined (eqb n) (callsBy t (word t n)))) (joined (parallelAt t es) (conflictsAt* t es))
-      (entering p r .is) (plain true) (λ m e. joined-left t (callsAt* t es) (joined (eqb n) (callsBy t (word t n))) m e)
-      (λ m e. joined-left t (parallelAt t es) (conflictsAt* t es) m e)
-
-  pub beside-call : kind t n ≡ 4 → Beside t n false
-  beside-call p = go (ℕ-discrete (word t n) f)
-    where
-      go : Dec (word t n ≡ f) → Beside t n false
-      go (yes r) = beside-again p r
-      go (no r) = beside-entering p r
+      beside-by false (joined (entryAt t n) (callsAt* t es)) (joined (parallelAt t es) (conflictsAt* t es)) (apart p r)
+      (λ m e. joined-right t (entryAt t n) (callsAt* t es) m e) (λ m e. joined-left t (parallelAt t es) (conflictsAt* t es) m e)
 
   pub beside-binding : kind t n ≡ 6 → Beside t n true
   beside-binding p =
       let ds = kidsAt t true n in
       let b = finalAt t (first t n) in
       beside-by true (joined (callsAt* t ds) (callsAt t b)) (joined (joined (parallelAt t ds) (conflictsAt* t ds)) (conflictsAt t b))
-      (binding p .is) (λ e. binding p .some-child) (λ m e. joined-left t (callsAt* t ds) (callsAt t b) m e)
+      (binding p .is) (λ m e. joined-left t (callsAt* t ds) (callsAt t b) m e)
       (λ m e. joined-left t (joined (parallelAt t ds) (conflictsAt* t ds)) (conflictsAt t b) m
       (joined-left t (parallelAt t ds) (conflictsAt* t ds) m e))
 
@@ -383,5 +388,9 @@ reach-in t ok n i =
       node = i;
     }
 
-pub reach : (t : List ℕ) (f n : ℕ) → Within t f n → Reach t n
-reach t f n at = reach-in t (at .taken) n (at .node)
+-- the fields of a node are among the cells
+pub cell-in : (t cells : List ℕ) → Taken t → Cells t cells → (n : ℕ) → IsNode t n → Cell t cells n
+cell-in t cells ok k n i = record { read = k; node = i; few = omega (arith, i .1, few t ok .1) }
+
+pub cell : (t : List ℕ) (f n : ℕ) (sites cells : List ℕ) → Ready t sites cells → Within t f n → Cell t cells n
+cell t f n sites cells k at = cell-in t cells (at .taken) (k .read) n (at .node)

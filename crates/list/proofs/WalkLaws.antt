@@ -1,12 +1,12 @@
 -- the walk, put together: nothing, one walk after the other, siblings held against each other, a call, a body
-use Prim.Native.Nat.{ℕ, zero, suc, _+_, _*_, _^_, _≤_, _<_}
+use Prim.Native.Nat.{ℕ, _+_, _*_, _^_, _≤_}
 use mathlib.Core.Path.{_≡_, refl, subst, sym, ap, ap₂, _∙_}
-use mathlib.Core.Bool.{Bool, true, false, _&&_, _||_, true≢false}
+use mathlib.Core.Bool.{Bool, true, false, _||_, true≢false}
 use mathlib.Core.List.{List}
 use mathlib.Core.Logic.{_⊎_, inl, inr, ⊎-elim}
 use native.Mathlib.Omega.{arith}
 use native.Mathlib.Decide.{ℕ-discrete}
-use lib.Bits.{bitOr, bitAnd}
+use lib.Bits.{bitOr}
 use lib.Dec.{eqb}
 use lib.ListN.{length, getD, set, replicate, length-set}
 use lib.Seq.{getD-set-same, getD-set-other}
@@ -29,9 +29,15 @@ or-out : (a b : Bool) → a || b ≡ true → (a ≡ true) ⊎ (b ≡ true)
 or-out true b e = inl refl
 or-out false b e = inr e
 
-joined-is : (s s′ : Test) (m : ℕ) → joined s s′ m ≡ s m || s′ m
+pub joined-is : (s s′ : Test) (m : ℕ) → joined s s′ m ≡ s m || s′ m
 unfolding joined
 joined-is s s′ m = refl
+
+pub or-swap : (a b : Bool) → a || b ≡ b || a
+or-swap true true = refl
+or-swap true false = refl
+or-swap false true = refl
+or-swap false false = refl
 
 pub grown-none : (called found : List ℕ) → Grown called called found found
 grown-none called found = record { seen = λ g h. h; stays = λ m b h. h }
@@ -109,33 +115,25 @@ module _ (t : List ℕ) where
       more : (m : ℕ) → Bit m → tagged f′ m ≡ true → tagged f″ m ≡ true
       more m b e = met .bits m b ∙ or-left (tagged f′ m) (meetOf own sites twice 31 m) e
 
-  -- a call: its arguments, itself, and its callee's body, which has been walked
-  pub walk-call : (n g : ℕ) (s x : Test) (once : ℕ) (set set′ set″ set‴ b′ b″ c c′ c″ f f′ f″ : List ℕ) → IsNode t n → IsFunction t g
-      → calleeOf t n ≡ g → Walk t s x once set set′ b′ c c′ f f′ → Memo t b″ c″ f″ → Grown c′ c″ f′ f″ → Seen c″ g
-      → Adds (eqb n) set′ set″ → Adds (λ m. tagged b″ (512 * g + m)) set″ set‴
-      → Walk t (joined s (joined (eqb n) (callsBy t g))) x (bitOr once (bitOr (getD c″ g 0) (2 ^ g))) set set‴ b″ c c″ f f″
-  walk-call n g s x once set set′ set″ set‴ b′ b″ c c′ c″ f f′ f″ i j e w k grow seen put add = record {
+  -- a call of another function: itself, and its callee's body, which has been walked
+  pub walk-entry : (n g : ℕ) (set set′ set″ b c c′ f f′ : List ℕ) → IsNode t n → IsFunction t g → calleeOf t n ≡ g → Memo t b c′ f′
+      → Grown c c′ f f′ → Seen c′ g → Adds (λ m. tagged b (512 * g + m)) set set′ → Adds (eqb n) set′ set″
+      → Walk t (joined (eqb n) (callsBy t g)) nothing (bitOr (getD c′ g 0) (2 ^ g)) set set″ b c c′ f f′
+  walk-entry n g set set′ set″ b c c′ f f′ i j e k grow seen add put = record {
     memo = k;
-    grown = grown-two c c′ c″ f f′ f″ (w .grown) grow;
-    added = adds-two s (joined (eqb n) (callsBy t g)) (joined s (joined (eqb n) (callsBy t g))) set set′ set‴ (w .added)
-        (adds-two (eqb n) (callsBy t g) (joined (eqb n) (callsBy t g)) set′ set″ set‴ put
-        (adds-same (λ m. tagged b″ (512 * g + m)) (callsBy t g) set″ set‴ add (λ m b. sym (k .sets g m j seen b)))
-        (λ m b. joined-is (eqb n) (callsBy t g) m))
-        (λ m b. joined-is s (joined (eqb n) (callsBy t g)) m);
-    functions = λ h q. or-bit once (bitOr (getD c″ g 0) (2 ^ g)) h
-        ∙ ap₂ (λ p q. p || q) (w .functions h q)
-        (or-bit (getD c″ g 0) (2 ^ g) h ∙ ap₂ (λ p q. p || q) (k .masks g h j seen q) (pow-bit g h ∙ turn g h ∙ ap (eqb h) (sym e))
-        ∙ swap (calledIn t (callsBy t g) h) (eqb h (calleeOf t n)) ∙ ap (λ p. p || calledIn t (callsBy t g) h) (sym (called-one t n h i))
-        ∙ sym (called-two t (eqb n) (callsBy t g) h))
-        ∙ sym (called-two t s (joined (eqb n) (callsBy t g)) h);
-    finds = λ m b q. grow .stays m b (w .finds m b q);
+    grown = grow;
+    added = adds-two (callsBy t g) (eqb n) (joined (eqb n) (callsBy t g)) set set′ set″
+        (adds-same (λ m. tagged b (512 * g + m)) (callsBy t g) set set′ add (λ m b. sym (k .sets g m j seen b))) put
+        (λ m b. joined-is (eqb n) (callsBy t g) m ∙ or-swap (eqb n m) (callsBy t g m));
+    functions = λ h q. or-bit (getD c′ g 0) (2 ^ g) h
+        ∙ ap₂ (λ p q. p || q) (k .masks g h j seen q) (pow-bit g h ∙ turn g h ∙ ap (eqb h) (sym e))
+        ∙ or-swap (calledIn t (callsBy t g) h) (eqb h (calleeOf t n)) ∙ ap (λ p. p || calledIn t (callsBy t g) h) (sym (called-one t n h i))
+        ∙ sym (called-two t (eqb n) (callsBy t g) h);
+    finds = λ m b q. absurd (true≢false (sym q ∙ none-there m));
   }
     where
-      swap : (a b : Bool) → a || b ≡ b || a
-      swap true true = refl
-      swap true false = refl
-      swap false true = refl
-      swap false false = refl
+      none-there : (m : ℕ) → nothing m ≡ false
+      none-there = unfold nothing in (λ m. refl)
 
       turn : (g h : ℕ) → eqb g h ≡ eqb h g
       turn g h = go (ℕ-discrete g h)

@@ -1,5 +1,5 @@
 -- what the parts of the walk ask of each other: packed sets, the sites of each function, and what the walk keeps
-use Prim.Native.Nat.{ℕ, _+_, _-_, _*_, _/_, _%_, _^_, _≤_, _<_}
+use Prim.Native.Nat.{ℕ, _+_, _-_, _*_, _/_, _%_, _^_, _≤_}
 use mathlib.Core.Bool.{Bool, true, false, _&&_, _||_}
 use mathlib.Core.Path.{_≡_}
 use mathlib.Core.List.{List, []}
@@ -7,7 +7,7 @@ use lib.Dec.{eqb, leb}
 use lib.ListN.{length, getD, take, drop, replicate}
 use Rattle.table.specs.Pick.{pick, Range}
 use Rattle.table.specs.Syntax.{Expr, Exprs, none, some}
-use Rattle.table.specs.Bytes.{functions, nodes, kind, word, first}
+use Rattle.table.specs.Bytes.{functions, nodes, kind, word, first, next}
 use Rattle.table.specs.Naming.{owner}
 use Rattle.table.specs.Check.{accepted, checkOf}
 use Rattle.table.specs.Expressions.{exprsAt, exprAt, bodyOf, defsAt, finalAt}
@@ -67,6 +67,10 @@ unfolding callsAt callsAt* calledIn
 twiceIn t none h = false
 twiceIn t (some e es) h = twiceIn t es h || (calledIn t (callsAt t e) h && calledIn t (callsAt* t es) h)
 
+-- of a node that calls another function, itself and the calls of that body
+unfoldable pub entryAt : List ℕ → ℕ → Test
+entryAt t n m = pick (eqb (calleeOf t n) 0) false (eqb n m || callsBy t (calleeOf t n) m)
+
 -- the siblings from c on; of a let the definientia alone
 abbrev pub siblings : List ℕ → Bool → ℕ → Exprs
 siblings t defs c = pick defs (defsAt t c) (exprsAt t c)
@@ -86,6 +90,28 @@ pub record SitedTo (t : List ℕ) (k : ℕ) (sites : List ℕ) : Type 0 where
 
 abbrev pub Sited : List ℕ → List ℕ → Type 0
 Sited t sites = SitedTo t (nodes t) sites
+
+-- of the nodes up to k the fields, from 4 n on of node n: its kind, its word if it is a call, its first child, its next sibling
+pub record CellsTo (t : List ℕ) (k : ℕ) (cells : List ℕ) : Type 0 where
+  pub size : length cells ≡ 2052
+  pub kinds : (n : ℕ) → Range k n → getD cells (4 * n) 0 ≡ kind t n
+  pub words : (n : ℕ) → Range k n → kind t n ≡ 4 → getD cells (4 * n + 1) 0 ≡ word t n
+  pub firsts : (n : ℕ) → Range k n → getD cells (4 * n + 2) 0 ≡ first t n
+  pub nexts : (n : ℕ) → Range k n → getD cells (4 * n + 3) 0 ≡ next t n
+
+abbrev pub Cells : List ℕ → List ℕ → Type 0
+Cells t cells = CellsTo t (nodes t) cells
+
+-- a node whose fields are among the cells
+pub record Cell (t cells : List ℕ) (n : ℕ) : Type 0 where
+  pub read : Cells t cells
+  pub node : IsNode t n
+  pub few : n ≤ 512
+
+-- what the walk has at hand beside the table
+pub record Ready (t sites cells : List ℕ) : Type 0 where
+  pub sited : Sited t sites
+  pub read : Cells t cells
 
 -- what a set has in common with those of the sets 1 to k of a row that a mask names
 unfoldable pub meetOf : (set row : List ℕ) (mask k : ℕ) → Test
@@ -135,11 +161,26 @@ pub record Walk (t : List ℕ) (s x : Test) (mask : ℕ) (set set′ bodies′ c
   pub functions : (h : ℕ) → Callee h → bitAt mask h ≡ calledIn t s h
   pub finds : (m : ℕ) → Bit m → x m ≡ true → tagged found′ m ≡ true
 
+-- a walk whose functions are put to those of a mask
+pub record Onto (t : List ℕ) (s x : Test) (mask mask′ : ℕ) (set set′ bodies′ called called′ found found′ : List ℕ) : Type 0 where
+  pub own : ℕ
+  pub walk : Walk t s x own set set′ bodies′ called called′ found found′
+  pub joins : (h : ℕ) → Callee h → bitAt mask′ h ≡ bitAt mask h || bitAt own h
+
+abbrev pub OntoNode : (t : List ℕ) (n mask mask′ : ℕ) (set set′ bodies′ called called′ found found′ : List ℕ) → Type 0
+OntoNode t n = Onto t (callsAt t (exprAt t n)) (conflictsAt t (exprAt t n))
+
 -- a node of function f in an accepted table
 pub record Within (t : List ℕ) (f n : ℕ) : Type 0 where
   pub taken : Taken t
   pub node : IsNode t n
   pub own : owner t n ≡ f
+
+-- a node of kind k, which is 3 to top
+pub record KindTo (t : List ℕ) (n k top : ℕ) : Type 0 where
+  pub is : k ≡ kind t n
+  pub low : 3 ≤ k
+  pub high : k ≤ top
 
 -- a walk along siblings; of a let it names the body
 pub record Chained (t : List ℕ) (f c : ℕ) (defs : Bool) (r : Siblings) (set set′ bodies′ called called′ found found′ : List ℕ)
@@ -151,16 +192,20 @@ pub record Chained (t : List ℕ) (f c : ℕ) (defs : Bool) (r : Siblings) (set 
 
 -- node n's children are evaluated side by side; of a let (defs) all but the last
 pub record Beside (t : List ℕ) (n : ℕ) (defs : Bool) : Type 0 where
-  pub some : defs ≡ true → first t n ≡ 0 → ⊥
   pub calls : (m : ℕ) → callsAt* t (kidsAt t defs n) m ≡ true → Range (nodes t) m × Callee (calleeOf t m)
   pub conflicts : (m : ℕ) → parallelAt t (kidsAt t defs n) m ≡ true → listed t m ≡ true
 
 -- a walk over node n's children, with their conflicts
+abbrev pub WalkKids : (t : List ℕ) (n : ℕ) (defs : Bool) (mask : ℕ) (set set′ bodies′ called called′ found found′ : List ℕ) → Type 0
+WalkKids t n defs =
+    Walk t (callsAt* t (kidsAt t defs n)) (joined (parallelAt t (kidsAt t defs n)) (conflictsAt* t (kidsAt t defs n)))
+
+abbrev pub OntoKids : (t : List ℕ) (n mask mask′ : ℕ) (set set′ bodies′ called called′ found found′ : List ℕ) → Type 0
+OntoKids t n = Onto t (callsAt* t (kidsAt t false n)) (joined (parallelAt t (kidsAt t false n)) (conflictsAt* t (kidsAt t false n)))
+
 pub record Sided (t : List ℕ) (f n : ℕ) (defs : Bool) (r : Siblings) (set set′ bodies′ called called′ found found′ : List ℕ)
     : Type 0 where
-  pub walk : Walk t (callsAt* t (kidsAt t defs n)) (joined (parallelAt t (kidsAt t defs n)) (conflictsAt* t (kidsAt t defs n)))
-      (r .once) set
-      set′ bodies′ called called′ found found′
+  pub walk : WalkKids t n defs (r .once) set set′ bodies′ called called′ found found′
   pub last : defs ≡ true → IsNode t (r .last .0) × (owner t (r .last .0) ≡ f) × (first t n ≤ r .last .0)
       × (finalAt t (first t n) ≡ exprAt t (r .last .0))
 

@@ -1,6 +1,6 @@
 // The arbiter list of an accepted table as a packed set: every body is walked, main's first, and each once.
 use crate::bits;
-use crate::fields;
+use crate::cells;
 use crate::walk;
 use table::Function;
 use table::Node;
@@ -9,11 +9,11 @@ ghost use mathlib.Core.Path.{_≡_};
 ghost use Prim.Native.Nat.{ℕ};
 ghost use lib.ListN.{length};
 ghost use Rattle.list.specs.Tags.{tagged, listed};
-ghost use Rattle.list.specs.Working.{Bit, Taken, Sited};
+ghost use Rattle.list.specs.Working.{Bit, Taken, Cells, Sited};
 
 // The calls of each function, self calls too.
-fn sites(table: &[u8]) -> [u8; 2112]
-    requires { ⌜ Taken (now table) ⌝ }
+fn sites(table: &[u8], cells: &[u16; 2052]) -> [u8; 2112]
+    requires { ⌜ Taken (now table) × Cells (now table) (now cells) ⌝ }
     ensures { λ r. ⌜ Sited (now (table .entry)) r ⌝ }
 {
     let mut row = [0u8; 2112];
@@ -22,9 +22,9 @@ fn sites(table: &[u8]) -> [u8; 2112]
     while n < last.0 {
         n += 1;
         let node = Node(n);
-        if fields::kind(table, node) == 4 {
-            let word = fields::word(table, node);
-            bits::put_at(&mut row, Function(word as u16), node);
+        if cells::kind(table, cells, node) == 4 {
+            let word = cells::word(table, cells, node);
+            bits::put_at(&mut row, Function(word), node);
         }
     }
     row
@@ -35,7 +35,8 @@ pub(crate) fn arbiters(table: &[u8]) -> [u8; 64]
     requires { ⌜ Taken (now table) ⌝ }
     ensures { λ r. ⌜ (length r ≡ 64) × ((m : ℕ) → Bit m → tagged r m ≡ listed (now (table .entry)) m) ⌝ }
 {
-    let row = sites(table);
+    let cells = cells::collect(table);
+    let row = sites(table, &cells);
     let mut bodies = [0u8; 2112];
     let mut called = [0u32; 33];
     let mut found = [0u8; 64];
@@ -43,7 +44,8 @@ pub(crate) fn arbiters(table: &[u8]) -> [u8; 64]
     let mut f: u16 = main.0;
     while 0 < f {
         walk::body_walk(
-            table,
+            &table,
+            &cells,
             &row,
             Function(f),
             &mut bodies,

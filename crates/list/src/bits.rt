@@ -3,7 +3,7 @@ use table::Function;
 use table::Node;
 ghost use mathlib.Core.Path.{_≡_};
 ghost use mathlib.Core.Bool.{_&&_};
-ghost use Prim.Native.Nat.{ℕ, _+_, _-_, _*_, _%_, _^_, _≤_};
+ghost use Prim.Native.Nat.{_+_, _-_, _*_, _%_, _^_, _≤_};
 ghost use lib.Dec.{eqb};
 ghost use lib.ListN.{length};
 ghost use Rattle.list.specs.Tags.{tagged};
@@ -112,11 +112,12 @@ pub(crate) fn meet(found: &mut [u8; 64], set: &[u8; 64], row: &[u8; 2112], mask:
     requires { ⌜ length (now found) ≡ 64 ⌝ }
     ensures { λ _. ⌜ Adds (meetOf (now (set .entry)) (now (row .entry)) mask 31) (now (found .entry)) (now (found .exit)) ⌝ }
 {
-    if mask < 2 {
-        return;
-    }
     let mut h: usize = 0;
     while h < 31 {
+        let left = mask >> h;
+        if left < 2 {
+            return;
+        }
         h += 1;
         if has(mask, h) {
             meet_at(found, set, row, h);

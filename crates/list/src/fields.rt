@@ -3,7 +3,7 @@ use table::Node;
 ghost use mathlib.Core.Path.{_≡_};
 ghost use Prim.Native.Nat.{_+_, _*_, _<_};
 ghost use lib.ListN.{length};
-ghost use Rattle.table.specs.Bytes.{twoAt, functions, kind, word, first, next};
+ghost use Rattle.table.specs.Bytes.{twoAt, nodeAt, functions, kind, first, next};
 ghost use Rattle.table.specs.Working.{Framed};
 ghost use Rattle.list.specs.Working.{Reach};
 
@@ -37,15 +37,14 @@ pub(crate) fn kind(table: &[u8], n: Node) -> u8
     table[start + 10 * k - 10]
 }
 
-pub(crate) fn word(table: &[u8], n: Node) -> u32
+// The low half of the word.
+pub(crate) fn low(table: &[u8], n: Node) -> u16
     requires { ⌜ Reach (now table) (n .0) ⌝ }
-    ensures { λ r. ⌜ r ≡ word (now (table .entry)) (n .0) ⌝ }
+    ensures { λ r. ⌜ r ≡ twoAt (now (table .entry)) (nodeAt (now (table .entry)) (n .0) + 2) ⌝ }
 {
     let start = base(table);
     let k = n.0 as usize;
-    let low = two_at(table, start + 10 * k - 8);
-    let high = two_at(table, start + 10 * k - 6);
-    (low as u32) + 65536 * (high as u32)
+    two_at(table, start + 10 * k - 8)
 }
 
 pub(crate) fn first(table: &[u8], n: Node) -> Node

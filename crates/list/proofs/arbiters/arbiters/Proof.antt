@@ -1,8 +1,6 @@
 -- `arbiters::arbiters` meets its contract
-use mathlib.Core.Path.{_≡_, sym, ap}
-use Prim.Native.Nat.{ℕ, _-_, _≤_, _<_}
+use Prim.Native.Nat.{ℕ, _≤_, _<_}
 use native.Mathlib.Omega.{arith}
-use native.Mathlib.Decide.{ℕ-discrete}
 use Rattle.table.specs.Bytes.{functions}
 use Rattle.list.specs.Working.{Seen, Memo}
 use Rattle.list.proofs.ListLaws.{memo-none, found-list, all-seen}
@@ -10,14 +8,17 @@ use Rattle.list.proofs.arbiters.arbiters.Statement.{statement}
 use Rattle.list.proofs.arbiters.arbiters.Tie as tie
 
 abbrev Inv-loop : tie.InvT-loop
-Inv-loop table row bodies₀ called₀ found₀ f₀ bodies called found f =
+Inv-loop table lent cells row bodies₀ called₀ found₀ f₀ bodies called found f =
     (f ≤ functions table) × Memo table bodies called found × ((g : ℕ) → f < g → g ≤ functions table → Seen called g)
 
 abbrev μ-loop : tie.MeasureT-loop
-μ-loop table row bodies₀ called₀ found₀ f₀ bodies called found f = f
+μ-loop table lent cells row bodies₀ called₀ found₀ f₀ bodies called found f = f
+
+collect-requires : tie.Need-collect-requires Inv-loop μ-loop
+collect-requires c κs = c .before .pre
 
 sites-requires : tie.Need-sites-requires Inv-loop μ-loop
-sites-requires c κs = c .before .pre
+sites-requires c κs = (c .before .before .before .pre, c .before .collect .ensures)
 
 functions-requires : tie.Need-functions-requires Inv-loop μ-loop
 functions-requires c κs = tt
@@ -29,9 +30,22 @@ loop-holds c =
 
 body-walk-requires : tie.Need-body-walk-requires Inv-loop μ-loop
 body-walk-requires c κs =
-    let inv = c .before .before .before .before .before .loop .inv in (
-      (c .before .before .before .before .before .before .before .before .before .pre, (omega arith, inv .0)),
-      (c .before .before .before .before .before .before .before .sites .ensures, inv .1),
+    let inv = c .before .before .before .before .before .before .before .loop .inv in (
+      (
+        c .before .before .before .before .before .before .before .before .before .before .before .before .before .pre,
+        (
+          omega arith,
+          inv .0,
+        ),
+      ),
+      (
+        record {
+          sited = c .before .before .before .before .before .before .before .before .before .sites .ensures;
+          read = c .before
+              .before .before .before .before .before .before .before .before .before .before .collect .ensures;
+        },
+        inv .1,
+      ),
     )
 
 sub-f : tie.Need-sub-f Inv-loop μ-loop
@@ -42,13 +56,14 @@ loop-less c = omega arith
 
 loop-again : tie.Need-loop-again Inv-loop μ-loop
 loop-again c =
-    let inv = c .before .before .before .before .before .before .loop .inv in
+    let inv = c .before .before .before .before .before .before .before .before .loop .inv in
     let r = c .body-walk .ensures in
-    let F = functions (c .before .before .before .before .before .before .before .before .before .before .args .table .now) in (
+    let F = functions (c .before .before .before .before .before .before .before .before .before .before .before .before .before
+    .before .args .t1 .now) in (
       omega arith,
       r .0,
-      all-seen F (c .before .before .before .before .before .before .loop .called) (c .body-walk .last .1 .1 .1 .1 .0)
-          (c .before .before .before .before .before .before .loop .f) (inv .2) (r .1 .seen) (r .2),
+      all-seen F (c .before .before .before .before .before .before .before .before .loop .called) (c .body-walk .last .1 .1 .1 .1 .1
+          .0) (c .before .before .before .before .before .before .before .before .loop .f) (inv .2) (r .1 .seen) (r .2),
     )
 
 returns : tie.Need-returns Inv-loop μ-loop
@@ -62,6 +77,7 @@ arbiters-spec =
     (tie.spec
     Inv-loop
     μ-loop
+    collect-requires
     sites-requires
     functions-requires
     loop-holds

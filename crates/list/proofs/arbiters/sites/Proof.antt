@@ -1,20 +1,19 @@
 -- `arbiters::sites` meets its contract
-use mathlib.Core.Path.{_≡_, refl, sym, subst, ap, _∙_}
-use Prim.Native.Nat.{ℕ, _+_, _-_, _≤_}
+use mathlib.Core.Path.{_≡_, sym, subst, _∙_}
+use Prim.Native.Nat.{_+_, _-_, _≤_}
 use native.Mathlib.Omega.{arith}
-use borrow.Author.Needs.{needs}
 use Rattle.table.specs.Bytes.{nodes}
 use Rattle.list.specs.Working.{SitedTo}
-use Rattle.list.proofs.NodeLaws.{few, reach-in}
+use Rattle.list.proofs.NodeLaws.{few, cell-in}
 use Rattle.list.proofs.SiteLaws.{word-few, sites-none, sites-call, sites-other}
 use Rattle.list.proofs.arbiters.sites.Statement.{statement}
 use Rattle.list.proofs.arbiters.sites.Tie as tie
 
 abbrev Inv-loop : tie.InvT-loop
-Inv-loop table row₀ last n₀ row n = (n ≤ nodes table) × SitedTo table n row
+Inv-loop table cells row₀ last n₀ row n = (n ≤ nodes table) × SitedTo table n row
 
 abbrev μ-loop : tie.MeasureT-loop
-μ-loop table row₀ last n₀ row n = nodes table - n
+μ-loop table cells row₀ last n₀ row n = nodes table - n
 
 nodes-requires : tie.Need-nodes-requires Inv-loop μ-loop
 nodes-requires c κs = tt
@@ -28,30 +27,30 @@ add-n c = omega (
   c .before .before .loop .inv .0,
   c .before .before .before .nodes .ensures,
   few _
-      (c .before .before .before .before .before .pre) .1,
+      (c .before .before .before .before .before .pre .0) .1,
 )
 
 kind-requires : tie.Need-kind-requires Inv-loop μ-loop
-kind-requires c κs = reach-in _ (c .before .before .before .before .before .pre) (c .before .before .loop .n + 1)
-    (omega arith, omega (arith, c .before .before .before .nodes .ensures))
+kind-requires c κs = cell-in _ _ (c .before .before .before .before .before .pre .0) (c .before .before .before .before .before .pre
+    .1) (c .before .before .loop .n + 1) (omega arith, omega (arith, c .before .before .before .nodes .ensures))
 
 word-requires : tie.Need-word-requires Inv-loop μ-loop
-word-requires c κs = reach-in _ (c .before .before .before .before .before .before .before .pre)
-    (c .before .before .before .before .loop .n + 1) (omega arith, omega (arith, c .before .before .before .before .before .nodes .ensures))
-
-cast-t11 : tie.Need-cast-t11 Inv-loop μ-loop
-cast-t11 c =
-    let ok = c .before .before .before .before .before .before .before .before .before .pre in
-    let n : nodes (c .before .before .before .before .before .before .before .before .before .args .table .now) ≡ c .before
-    .before .before .before .before .before .before .nodes .result .0 = sym
-    (c .before .before .before .before .before .before .before .nodes .ensures) in
-    let w = word-few _ ok (c .before .before .before .before .before .before .loop .n + 1) (omega arith, omega (arith, n)) (sym
-    (c .before .before .before .kind .ensures) ∙ c .before .before .if2 .taken) in
-    record { fits = omega (arith, w, c .before .word .ensures) }
+word-requires c κs = (
+  cell-in _ _ (c .before .before .before .before .before .before .before .pre .0) (c .before .before .before .before .before .before
+      .before .pre .1) (c .before .before .before .before .loop .n + 1) (
+        omega arith,
+        omega (
+          arith,
+          c .before .before .before .before
+              .before .nodes .ensures,
+        ),
+      ),
+  sym (c .before .kind .ensures) ∙ c .if2 .taken,
+)
 
 put-at-requires : tie.Need-put-at-requires Inv-loop μ-loop
 put-at-requires c κs =
-    let ok = c .before .before .before .before .before .before .before .before .before .pre in
+    let ok = c .before .before .before .before .before .before .before .before .before .pre .0 in
     let n : nodes (c .before .before .before .before .before .before .before .before .before .args .table .now) ≡ c .before
     .before .before .before .before .before .before .nodes .result .0 = sym
     (c .before .before .before .before .before .before .before .nodes .ensures) in
@@ -117,7 +116,6 @@ sites-spec =
     add-n
     kind-requires
     word-requires
-    cast-t11
     put-at-requires
     loop-less
     loop-again

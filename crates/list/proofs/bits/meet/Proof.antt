@@ -1,12 +1,10 @@
 -- `bits::meet` meets its contract
 use mathlib.Core.Path.{_≡_, sym, subst, _∙_}
-use mathlib.Core.Logic.{⊎-elim}
-use Prim.Native.Nat.{ℕ, _+_, _-_, _≤_}
+use Prim.Native.Nat.{_+_, _-_, _≤_}
 use native.Mathlib.Omega.{arith}
 use borrow.Author.Needs.{needs}
-use lib.ListN.{length}
 use Rattle.list.specs.Working.{Adds, meetOf}
-use Rattle.list.proofs.Meets.{adds-none, meet-small, meet-zero, meet-more, meet-skip}
+use Rattle.list.proofs.Meets.{adds-none, meet-zero, meet-more, meet-skip, meet-rest}
 use Rattle.list.proofs.bits.meet.Statement.{statement}
 use Rattle.list.proofs.bits.meet.Tie as tie
 
@@ -16,15 +14,24 @@ Inv-loop found₀ set row mask h₀ found h = (h ≤ 31) × Adds (meetOf set row
 abbrev μ-loop : tie.MeasureT-loop
 μ-loop found₀ set row mask h₀ found h = 31 - h
 
-returns : tie.Need-returns Inv-loop μ-loop
-returns c =
-    let a = c .before .args in
-    adds-none _ (a .found .now) (c .before .pre) (λ m b. meet-small (a .set .now) (a .row .now) (a .mask) 31 m (omega arith))
-
 loop-holds : tie.Need-loop-holds Inv-loop μ-loop
 loop-holds c =
-    let a = c .before .args in
-    (omega arith, adds-none _ (a .found .now) (c .before .pre) (λ m b. meet-zero (a .set .now) (a .row .now) (a .mask) m))
+    let a = c .args in
+    (omega arith, adds-none _ (a .found .now) (c .pre) (λ m b. meet-zero (a .set .now) (a .row .now) (a .mask) m))
+
+cast-left : tie.Need-cast-left Inv-loop μ-loop
+cast-left c = search needs
+
+shr-left : tie.Need-shr-left Inv-loop μ-loop
+shr-left c = omega arith
+
+returns : tie.Need-returns Inv-loop μ-loop
+returns c =
+    let a = c .before .before .before .args in
+    let l = c .before .before .loop in
+    let e : l .h + (31 - l .h) ≡ 31 = omega (arith, l .inv .0) in
+    subst (λ k. Adds (meetOf (a .set .now) (a .row .now) (a .mask) k) (a .found .now) (l .found)) e
+    (meet-rest (a .set .now) (a .row .now) (a .mask) (l .h) (31 - l .h) (a .found .now) (l .found) (c .if1 .taken) (l .inv .1))
 
 add-h : tie.Need-add-h Inv-loop μ-loop
 add-h c = omega arith
@@ -33,7 +40,7 @@ has-requires : tie.Need-has-requires Inv-loop μ-loop
 has-requires c κs = omega arith
 
 meet-at-requires : tie.Need-meet-at-requires Inv-loop μ-loop
-meet-at-requires c κs = (c .before .before .before .before .loop .inv .1 .size, omega arith)
+meet-at-requires c κs = (c .before .before .before .before .before .loop .inv .1 .size, omega arith)
 
 loop-less : tie.Need-loop-less Inv-loop μ-loop
 loop-less c = omega arith
@@ -41,7 +48,7 @@ loop-less c = omega arith
 loop-again : tie.Need-loop-again Inv-loop μ-loop
 loop-again c =
     let a = c .before .before .before .before .before .before .before .args in
-    let l = c .before .before .before .before .before .loop in (
+    let l = c .before .before .before .before .before .before .loop in (
       omega arith,
       meet-more (a .set .now) (a .row .now) (a .mask) (l .h) (a .found .now) (l .found) _ (l .inv .1)
           (sym (c .before .before .before .has .ensures) ∙ c .before .before .if2 .taken) (c .meet-at .ensures),
@@ -53,7 +60,7 @@ loop-less-2 c = omega arith
 loop-again-2 : tie.Need-loop-again-2 Inv-loop μ-loop
 loop-again-2 c =
     let a = c .before .before .before .before .before .args in
-    let l = c .before .before .before .loop in (
+    let l = c .before .before .before .before .loop in (
       omega arith,
       meet-skip (a .set .now) (a .row .now) (a .mask) (l .h) (a .found .now) (l .found) (l .inv .1) (sym (c .before .has .ensures)
           ∙ c .if2 .left),
@@ -61,7 +68,7 @@ loop-again-2 c =
 
 returns-2 : tie.Need-returns-2 Inv-loop μ-loop
 returns-2 c =
-    let a = c .before .before .before .args in
+    let a = c .before .before .args in
     let l = c .before .loop in
     let e : l .h ≡ 31 = omega arith in
     subst (λ k. Adds (meetOf (a .set .now) (a .row .now) (a .mask) k) (a .found .now) (l .found)) e (l .inv .1)
@@ -72,8 +79,10 @@ meet-spec =
     (tie.spec
     Inv-loop
     μ-loop
-    returns
     loop-holds
+    cast-left
+    shr-left
+    returns
     add-h
     has-requires
     meet-at-requires

@@ -1,6 +1,6 @@
 -- the body of a function, walked once and kept
 use Prim.Native.Nat.{ℕ}
-use mathlib.Core.Path.{_≡_, refl, sym, subst}
+use mathlib.Core.Path.{refl, sym, subst}
 use native.Mathlib.Omega.{arith}
 use borrow.Author.Needs.{needs}
 use Rattle.list.specs.Working.{Within}
@@ -11,29 +11,29 @@ use Rattle.list.proofs.walk.body_walk.Reads as body-walk
 use Rattle.table.proofs.read.root.Reads as root-reads
 use Rattle.list.proofs.walk.node_walk.Reads as node-walk
 use Rattle.list.proofs.bits.keep.Reads as keep-reads
-use Rattle.list.proofs.walk.+body_walk+chain_walk+node_walk+side_walk.Lts-body_walk as lts
-use Rattle.list.proofs.walk.+body_walk+chain_walk+node_walk+side_walk.Proof.Measures.{body-walk-at, node-walk-below}
+use Rattle.list.proofs.walk.+body_walk+chain_walk+enter_walk+inner_walk+kids_walk+node_walk+side_walk.Lts-body_walk as lts
+use Rattle.list.proofs.walk.+body_walk+chain_walk+enter_walk+inner_walk+kids_walk+node_walk+side_walk.Proof.Measures as measures
 
 module _ (t : ℕ) where
   abbrev pub given : lts.Claims
-  given = (root-reads.Asked, root-reads.Learnt, node-walk-below t, node-walk.Post, keep-reads.Asked, keep-reads.Learnt)
+  given = (root-reads.Asked, root-reads.Learnt, measures.node-walk-below t, node-walk.Post, keep-reads.Asked, keep-reads.Learnt)
 
-  pub cast-at : lts.Need-cast-at given (body-walk-at t) body-walk.Post
+  pub cast-at : lts.Need-cast-at given (measures.body-walk-at t) body-walk.Post
   cast-at c = search needs
 
-  pub mul-if1 : lts.Need-mul-if1 given (body-walk-at t) body-walk.Post
-  mul-if1 c = record { fits = let p = c .before .before .pre .1 .0 in omega (arith, p .1 .1, few _ (p .0) .0) }
+  pub mul-if1 : lts.Need-mul-if1 given (measures.body-walk-at t) body-walk.Post
+  mul-if1 c = record { fits = let p = c .before .pre .1 .0 in omega (arith, p .1 .1, few _ (p .0) .0) }
 
-  pub element-copy-out-if1 : lts.Need-element-copy-out-if1 given (body-walk-at t) body-walk.Post
-  element-copy-out-if1 c = let p = c .before .before .pre .1 .0 in omega (arith, p .1 .1, few _ (p .0) .0)
+  pub element-copy-out-if1 : lts.Need-element-copy-out-if1 given (measures.body-walk-at t) body-walk.Post
+  element-copy-out-if1 c = let p = c .before .pre .1 .0 in omega (arith, p .1 .1, few _ (p .0) .0)
 
-  pub returns : lts.Need-returns given (body-walk-at t) body-walk.Post
-  returns c = (c .before .before .before .before .pre .1 .1 .1, grown-none _ _, c .if1 .taken)
+  pub returns : lts.Need-returns given (measures.body-walk-at t) body-walk.Post
+  returns c = (c .before .before .before .pre .1 .1 .1, grown-none _ _, c .if1 .taken)
 
-  pub root-requires : lts.Need-root-requires given (body-walk-at t) body-walk.Post
+  pub root-requires : lts.Need-root-requires given (measures.body-walk-at t) body-walk.Post
   root-requires c κs = tt
 
-  pub node-walk-requires : lts.Need-node-walk-requires given (body-walk-at t) body-walk.Post
+  pub node-walk-requires : lts.Need-node-walk-requires given (measures.body-walk-at t) body-walk.Post
   node-walk-requires c κs =
       let p = c .before .before .before .before .before .before .before .before .before .pre in
       let ok = p .1 .0 .0 in
@@ -42,24 +42,24 @@ module _ (t : ℕ) where
       let w = subst (Within _ _) (sym e) (root-there _ ok _ i) in
       (omega (arith, p .0, few _ ok .1, w .node .0), (refl, (w, (p .1 .1 .0, p .1 .1 .1))))
 
-  pub keep-requires : lts.Need-keep-requires given (body-walk-at t) body-walk.Post
+  pub keep-requires : lts.Need-keep-requires given (measures.body-walk-at t) body-walk.Post
   keep-requires c κs = (
-    c .before .before .node-walk .ensures .memo .size-bodies,
+    c .before .before .node-walk .ensures .walk .memo .size-bodies,
     let p = c .before .before .before .before
         .before .before .before .before .before .before .before .before .pre .1 .0 in omega (arith, p .1 .1, few _ (p .0) .0),
   )
 
-  pub mul-called : lts.Need-mul-called given (body-walk-at t) body-walk.Post
+  pub mul-called : lts.Need-mul-called given (measures.body-walk-at t) body-walk.Post
   mul-called c = record {
     fits = let p = c .before .before .before .before .before .before .before .before .before .before .before
         .before .before .pre .1 .0 in omega (arith, p .1 .1, few _ (p .0) .0);
   }
 
-  pub element-write-called : lts.Need-element-write-called given (body-walk-at t) body-walk.Post
+  pub element-write-called : lts.Need-element-write-called given (measures.body-walk-at t) body-walk.Post
   element-write-called c = let p = c .before .before .before .before .before .before .before .before .before .before .before
       .before .before .pre .1 .0 in omega (arith, p .1 .1, few _ (p .0) .0)
 
-  pub returns-2 : lts.Need-returns-2 given (body-walk-at t) body-walk.Post
+  pub returns-2 : lts.Need-returns-2 given (measures.body-walk-at t) body-walk.Post
   returns-2 c =
       let p = c .before .before .before .before .before .before .before .before .before .before .before .before .before .pre .1 .0 in
       at-body _ (p .0) _ _ _ _ _ _ _ _ _ _ (p .1) (c .before .before .before .before .before .before .before .before .root .ensures)

@@ -1,0 +1,40 @@
+-- `fields::low` meets its contract
+use mathlib.Core.Path.{ap, _∙_}
+use native.Mathlib.Omega.{arith}
+use Rattle.table.specs.Bytes.{twoAt, nodeAt}
+use borrow.Author.Needs.{needs}
+use Rattle.list.proofs.fields.low.Statement.{statement}
+use Rattle.list.proofs.fields.low.Tie as tie
+
+base-requires : tie.Need-base-requires
+base-requires c κs = search needs
+
+cast-k : tie.Need-cast-k
+cast-k c = search needs
+
+mul-two-at : tie.Need-mul-two-at
+mul-two-at c = search needs
+
+add-two-at : tie.Need-add-two-at
+add-two-at c = search needs
+
+sub-two-at : tie.Need-sub-two-at
+sub-two-at c = search needs
+
+two-at-requires : tie.Need-two-at-requires
+two-at-requires c κs = search needs
+
+returns : tie.Need-returns
+unfolding nodeAt
+returns c =
+    let a = c .before .before .before .before .args in
+    c .two-at .ensures ∙ ap (λ i. twoAt (a .table .now) i) (omega (
+      arith,
+      c .before .before .base .ensures,
+      c .before .before .before .before .pre .node .0,
+    ))
+
+pub low-spec : {M : Type 1} → statement M
+low-spec =
+    tie.close
+    (tie.spec base-requires cast-k mul-two-at add-two-at sub-two-at two-at-requires returns)

@@ -1,0 +1,135 @@
+-- a node that has more to it, by its kind
+use Prim.Native.Nat.{ℕ}
+use mathlib.Core.Path.{refl, sym, subst, _∙_}
+use native.Mathlib.Omega.{arith}
+use Rattle.list.specs.Working.{Within}
+use Rattle.list.proofs.NodeLaws.{cell, choosing, binding, beside-binding, beside-apart}
+use Rattle.list.proofs.OntoLaws.{onto-one}
+use Rattle.list.proofs.NodeWalks.{at-choice, at-let, at-apart}
+use Rattle.list.proofs.walk.inner_walk.Reads as inner-walk
+use Rattle.list.proofs.cells.first.Reads as first-reads
+use Rattle.list.proofs.walk.chain_walk.Reads as chain-walk
+use Rattle.list.proofs.walk.side_walk.Reads as side-walk
+use Rattle.list.proofs.walk.node_walk.Reads as node-walk
+use Rattle.list.proofs.walk.enter_walk.Reads as enter-walk
+use Rattle.list.proofs.walk.kids_walk.Reads as kids-walk
+use Rattle.list.proofs.walk.+body_walk+chain_walk+enter_walk+inner_walk+kids_walk+node_walk+side_walk.Lts-inner_walk as lts
+use Rattle.list.proofs.walk.+body_walk+chain_walk+enter_walk+inner_walk+kids_walk+node_walk+side_walk.Proof.Measures as measures
+
+module _ (t : ℕ) where
+  abbrev pub given : lts.Claims
+  given = (
+    first-reads.Asked,
+    first-reads.Learnt,
+    measures.chain-walk-below t,
+    chain-walk.Post,
+    measures.side-walk-below t,
+    side-walk.Post,
+    measures.node-walk-below t,
+    node-walk.Post,
+    measures.enter-walk-below t,
+    enter-walk.Post,
+    measures.kids-walk-below t,
+    kids-walk.Post,
+  )
+
+  pub first-requires : lts.Need-first-requires given (measures.inner-walk-at t) inner-walk.Post
+  first-requires c κs = let p = c .before .before .pre .1 in cell _ _ _ _ _ (p .1 .1 .1 .0) (p .1 .0)
+
+  pub chain-walk-requires : lts.Need-chain-walk-requires given (measures.inner-walk-at t) inner-walk.Post
+  chain-walk-requires c κs =
+      let p = c .before .before .before .before .before .before .before .pre in
+      let a = c .before .before .before .before .before .before .before .args in
+      let e = c .before .before .before .before .first .ensures in
+      let u = choosing (a .table .now .now) (a .f .0) (a .n .0) (p .1 .1 .0) (sym (p .1 .1 .1 .0 .is) ∙ c .before .before .before
+      .before .before .before .if1 .taken) in
+      (omega (arith, p .0, e, u .past, u .there .node .1), (p .1 .0, (subst (Within _ _) (sym e) (u .there), p .1 .1 .1 .1)))
+
+  pub returns : lts.Need-returns given (measures.inner-walk-at t) inner-walk.Post
+  returns c =
+      let p = c .before .before .before .before .before .before .before .before .before .pre .1 in
+      onto-one _ _ _ _ _ _ _ _ _ _ _ _
+      (at-choice _ _ _ (p .1 .0) _ _ (c .before .chain-walk .result) _ _ _ _ _ _ _ (p .1 .1 .0 .is) (c .before .before .before .before
+      .before .before .before .before .if1 .taken)
+      (c .before .before .before .before .before .before .first .ensures) (c .before .chain-walk .ensures))
+
+  pub side-walk-requires : lts.Need-side-walk-requires given (measures.inner-walk-at t) inner-walk.Post
+  side-walk-requires c κs =
+      let p = c .before .before .before .before .before .before .pre in
+      let a = c .before .before .before .before .before .before .args in
+      let w = p .1 .1 .0 in
+      let k = sym (p .1 .1 .1 .0 .is) ∙ c .before .before .before .before .if2 .taken in
+      let b = beside-binding (a .table .now .now) (a .f .0) (a .n .0) w k in
+      let u = binding (a .table .now .now) (a .f .0) (a .n .0) w k in
+      (omega (arith, p .0), (p .1 .0, (w, ((b, u .some-child), p .1 .1 .1 .1))))
+
+  pub node-walk-requires : lts.Need-node-walk-requires given (measures.inner-walk-at t) inner-walk.Post
+  node-walk-requires c κs =
+      let p = c .before .before .before .before .before .before .before .before .before .before .before .before .before .pre in
+      let a = c .before .before .before .before .before .before .before .before .before .before .before .before .before .args in
+      let w = p .1 .1 .0 in
+      let s = c .before .before .before .before .before .before .side-walk .ensures in
+      let l = s .last refl in
+      let q = binding (a .table .now .now) (a .f .0) (a .n .0) w (sym (p .1 .1 .1 .0 .is) ∙ c .before .before .before .before .before
+      .before .before .before .before .before .before .if2 .taken) .past in (
+        omega (arith, p .0, q, l .2, l .0 .1),
+        (s .walk .added .size, (record { taken = w .taken; node = l .0; own = l .1 }, (p .1 .1 .1 .1 .0, s .walk .memo))),
+      )
+
+  pub returns-2 : lts.Need-returns-2 given (measures.inner-walk-at t) inner-walk.Post
+  returns-2 c =
+      let p = c .before .before .before .before .before .before .before .before .before .before .before .before .before .before .pre .1 in
+      at-let _ _ _ (p .1 .0) _ _ _ (c .before .before .before .before .before .before .before .side-walk .result) _ _ _ _ _ _ _ _ _ _ _
+      (p .1 .1 .0 .is) (c .before .before .before .before .before .before .before .before .before .before .before .before .if2 .taken)
+      (c .before .before .before .before .before .before .before .side-walk .ensures) (c .node-walk .ensures)
+
+  pub enter-walk-requires : lts.Need-enter-walk-requires given (measures.inner-walk-at t) inner-walk.Post
+  enter-walk-requires c κs =
+      let p = c .before .before .before .before .before .before .pre in
+      let k = p .1 .1 .1 .0 in (
+        omega (arith, p .0),
+        (
+          p .1 .0,
+          (
+            p .1 .1 .0,
+            (
+              record {
+                is = k .is;
+                low = k .low;
+                high = omega (
+                  arith,
+                  k .high,
+                  c .before .before .before .before .before .if1 .left,
+                  c
+                      .before .before .before .before .if2 .left,
+                );
+              },
+              p .1 .1 .1 .1,
+            ),
+          ),
+        ),
+      )
+
+  pub kids-walk-requires : lts.Need-kids-walk-requires given (measures.inner-walk-at t) inner-walk.Post
+  kids-walk-requires c κs =
+      let p = c .before .before .before .before .before .before .before .before .before .before .before .pre in
+      let k = p .1 .1 .1 .0 in
+      let w = c .before .before .before .before .enter-walk .ensures .walk in
+      let b = beside-apart _ _ _ (p .1 .1 .0) (omega (arith, k .is, k .low))
+      (omega (
+        arith,
+        k .is,
+        k .high,
+        c .before .before .before .before .before .before .before .before .before .before .if1 .left,
+        c
+            .before .before .before .before .before .before .before .before .before .if2 .left,
+      )) in
+      (omega (arith, p .0), (w .added .size, (p .1 .1 .0, (b, (p .1 .1 .1 .1 .0, w .memo)))))
+
+  pub returns-3 : lts.Need-returns-3 given (measures.inner-walk-at t) inner-walk.Post
+  returns-3 c =
+      let p = c .before .before .before .before .before .before .before .before .before .before .before .before .pre .1 in
+      at-apart _ _ _ (p .1 .0) _ _ _ _ _ _ _ _ _ _ _ _ _ _ _ (p .1 .1 .0) (c .before .before .before .before .before .before .before
+      .before .before .before .before .if1 .left) (c .before .before .before .before .before .before .before .before .before .before
+      .if2 .left)
+      (c .before .before .before .before .before .enter-walk .ensures) (c .kids-walk .ensures)

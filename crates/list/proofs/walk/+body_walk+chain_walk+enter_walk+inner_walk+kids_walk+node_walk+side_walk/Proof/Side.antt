@@ -1,0 +1,53 @@
+-- the children of a node, held against each other
+use Prim.Native.Nat.{ℕ}
+use mathlib.Core.Path.{refl, sym, subst}
+use native.Mathlib.Omega.{arith}
+use Rattle.list.specs.Working.{Within}
+use Rattle.list.proofs.NodeLaws.{cell, first-there}
+use Rattle.list.proofs.ChainLaws.{side-all}
+use Rattle.list.proofs.walk.side_walk.Reads as side-walk
+use Rattle.list.proofs.cells.first.Reads as first-reads
+use Rattle.list.proofs.walk.chain_walk.Reads as chain-walk
+use Rattle.list.proofs.bits.meet.Reads as meet-reads
+use Rattle.list.proofs.bits.join.Reads as join-reads
+use Rattle.list.proofs.walk.+body_walk+chain_walk+enter_walk+inner_walk+kids_walk+node_walk+side_walk.Lts-side_walk as lts
+use Rattle.list.proofs.walk.+body_walk+chain_walk+enter_walk+inner_walk+kids_walk+node_walk+side_walk.Proof.Measures as measures
+
+module _ (t : ℕ) where
+  abbrev pub given : lts.Claims
+  given = (
+    first-reads.Asked,
+    first-reads.Learnt,
+    measures.chain-walk-below t,
+    chain-walk.Post,
+    meet-reads.Asked,
+    meet-reads.Learnt,
+    join-reads.Asked,
+    join-reads.Learnt,
+  )
+
+  pub first-requires : lts.Need-first-requires given (measures.side-walk-at t) side-walk.Post
+  first-requires c κs = let p = c .before .pre .1 in cell _ _ _ _ _ (p .1 .1 .1 .0) (p .1 .0)
+
+  pub chain-walk-requires : lts.Need-chain-walk-requires given (measures.side-walk-at t) side-walk.Post
+  chain-walk-requires c κs =
+      let p = c .before .before .before .before .before .before .pre in
+      let a = c .before .before .before .before .before .before .args in
+      let e = c .before .before .before .before .first .ensures in
+      let u = first-there (a .table .now .now) (a .f .0) (a .n .0) (p .1 .1 .0) (p .1 .1 .1 .0 .1) in
+      let w = subst (Within _ _) (sym e) (u .0) in
+      (omega (arith, p .0, e, u .1, u .0 .node .1), (refl, (w, p .1 .1 .1 .1)))
+
+  pub meet-requires : lts.Need-meet-requires given (measures.side-walk-at t) side-walk.Post
+  meet-requires c κs = c .before .before .chain-walk .ensures .walk .memo .size-found
+
+  pub join-requires : lts.Need-join-requires given (measures.side-walk-at t) side-walk.Post
+  join-requires c κs = c .before .before .before .before .before .before .before .before .before .before .before .before .pre .1 .0
+
+  pub returns : lts.Need-returns given (measures.side-walk-at t) side-walk.Post
+  returns c =
+      let p = c .before .before .before .before .before .before .before .before .before .before .before .before .before .pre .1 in
+      side-all _ _ _ (p .1 .0) _ _ (c .before .before .before .before .before .before .chain-walk .result) _ _ _ _ _ _ _ _ _ _ (p .1 .1
+      .0 .0) (p .1 .1 .1 .0 .sited)
+      (c .before .before .before .before .before .before .before .before .before .before .before .first .ensures) (c .before .before
+      .before .before .before .before .chain-walk .ensures) (c .before .before .before .meet .ensures) (c .join .ensures)
