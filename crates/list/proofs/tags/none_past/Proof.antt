@@ -44,7 +44,8 @@ marks-requires c κs = omega arith
 returns : tie.Need-returns Inv-loop μ-loop
 returns c =
     let a = c .before .before .before .before .before .before .args in
-    sym (all-fails (λ j. not (tagged (a .tags .now) (a .last .0 + j))) _ (c .before .before .before .loop .i + 1) (omega arith) (omega arith)
+    sym (all-fails (λ j. not (tagged (a .tags .now) (a .last .0 + j))) _ (c .before .before .before .loop .i + 1) (omega arith)
+    (omega arith)
     (ap not (sym (c .before .marks .ensures) ∙ c .if1 .taken)))
 
 loop-less : tie.Need-loop-less Inv-loop μ-loop
