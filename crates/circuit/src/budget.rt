@@ -34,10 +34,10 @@ pub(crate) fn query(table: &[u8], tags: &[u8], s: State) -> Found
         return Found::Nothing;
     }
     let n = search::find(table, &own, &status, &second, &value, &registers, &plain);
-    if n == 0 {
+    if n.0 == 0 {
         return Found::Nothing;
     }
-    Found::Possible(Node(n))
+    Found::Possible(n)
 }
 
 // How the run stands: answered, then at rest, then spent.
@@ -63,7 +63,7 @@ fn end_of(
         return Ended::Answered(cells::value_at(value, top));
     }
     let n = search::find(table, own, status, second, value, registers, occupant);
-    if n == 0 {
+    if n.0 == 0 {
         return Ended::AtRest;
     }
     Ended::Spent
@@ -115,7 +115,7 @@ pub(crate) fn drive(table: &[u8], tags: &[u8], s: State, budget: u32) -> Driven
         );
         if code == 2 {
             taken += 1;
-            height = candidates::follow(table, &own, &status, &mut stack, height, Node(n));
+            height = candidates::follow(table, &own, &status, &mut stack, height, n);
         } else {
             rest = height == 0;
             height = candidates::less(height);

@@ -67,21 +67,22 @@ fn push_chain(
 }
 
 // Whether a candidate is a node of function f.
-fn owned(own: &[u16; 513], n: u16, f: u16) -> bool {
-    if 512 < n {
+fn owned(own: &[u16; 513], n: Node, f: Function) -> bool {
+    if 512 < n.0 {
         return false;
     }
-    own[n as usize] == f
+    own[n.0 as usize] == f.0
 }
 
 // Without the candidates on top that are nodes of f: a self call starts these anew.
-fn drop_own(own: &[u16; 513], stack: &[u16; 1024], height: usize, f: u16) -> usize
+fn drop_own(own: &[u16; 513], stack: &[u16; 1024], height: usize, f: Function) -> usize
     requires { ⌜ height ≤ 1024 ⌝ }
     ensures { λ r. ⌜ r ≤ 1024 ⌝ }
 {
     let mut h = height;
     while 0 < h {
-        if !owned(own, stack[h - 1], f) {
+        let n = stack[h - 1];
+        if !owned(own, Node(n), f) {
             return h;
         }
         h -= 1;
@@ -113,7 +114,7 @@ pub(crate) fn follow(
         return push_callee(table, status, stack, below, n);
     }
     let f = own[n.0 as usize];
-    let kept = drop_own(own, stack, h, f);
+    let kept = drop_own(own, stack, h, Function(f));
     let r = read::root(table, Function(f));
     push(stack, kept, r)
 }
@@ -148,13 +149,14 @@ pub(crate) fn candidate(
     occupant: &[u16; 32],
     stack: &[u16; 1024],
     height: usize,
-) -> u16
+) -> Node
     requires { ⌜ Fair (now table) × Owners (now table) (now own) × (height ≤ 1024) ⌝ }
     ensures { λ r. ⌜ (height ≡ 0 → FoundAt (now (table .entry)) (stateAs (now (status .entry)) (now (second .entry)) (now (value .entry))
-        (now (registers .entry)) (now (occupant .entry))) r) ⌝ }
+        (now (registers .entry)) (now (occupant .entry))) (r .0)) ⌝ }
 {
     if 0 < height {
-        return stack[height - 1];
+        let n = stack[height - 1];
+        return Node(n);
     }
     search::find(table, own, status, second, value, registers, occupant)
 }
@@ -170,21 +172,21 @@ pub(crate) fn attempt(
     value: &mut [u32; 512],
     registers: &mut [u32; 256],
     occupant: &mut [u16; 32],
-    n: u16,
+    n: Node,
 ) -> u8
     requires { ⌜ Fair (now table) × Owners (now table) (now own) × Grouped (now table) (now heads) (now links) ⌝ }
     ensures { λ r. ⌜ Tried (now (table .entry)) (stateAs (now (status .entry)) (now (second .entry)) (now (value .entry))
-        (now (registers .entry)) (now (occupant .entry))) n r
+        (now (registers .entry)) (now (occupant .entry))) (n .0) r
         (stateAs (now (status .exit)) (now (second .exit)) (now (value .exit)) (now (registers .exit)) (now (occupant .exit))) ⌝ }
 {
-    if n == 0 {
+    if n.0 == 0 {
         return 0;
     }
     let last = read::nodes(table);
-    if last.0 < n {
+    if last.0 < n.0 {
         return 0;
     }
-    let f = own[n as usize];
+    let f = own[n.0 as usize];
     changes::take(
         table,
         Function(f),
@@ -195,7 +197,7 @@ pub(crate) fn attempt(
         value,
         registers,
         occupant,
-        Node(n),
+        n,
     )
 }
 

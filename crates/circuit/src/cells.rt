@@ -47,15 +47,16 @@ pub(crate) fn value_of(value: &[u32; 512], word: u32) -> u32
     value[k - 1]
 }
 
-pub(crate) fn occupant_at(occupant: &[u16; 32], f: Function) -> u16
+pub(crate) fn occupant_at(occupant: &[u16; 32], f: Function) -> Node
     requires { ⌜ f .0 ≤ 32 ⌝ }
-    ensures { λ r. ⌜ r ≡ entry (now (occupant .entry)) 0 (f .0) ⌝ }
+    ensures { λ r. ⌜ r .0 ≡ entry (now (occupant .entry)) 0 (f .0) ⌝ }
 {
     let k = f.0 as usize;
     if k == 0 {
-        return 0;
+        return Node(0);
     }
-    occupant[k - 1]
+    let n = occupant[k - 1];
+    Node(n)
 }
 
 // Register i of a function, i from 0.

@@ -178,7 +178,7 @@ fn across(
     if !chain::all_done(table, status, c) {
         return Plan::Stuck;
     }
-    if cells::occupant_at(occupant, g) != 0 {
+    if cells::occupant_at(occupant, g).0 != 0 {
         return Plan::Blocked;
     }
     Plan::Enters(g)

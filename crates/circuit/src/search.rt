@@ -35,10 +35,10 @@ pub(crate) fn find(
     value: &[u32; 512],
     registers: &[u32; 256],
     occupant: &[u16; 32],
-) -> u16
+) -> Node
     requires { ⌜ Fair (now table) × Owners (now table) (now own) ⌝ }
     ensures { λ r. ⌜ FoundAt (now (table .entry)) (stateAs (now (status .entry)) (now (second .entry)) (now (value .entry))
-        (now (registers .entry)) (now (occupant .entry))) r ⌝ }
+        (now (registers .entry)) (now (occupant .entry))) (r .0) ⌝ }
 {
     let last = read::nodes(table);
     let end = last.0;
@@ -57,8 +57,8 @@ pub(crate) fn find(
             Node(n),
         );
         if moves(p) {
-            return n;
+            return Node(n);
         }
     }
-    0
+    Node(0)
 }

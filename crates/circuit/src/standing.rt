@@ -31,11 +31,10 @@ fn odd_occupant(table: &[u8], occupant: &[u16; 32]) -> bool
     ensures { λ r. ⌜ r ≡ over (nodes (now (table .entry))) (functions (now (table .entry))) (now (occupant .entry)) ⌝ }
 {
     let last = read::nodes(table);
-    let limit = last.0;
     let main = read::functions(table);
     let mut f = main.0;
     while 0 < f {
-        if limit < cells::occupant_at(occupant, Function(f)) {
+        if last.0 < cells::occupant_at(occupant, Function(f)).0 {
             return true;
         }
         f -= 1;

@@ -10,11 +10,11 @@ ghost use Rattle.list.specs.Tags.{tagged};
 ghost use Rattle.list.specs.Working.{bitAt, Bit, Adds, PutAt, Kept, meetOf};
 
 // The bit of node n in its byte.
-fn bit(n: u16) -> u8
-    requires { ⌜ 1 ≤ n ⌝ }
-    ensures { λ r. ⌜ r ≡ 2 ^ ((n - 1) % 8) ⌝ }
+fn bit(n: Node) -> u8
+    requires { ⌜ 1 ≤ n .0 ⌝ }
+    ensures { λ r. ⌜ r ≡ 2 ^ ((n .0 - 1) % 8) ⌝ }
 {
-    1u8 << ((n - 1) % 8)
+    1u8 << ((n.0 - 1) % 8)
 }
 
 // Puts node n into a set.
@@ -25,7 +25,7 @@ pub(crate) fn put(set: &mut [u8; 64], n: Node)
     let k = n.0;
     let at = ((k - 1) / 8) as usize;
     let x = set[at];
-    set[at] = x | bit(k);
+    set[at] = x | bit(n);
 }
 
 // Puts node n into set g of a row.
@@ -36,7 +36,7 @@ pub(crate) fn put_at(row: &mut [u8; 2112], g: Function, n: Node)
     let k = n.0;
     let at = 64 * (g.0 as usize) + ((k - 1) / 8) as usize;
     let x = row[at];
-    row[at] = x | bit(k);
+    row[at] = x | bit(n);
 }
 
 // Joins another set to a set.
@@ -82,12 +82,12 @@ pub(crate) fn keep(row: &mut [u8; 2112], g: Function, set: &[u8; 64])
 }
 
 // Joins to `found` what a set and set h of a row have in common.
-fn meet_at(found: &mut [u8; 64], set: &[u8; 64], row: &[u8; 2112], h: usize)
-    requires { ⌜ (length (now found) ≡ 64) × (h ≤ 32) ⌝ }
-    ensures { λ _. ⌜ Adds (λ m. tagged (now (set .entry)) m && tagged (now (row .entry)) (512 * h + m)) (now (found .entry))
+fn meet_at(found: &mut [u8; 64], set: &[u8; 64], row: &[u8; 2112], h: Function)
+    requires { ⌜ (length (now found) ≡ 64) × (h .0 ≤ 32) ⌝ }
+    ensures { λ _. ⌜ Adds (λ m. tagged (now (set .entry)) m && tagged (now (row .entry)) (512 * h .0 + m)) (now (found .entry))
         (now (found .exit)) ⌝ }
 {
-    let base = 64 * h;
+    let base = 64 * (h.0 as usize);
     let mut i: usize = 0;
     while i < 64 {
         let x = found[i];
@@ -99,11 +99,11 @@ fn meet_at(found: &mut [u8; 64], set: &[u8; 64], row: &[u8; 2112], h: usize)
 }
 
 // Whether a mask has function h.
-fn has(mask: u32, h: usize) -> bool
-    requires { ⌜ h ≤ 31 ⌝ }
-    ensures { λ r. ⌜ r ≡ bitAt mask h ⌝ }
+fn has(mask: u32, h: Function) -> bool
+    requires { ⌜ h .0 ≤ 31 ⌝ }
+    ensures { λ r. ⌜ r ≡ bitAt mask (h .0) ⌝ }
 {
-    let y = mask >> h;
+    let y = mask >> h.0;
     y & 1 == 1
 }
 
@@ -112,15 +112,15 @@ pub(crate) fn meet(found: &mut [u8; 64], set: &[u8; 64], row: &[u8; 2112], mask:
     requires { ⌜ length (now found) ≡ 64 ⌝ }
     ensures { λ _. ⌜ Adds (meetOf (now (set .entry)) (now (row .entry)) mask 31) (now (found .entry)) (now (found .exit)) ⌝ }
 {
-    let mut h: usize = 0;
+    let mut h: u16 = 0;
     while h < 31 {
         let left = mask >> h;
         if left < 2 {
             return;
         }
         h += 1;
-        if has(mask, h) {
-            meet_at(found, set, row, h);
+        if has(mask, Function(h)) {
+            meet_at(found, set, row, Function(h));
         }
     }
 }

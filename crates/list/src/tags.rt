@@ -14,12 +14,13 @@ ghost use Rattle.list.specs.Tags.{tagged, tagFits, tagsRefusal};
 ghost use Rattle.list.specs.Working.{Taken};
 
 // Whether a tag list marks node n; past its end it marks nothing.
-pub(crate) fn marks(tags: &[u8], n: usize) -> bool
-    requires { ⌜ 1 ≤ n ⌝ }
-    ensures { λ r. ⌜ r ≡ tagged (now (tags .entry)) n ⌝ }
+pub(crate) fn marks(tags: &[u8], n: Node) -> bool
+    requires { ⌜ 1 ≤ n .0 ⌝ }
+    ensures { λ r. ⌜ r ≡ tagged (now (tags .entry)) (n .0) ⌝ }
 {
-    let at = (n - 1) / 8;
-    let k = (n - 1) % 8;
+    let i = n.0 as usize;
+    let at = (i - 1) / 8;
+    let k = (i - 1) % 8;
     if at < tags.len() {
         let x = tags[at];
         let y = x >> k;
@@ -29,15 +30,17 @@ pub(crate) fn marks(tags: &[u8], n: usize) -> bool
 }
 
 // Whether no bit past the last node is set.
-fn none_past(tags: &[u8], last: usize) -> bool
-    requires { ⌜ (last ≤ 512) × (length (now tags) ≤ 64) ⌝ }
-    ensures { λ r. ⌜ r ≡ all (λ i. not (tagged (now (tags .entry)) (last + i))) (8 * length (now (tags .entry)) - last) ⌝ }
+fn none_past(tags: &[u8], last: Node) -> bool
+    requires { ⌜ (last .0 ≤ 512) × (length (now tags) ≤ 64) ⌝ }
+    ensures { λ r. ⌜ r ≡ all (λ i. not (tagged (now (tags .entry)) (last .0 + i))) (8 * length (now (tags .entry)) - last .0) ⌝ }
 {
     let end = 8 * tags.len();
+    let count = last.0 as usize;
     let mut i: usize = 0;
-    while last + i < end {
+    while count + i < end {
         i += 1;
-        if marks(tags, last + i) {
+        let n = (count + i) as u16;
+        if marks(tags, Node(n)) {
             return false;
         }
     }
@@ -45,26 +48,26 @@ fn none_past(tags: &[u8], last: usize) -> bool
 }
 
 // The lowest node that is tagged and is no call, or is a self call; 0 where there is none.
-fn lowest_unfit(table: &[u8], tags: &[u8], owner: [Function; 513], last: Node) -> u16
+fn lowest_unfit(table: &[u8], tags: &[u8], owner: [Function; 513], last: Node) -> Node
     requires { ⌜ Taken (now table) × (owner ≡ ownersOf (now table)) × (last .0 ≡ nodes (now table)) ⌝ }
-    ensures { λ r. ⌜ r ≡ lowest (tagFits (now (table .entry)) (now (tags .entry))) (nodes (now (table .entry))) ⌝ }
+    ensures { λ r. ⌜ r .0 ≡ lowest (tagFits (now (table .entry)) (now (tags .entry))) (nodes (now (table .entry))) ⌝ }
 {
     let mut n: u16 = 0;
     while n < last.0 {
         n += 1;
-        if marks(tags, n as usize) {
+        if marks(tags, Node(n)) {
             let kind = read::kind(table, Node(n));
             if kind != 4 {
-                return n;
+                return Node(n);
             }
             let word = read::word(table, Node(n));
             let own = owner[n as usize];
             if word == (own.0 as u32) {
-                return n;
+                return Node(n);
             }
         }
     }
-    0
+    Node(0)
 }
 
 // A tag list beside an accepted table: 10, all its cases.
@@ -82,12 +85,12 @@ pub(crate) fn held(
     if tags.len() != (count + 7) / 8 {
         return Checked::Refused(10, Node(0));
     }
-    if !none_past(tags, count) {
+    if !none_past(tags, last) {
         return Checked::Refused(10, Node(0));
     }
     let place = lowest_unfit(table, tags, owner, last);
-    if place != 0 {
-        return Checked::Refused(10, Node(place));
+    if place.0 != 0 {
+        return Checked::Refused(10, place);
     }
     Checked::Accepted(main, last)
 }

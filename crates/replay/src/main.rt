@@ -6,6 +6,7 @@ mod output;
 use circuit::Opening;
 use circuit::Started;
 use circuit::State;
+use table::Function;
 use table::Node;
 use table::read;
 ghost use Prim.Native.Nat.{_+_, _≤_, _<_};
@@ -143,35 +144,35 @@ fn show(table: &[u8], s: State) {
     let mut n: u16 = 0;
     while n < end {
         n = n + 1;
-        show_node(s, n);
+        show_node(s, Node(n));
     }
     let functions = capped(read::functions(table).0, 32);
     let mut f: u16 = 0;
     while f < functions {
         f = f + 1;
-        show_function(s, f);
+        show_function(s, Function(f));
     }
 }
 
-fn show_node(s: State, n: u16) {
-    if n == 0 {
+fn show_node(s: State, n: Node) {
+    if n.0 == 0 {
         return;
     }
-    if 512 < n {
+    if 512 < n.0 {
         return;
     }
-    let i = (n - 1) as usize;
+    let i = (n.0 - 1) as usize;
     output::node(n, s.status[i], s.second[i], s.value[i]);
 }
 
-fn show_function(s: State, f: u16) {
-    if f == 0 {
+fn show_function(s: State, f: Function) {
+    if f.0 == 0 {
         return;
     }
-    if 32 < f {
+    if 32 < f.0 {
         return;
     }
-    let occupant = s.occupant[(f - 1) as usize];
+    let occupant = s.occupant[(f.0 - 1) as usize];
     let registers = s.registers;
     output::function(f, occupant, &registers);
 }

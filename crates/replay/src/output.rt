@@ -1,6 +1,7 @@
 // The lines that the program prints.
 use circuit::Answer;
 use circuit::Ended;
+use table::Function;
 use table::Node;
 ghost use Prim.Native.Nat.{_≤_, _<_};
 
@@ -76,9 +77,9 @@ fn flag(f: bool) -> u64 {
     if f { 1 } else { 0 }
 }
 
-pub(crate) fn node(n: u16, status: u8, second: bool, value: u32) {
+pub(crate) fn node(n: Node, status: u8, second: bool, value: u32) {
     text(b"node ");
-    number(n as u64);
+    number(n.0 as u64);
     text(b" ");
     number(status as u64);
     text(b" ");
@@ -89,14 +90,14 @@ pub(crate) fn node(n: u16, status: u8, second: bool, value: u32) {
 }
 
 // Function f, its occupant and its eight registers.
-pub(crate) fn function(f: u16, occupant: Node, registers: &[u32; 256])
-    requires { ⌜ (1 ≤ f) × (f ≤ 32) ⌝ }
+pub(crate) fn function(f: Function, occupant: Node, registers: &[u32; 256])
+    requires { ⌜ (1 ≤ f .0) × (f .0 ≤ 32) ⌝ }
 {
     text(b"function ");
-    number(f as u64);
+    number(f.0 as u64);
     text(b" ");
     number(occupant.0 as u64);
-    let base = 8 * ((f as usize) - 1);
+    let base = 8 * ((f.0 as usize) - 1);
     let mut i: usize = 0;
     while i < 8 {
         text(b" ");

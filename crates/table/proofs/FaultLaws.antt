@@ -68,10 +68,10 @@ module _ (t : List ℕ) (n : ℕ) where
 pub record Lowest (t : List ℕ) (n : ℕ) (b : Fault) : Type 0 where
   pub range : (5 ≤ b .number) × (b .number ≤ 10)
   pub before : (j : ℕ) → 5 ≤ j → j < b .number → lowest (test t j) n ≡ 0
-  pub here : b .number < 10 → lowest (test t (b .number)) n ≡ b .place
-  pub some : b .number < 10 → 1 ≤ b .place
+  pub here : b .number < 10 → lowest (test t (b .number)) n ≡ b .place .0
+  pub some : b .number < 10 → 1 ≤ b .place .0
 
-pub lowest-start : (t : List ℕ) → Lowest t 0 (record { number = 10; place = 0 })
+pub lowest-start : (t : List ℕ) → Lowest t 0 (record { number = 10; place = record { 0 = 0 } })
 unfolding lowest
 lowest-start t = record {
   range = (omega arith, omega arith);
@@ -112,16 +112,16 @@ pub lowest-check : (t : List ℕ) (b : Fault) → Lowest t (nodes t) b → fault
 unfolding checkNodes test
 lowest-check t b h = sym (go (decLt 5 (b .number)) (decLt 6 (b .number)) (decLt 7 (b .number)) (decLt 8 (b .number)) (decLt 9 (b .number)))
   where
-    refusal : b .number < 10 → faultVerdict t b ≡ refused (b .number) (b .place)
-    refusal l = ap (λ x. pick x (accepted (functions t) (nodes t)) (refused (b .number) (b .place)))
+    refusal : b .number < 10 → faultVerdict t b ≡ refused (b .number) (b .place .0)
+    refusal l = ap (λ x. pick x (accepted (functions t) (nodes t)) (refused (b .number) (b .place .0)))
         (ne-eqb (b .number) 10 (λ z. omega arith))
 
     -- the number is k: its stage refuses
     at : (k : ℕ) → b .number ≡ k → k < 10 → (rest : Unit {0} → Verdict) → stage k true (lowest (test t k) (nodes t)) rest ≡ faultVerdict
         t b
     at k e l rest =
-        stage-off k (lowest (test t k) (nodes t)) (b .place) rest (rw e at (h .here (omega arith))) (h .some (omega arith))
-        ∙ ap (λ x. refused x (b .place)) (sym e) ∙ sym (refusal (omega arith))
+        stage-off k (lowest (test t k) (nodes t)) (b .place .0) rest (rw e at (h .here (omega arith))) (h .some (omega arith))
+        ∙ ap (λ x. refused x (b .place .0)) (sym e) ∙ sym (refusal (omega arith))
 
     on : (k : ℕ) → 5 ≤ k → k < b .number → (rest : Unit {0} → Verdict) → stage k true (lowest (test t k) (nodes t)) rest ≡ rest tt
     on k a l rest = stage-on k (lowest (test t k) (nodes t)) rest (h .before k a l)
@@ -138,5 +138,5 @@ lowest-check t b h = sym (go (decLt 5 (b .number)) (decLt 6 (b .number)) (decLt 
         ∙ at 9 (omega arith) (omega arith) _
     go (yes x) (yes y) (yes z) (yes u) (yes v) =
         on 5 (omega arith) x _ ∙ on 6 (omega arith) y _ ∙ on 7 (omega arith) z _ ∙ on 8 (omega arith) u _ ∙ on 9 (omega arith) v _
-        ∙ sym (ap (λ x. pick x (accepted (functions t) (nodes t)) (refused (b .number) (b .place)))
+        ∙ sym (ap (λ x. pick x (accepted (functions t) (nodes t)) (refused (b .number) (b .place .0)))
         (eq-eqb (b .number) 10 (omega (arith, h .range .1))))

@@ -88,13 +88,13 @@ told-surveyed t r f n o p lo lp h e ef en eo ep = record {
 
 -- what the nodes' part found
 pub fault-refused : (t : List ℕ) (r : Fault) → faultVerdict t r ≡ checkNodes t → (r .number ≡ 10 → ⊥) → checkNodes t ≡ refused
-    (r .number) (r .place)
-fault-refused t r e z = sym e ∙ ap (λ x. pick x (accepted (functions t) (nodes t)) (refused (r .number) (r .place)))
+    (r .number) (r .place .0)
+fault-refused t r e z = sym e ∙ ap (λ x. pick x (accepted (functions t) (nodes t)) (refused (r .number) (r .place .0)))
     (ne-eqb (r .number) 10 z)
 
 pub fault-none : (t : List ℕ) (r : Fault) → faultVerdict t r ≡ checkNodes t → r .number ≡ 10 → checkNodes t ≡ accepted (functions t)
     (nodes t)
-fault-none t r e z = sym e ∙ ap (λ x. pick x (accepted (functions t) (nodes t)) (refused (r .number) (r .place)))
+fault-none t r e z = sym e ∙ ap (λ x. pick x (accepted (functions t) (nodes t)) (refused (r .number) (r .place .0)))
     (eq-eqb (r .number) 10 z)
 
 -- the first three numbers

@@ -99,7 +99,7 @@ pub record NodeAt (t : List ℕ) (base n k e w : ℕ) : Type 0 where
 
 -- the lower number; of one number the node that came first
 abbrev pub better : Fault → ℕ → ℕ → Fault
-better b k n = pick (ltb k (b .number)) (record { number = k; place = n }) b
+better b k n = pick (ltb k (b .number)) (record { number = k; place = record { 0 = n } }) b
 
 -- the tests of the numbers 5 to 9 at a node
 unfoldable pub test : List ℕ → ℕ → ℕ → Bool
@@ -127,4 +127,4 @@ checkNodes t =
 
 -- number 10 stands for none
 abbrev pub faultVerdict : List ℕ → Fault → Verdict
-faultVerdict t r = pick (eqb (r .number) 10) (accepted (functions t) (nodes t)) (refused (r .number) (r .place))
+faultVerdict t r = pick (eqb (r .number) 10) (accepted (functions t) (nodes t)) (refused (r .number) (r .place .0))

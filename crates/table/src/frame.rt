@@ -1,4 +1,6 @@
 // The sizes of a table and its function records (refusals 1 to 3; the records' part of 4 and 5).
+use crate::Function;
+use crate::Node;
 ghost use mathlib.Core.Path.{_≡_};
 ghost use mathlib.Core.Bool.{_&&_};
 ghost use Prim.Native.Nat.{_+_, _*_, _<_, _≤_};
@@ -36,19 +38,19 @@ pub(crate) fn four_at(table: &[u8], at: usize) -> u32
 }
 
 // Main's number.
-pub(crate) fn last_function(table: &[u8]) -> usize
+pub(crate) fn last_function(table: &[u8]) -> Function
     requires { ⌜ Framed (now table) ⌝ }
-    ensures { λ r. ⌜ r ≡ functions (now (table .entry)) ⌝ }
+    ensures { λ r. ⌜ r .0 ≡ functions (now (table .entry)) ⌝ }
 {
-    two_at(table, 0) as usize
+    Function(two_at(table, 0))
 }
 
 // The last node's number.
-pub(crate) fn last_node(table: &[u8]) -> usize
+pub(crate) fn last_node(table: &[u8]) -> Node
     requires { ⌜ Framed (now table) ⌝ }
-    ensures { λ r. ⌜ r ≡ nodes (now (table .entry)) ⌝ }
+    ensures { λ r. ⌜ r .0 ≡ nodes (now (table .entry)) ⌝ }
 {
-    two_at(table, 2) as usize
+    Node(two_at(table, 2))
 }
 
 // Where the node records begin.
@@ -56,63 +58,72 @@ pub(crate) fn base(table: &[u8]) -> usize
     requires { ⌜ Framed (now table) ⌝ }
     ensures { λ r. ⌜ r ≡ 4 + 4 * functions (now (table .entry)) ⌝ }
 {
-    4 + 4 * last_function(table)
+    let main = last_function(table);
+    4 + 4 * (main.0 as usize)
 }
 
-pub(crate) fn params_at(table: &[u8], f: usize) -> u8
-    requires { ⌜ Framed (now table) × IsFunction (now table) f ⌝ }
-    ensures { λ r. ⌜ r ≡ params (now (table .entry)) f ⌝ }
+pub(crate) fn params_at(table: &[u8], f: Function) -> u8
+    requires { ⌜ Framed (now table) × IsFunction (now table) (f .0) ⌝ }
+    ensures { λ r. ⌜ r ≡ params (now (table .entry)) (f .0) ⌝ }
 {
-    table[4 * f]
+    let k = f.0 as usize;
+    table[4 * k]
 }
 
-pub(crate) fn spare_at(table: &[u8], f: usize) -> u8
-    requires { ⌜ Framed (now table) × IsFunction (now table) f ⌝ }
-    ensures { λ r. ⌜ r ≡ spare (now (table .entry)) f ⌝ }
+pub(crate) fn spare_at(table: &[u8], f: Function) -> u8
+    requires { ⌜ Framed (now table) × IsFunction (now table) (f .0) ⌝ }
+    ensures { λ r. ⌜ r ≡ spare (now (table .entry)) (f .0) ⌝ }
 {
-    table[4 * f + 1]
+    let k = f.0 as usize;
+    table[4 * k + 1]
 }
 
-pub(crate) fn root_at(table: &[u8], f: usize) -> u16
-    requires { ⌜ Framed (now table) × IsFunction (now table) f ⌝ }
-    ensures { λ r. ⌜ r ≡ root (now (table .entry)) f ⌝ }
+pub(crate) fn root_at(table: &[u8], f: Function) -> Node
+    requires { ⌜ Framed (now table) × IsFunction (now table) (f .0) ⌝ }
+    ensures { λ r. ⌜ r .0 ≡ root (now (table .entry)) (f .0) ⌝ }
 {
-    two_at(table, 4 * f + 2)
+    let k = f.0 as usize;
+    Node(two_at(table, 4 * k + 2))
 }
 
-pub(crate) fn kind_at(table: &[u8], base: usize, n: usize) -> u8
-    requires { ⌜ At (now table) base n ⌝ }
-    ensures { λ r. ⌜ r ≡ kind (now (table .entry)) n ⌝ }
+pub(crate) fn kind_at(table: &[u8], base: usize, n: Node) -> u8
+    requires { ⌜ At (now table) base (n .0) ⌝ }
+    ensures { λ r. ⌜ r ≡ kind (now (table .entry)) (n .0) ⌝ }
 {
-    table[base + 10 * n - 10]
+    let k = n.0 as usize;
+    table[base + 10 * k - 10]
 }
 
-pub(crate) fn extra_at(table: &[u8], base: usize, n: usize) -> u8
-    requires { ⌜ At (now table) base n ⌝ }
-    ensures { λ r. ⌜ r ≡ extra (now (table .entry)) n ⌝ }
+pub(crate) fn extra_at(table: &[u8], base: usize, n: Node) -> u8
+    requires { ⌜ At (now table) base (n .0) ⌝ }
+    ensures { λ r. ⌜ r ≡ extra (now (table .entry)) (n .0) ⌝ }
 {
-    table[base + 10 * n - 9]
+    let k = n.0 as usize;
+    table[base + 10 * k - 9]
 }
 
-pub(crate) fn word_at(table: &[u8], base: usize, n: usize) -> u32
-    requires { ⌜ At (now table) base n ⌝ }
-    ensures { λ r. ⌜ r ≡ word (now (table .entry)) n ⌝ }
+pub(crate) fn word_at(table: &[u8], base: usize, n: Node) -> u32
+    requires { ⌜ At (now table) base (n .0) ⌝ }
+    ensures { λ r. ⌜ r ≡ word (now (table .entry)) (n .0) ⌝ }
 {
-    four_at(table, base + 10 * n - 8)
+    let k = n.0 as usize;
+    four_at(table, base + 10 * k - 8)
 }
 
-pub(crate) fn first_at(table: &[u8], base: usize, n: usize) -> u16
-    requires { ⌜ At (now table) base n ⌝ }
-    ensures { λ r. ⌜ r ≡ first (now (table .entry)) n ⌝ }
+pub(crate) fn first_at(table: &[u8], base: usize, n: Node) -> Node
+    requires { ⌜ At (now table) base (n .0) ⌝ }
+    ensures { λ r. ⌜ r .0 ≡ first (now (table .entry)) (n .0) ⌝ }
 {
-    two_at(table, base + 10 * n - 4)
+    let k = n.0 as usize;
+    Node(two_at(table, base + 10 * k - 4))
 }
 
-pub(crate) fn next_at(table: &[u8], base: usize, n: usize) -> u16
-    requires { ⌜ At (now table) base n ⌝ }
-    ensures { λ r. ⌜ r ≡ next (now (table .entry)) n ⌝ }
+pub(crate) fn next_at(table: &[u8], base: usize, n: Node) -> Node
+    requires { ⌜ At (now table) base (n .0) ⌝ }
+    ensures { λ r. ⌜ r .0 ≡ next (now (table .entry)) (n .0) ⌝ }
 {
-    two_at(table, base + 10 * n - 2)
+    let k = n.0 as usize;
+    Node(two_at(table, base + 10 * k - 2))
 }
 
 // The first of refusals 1 to 3, 0 where none is met.
@@ -148,23 +159,22 @@ pub(crate) fn roots_fit(table: &[u8]) -> bool
     requires { ⌜ Framed (now table) ⌝ }
     ensures { λ r. ⌜ r ≡ all (rootFits (now (table .entry))) (functions (now (table .entry))) ⌝ }
 {
-    let main = last_function(table);
+    let main = last_function(table).0;
     let last = last_node(table);
-    let mut f: usize = 0;
+    let mut f: u16 = 0;
     while f < main {
         f += 1;
-        if !root_fits(root_at(table, f), last) {
+        if !root_fits(root_at(table, Function(f)), last) {
             return false;
         }
     }
     true
 }
 
-fn root_fits(root: u16, last: usize) -> bool
-    ensures { λ r. ⌜ r ≡ among 1 last root ⌝ }
+fn root_fits(root: Node, last: Node) -> bool
+    ensures { λ r. ⌜ r ≡ among 1 (last .0) (root .0) ⌝ }
 {
-    let n = root as usize;
-    if n < 1 { false } else { n <= last }
+    if root.0 < 1 { false } else { root.0 <= last.0 }
 }
 
 // Whether every parameter count and spare byte is allowed.
@@ -172,11 +182,11 @@ pub(crate) fn records_fit(table: &[u8]) -> bool
     requires { ⌜ Framed (now table) ⌝ }
     ensures { λ r. ⌜ r ≡ all (recordFits (now (table .entry))) (functions (now (table .entry))) ⌝ }
 {
-    let main = last_function(table);
-    let mut f: usize = 0;
+    let main = last_function(table).0;
+    let mut f: u16 = 0;
     while f < main {
         f += 1;
-        if !record_fits(params_at(table, f), spare_at(table, f)) {
+        if !record_fits(params_at(table, Function(f)), spare_at(table, Function(f))) {
             return false;
         }
     }

@@ -21,44 +21,40 @@ pub struct Kin {
 }
 
 // A root's function is its own, any other node's that of the node that names it.
-fn owner_of(namer: usize, root: u16, above: u16) -> u16
-    ensures { λ r. ⌜ r ≡ pick (eqb namer 0) root above ⌝ }
+fn owner_of(namer: Node, root: Function, above: Function) -> Function
+    ensures { λ r. ⌜ r .0 ≡ pick (eqb (namer .0) 0) (root .0) (above .0) ⌝ }
 {
-    if namer == 0 { root } else { above }
+    if namer.0 == 0 { root } else { above }
 }
 
 // The node that names n as its first child, else that one's parent.
-fn parent_of(table: &[u8], base: usize, namer: usize, n: usize, above: u16) -> u16
-    requires { ⌜ At (now table) base n × (namer < n) ⌝ }
-    ensures { λ r. ⌜ r ≡ pick (eqb namer 0) 0 (pick (eqb (first (now (table .entry)) namer) n) namer above) ⌝ }
+fn parent_of(table: &[u8], base: usize, namer: Node, n: Node, above: Node) -> Node
+    requires { ⌜ At (now table) base (n .0) × (namer .0 < n .0) ⌝ }
+    ensures { λ r. ⌜ r .0 ≡ pick (eqb (namer .0) 0) 0 (pick (eqb (first (now (table .entry)) (namer .0)) (n .0)) (namer .0) (above .0)) ⌝ }
 {
-    if namer == 0 {
-        return 0;
+    if namer.0 == 0 {
+        return Node(0);
     }
     let first = frame::first_at(table, base, namer);
-    if (first as usize) == n {
-        namer as u16
-    } else {
-        above
-    }
+    if first.0 == n.0 { namer } else { above }
 }
 
 // A branch of an if or the body of a let, whose parent p is in tail position.
-fn tail_of(table: &[u8], base: usize, p: usize, n: usize, above: bool) -> bool
-    requires { ⌜ At (now table) base n × (p < n) ⌝ }
-    ensures { λ r. ⌜ r ≡ pick (eqb p 0) true (tailChild (now (table .entry)) p n && above) ⌝ }
+fn tail_of(table: &[u8], base: usize, p: Node, n: Node, above: bool) -> bool
+    requires { ⌜ At (now table) base (n .0) × (p .0 < n .0) ⌝ }
+    ensures { λ r. ⌜ r ≡ pick (eqb (p .0) 0) true (tailChild (now (table .entry)) (p .0) (n .0) && above) ⌝ }
 {
-    if p == 0 {
+    if p.0 == 0 {
         return true;
     }
     let kind = frame::kind_at(table, base, p);
     let first = frame::first_at(table, base, p);
     let next = frame::next_at(table, base, n);
     if kind == 5 {
-        return if (first as usize) == n { false } else { above };
+        return if first.0 == n.0 { false } else { above };
     }
     if kind == 6 {
-        return if next == 0 { above } else { false };
+        return if next.0 == 0 { above } else { false };
     }
     false
 }
@@ -69,19 +65,25 @@ pub(crate) fn collect(table: &[u8], names: Names) -> Kin
     ensures { λ r. ⌜ Related (now (table .entry)) r ⌝ }
 {
     let base = frame::base(table);
-    let last = frame::last_node(table);
+    let last = frame::last_node(table).0;
     let mut owner = [0u16; 513];
     let mut parent = [0u16; 513];
     let mut tail = [true; 513];
-    let mut n: usize = 0;
+    let mut n: u16 = 0;
     while n < last {
         n += 1;
-        let m = names.namers[n] as usize;
-        owner[n] = owner_of(m, names.roots[n], owner[m]);
-        let up = parent_of(table, base, m, n, parent[m]);
-        parent[n] = up;
-        let p = up as usize;
-        tail[n] = tail_of(table, base, p, n, tail[p]);
+        let at = n as usize;
+        let namer = names.namers[at];
+        let m = namer as usize;
+        let root = names.roots[at];
+        let mine = owner[m];
+        let own = owner_of(Node(namer), Function(root), Function(mine));
+        owner[at] = own.0;
+        let above = parent[m];
+        let up = parent_of(table, base, Node(namer), Node(n), Node(above));
+        parent[at] = up.0;
+        let p = up.0 as usize;
+        tail[at] = tail_of(table, base, up, Node(n), tail[p]);
     }
     Kin {
         owner,

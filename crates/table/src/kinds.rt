@@ -1,4 +1,5 @@
 // What a node's kind and a primitive's operation allow (refusals 5 and 7).
+use crate::Node;
 ghost use mathlib.Core.Path.{_≡_};
 ghost use Rattle.table.specs.Check.{fields, operationCounts, countsOf};
 
@@ -37,12 +38,12 @@ pub(crate) fn child_counts(kind: u8, op: u8, params: u8) -> Counts
 }
 
 // Whether kind and operation are known, and the fields that carry nothing are zero.
-pub(crate) fn formed(kind: u8, extra: u8, word: u32, first: u16) -> bool
-    ensures { λ r. ⌜ r ≡ fields kind extra word first ⌝ }
+pub(crate) fn formed(kind: u8, extra: u8, word: u32, first: Node) -> bool
+    ensures { λ r. ⌜ r ≡ fields kind extra word (first .0) ⌝ }
 {
     match kind {
-        1 | 7 => extra == 0 && first == 0,
-        2 => word == 0 && first == 0,
+        1 | 7 => extra == 0 && first.0 == 0,
+        2 => word == 0 && first.0 == 0,
         3 => match extra {
             0..=10 => word == 0,
             _ => false,

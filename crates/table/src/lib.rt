@@ -44,7 +44,7 @@ pub fn survey(table: &[u8]) -> Findings
 {
     let number = frame::number(table);
     if number != 0 {
-        return blank(number, 0);
+        return blank(number, Node(0));
     }
     inspect(table)
 }
@@ -55,20 +55,21 @@ fn inspect(table: &[u8]) -> Findings
     ensures { λ r. ⌜ Surveyed (now (table .entry)) r ⌝ }
 {
     if !frame::roots_fit(table) {
-        return blank(4, 0);
+        return blank(4, Node(0));
     }
     let names = names::collect(table);
     let place = names::lowest_unlinked(table, names);
-    if place != 0 {
+    if place.0 != 0 {
         return blank(4, place);
     }
     if !frame::records_fit(table) {
-        return blank(5, 0);
+        return blank(5, Node(0));
     }
     let kin = kin::collect(table, names);
     let fault = faults::lowest(table, kin);
     if fault.number != 10 {
-        return blank(fault.number, fault.place);
+        let at = fault.place;
+        return blank(fault.number, at);
     }
     let owner = kin.owner;
     let parent = kin.parent;
@@ -80,11 +81,11 @@ fn inspect(table: &[u8]) -> Findings
 }
 
 // A refusal, with nothing told of the nodes.
-fn blank(number: u8, place: u16) -> Findings
-    ensures { λ r. ⌜ r ≡ blankOf number place ⌝ }
+fn blank(number: u8, place: Node) -> Findings
+    ensures { λ r. ⌜ r ≡ blankOf number (place .0) ⌝ }
 {
     Findings {
-        checked: Checked::Refused(number, Node(place)),
+        checked: Checked::Refused(number, place),
         owner: [Function(0); 513],
         parent: [Node(0); 513],
     }

@@ -1,4 +1,6 @@
 // Who names each node: roots, firsts and nexts (refusal 4).
+use crate::Function;
+use crate::Node;
 use crate::frame;
 ghost use mathlib.Core.Path.{_≡_};
 ghost use mathlib.Core.Bool.{_&&_, _||_};
@@ -18,17 +20,17 @@ pub struct Names {
 }
 
 // A node's place in an array; 0 for a number above 512.
-fn slot(v: u16) -> usize
-    ensures { λ r. ⌜ (r ≡ slotOf v) × (r < 513) ⌝ }
+fn slot(v: Node) -> usize
+    ensures { λ r. ⌜ (r ≡ slotOf (v .0)) × (r < 513) ⌝ }
 {
-    if v <= 512 { v as usize } else { 0 }
+    if v.0 <= 512 { v.0 as usize } else { 0 }
 }
 
 // The place of a node that node n may name; 0 where it is not above n.
-fn ahead(n: usize, v: u16) -> usize
-    ensures { λ r. ⌜ (r ≡ aheadOf n v) × (r < 513) ⌝ }
+fn ahead(n: Node, v: Node) -> usize
+    ensures { λ r. ⌜ (r ≡ aheadOf (n .0) (v .0)) × (r < 513) ⌝ }
 {
-    if n < (v as usize) { slot(v) } else { 0 }
+    if n.0 < v.0 { slot(v) } else { 0 }
 }
 
 pub(crate) fn collect(table: &[u8]) -> Names
@@ -44,16 +46,16 @@ fn roots(table: &[u8]) -> Names
     requires { ⌜ Framed (now table) ⌝ }
     ensures { λ r. ⌜ Rooted (now (table .entry)) r ⌝ }
 {
-    let main = frame::last_function(table);
+    let main = frame::last_function(table).0;
     let mut mentions = [0u16; 513];
     let mut roots = [0u16; 513];
-    let mut f: usize = 0;
+    let mut f: u16 = 0;
     while f < main {
         f += 1;
-        let root = frame::root_at(table, f);
+        let root = frame::root_at(table, Function(f));
         let at = slot(root);
         mentions[at] = mentions[at] + 1;
-        roots[at] = f as u16;
+        roots[at] = f;
     }
     Names {
         mentions,
@@ -68,22 +70,22 @@ fn links(table: &[u8], tops: Names) -> Names
     ensures { λ r. ⌜ Named (now (table .entry)) r ⌝ }
 {
     let base = frame::base(table);
-    let last = frame::last_node(table);
+    let last = frame::last_node(table).0;
     let mut mentions = tops.mentions;
     let mut namers = tops.namers;
-    let mut n: usize = 0;
+    let mut n: u16 = 0;
     while n < last {
         n += 1;
-        let first = frame::first_at(table, base, n);
-        let next = frame::next_at(table, base, n);
+        let first = frame::first_at(table, base, Node(n));
+        let next = frame::next_at(table, base, Node(n));
         let a = slot(first);
         mentions[a] = mentions[a] + 1;
         let b = slot(next);
         mentions[b] = mentions[b] + 1;
-        let c = ahead(n, first);
-        namers[c] = n as u16;
-        let d = ahead(n, next);
-        namers[d] = n as u16;
+        let c = ahead(Node(n), first);
+        namers[c] = n;
+        let d = ahead(Node(n), next);
+        namers[d] = n;
     }
     let roots = tops.roots;
     Names {
@@ -94,19 +96,22 @@ fn links(table: &[u8], tops: Names) -> Names
 }
 
 // Whether a link is 0 or leads on from node n to a node.
-fn forward(n: usize, link: u16, last: usize) -> bool
-    ensures { λ r. ⌜ r ≡ (eqb link 0 || (ltb n link && leb link last)) ⌝ }
+fn forward(n: Node, link: Node, last: Node) -> bool
+    ensures { λ r. ⌜ r ≡ (eqb (link .0) 0 || (ltb (n .0) (link .0) && leb (link .0) (last .0))) ⌝ }
 {
-    let to = link as usize;
-    if to == 0 {
+    if link.0 == 0 {
         return true;
     }
-    if n < to { to <= last } else { false }
+    if n.0 < link.0 {
+        link.0 <= last.0
+    } else {
+        false
+    }
 }
 
 // Whether a node passes 4: its links, how often it is named, and no next at a root.
-fn linked_at(n: usize, first: u16, next: u16, mentions: u16, root: u16, last: usize) -> bool
-    ensures { λ r. ⌜ r ≡ linkedBy n first next mentions root last ⌝ }
+fn linked_at(n: Node, first: Node, next: Node, mentions: u16, root: Function, last: Node) -> bool
+    ensures { λ r. ⌜ r ≡ linkedBy (n .0) (first .0) (next .0) mentions (root .0) (last .0) ⌝ }
 {
     if !forward(n, first, last) {
         return false;
@@ -117,26 +122,27 @@ fn linked_at(n: usize, first: u16, next: u16, mentions: u16, root: u16, last: us
     if mentions != 1 {
         return false;
     }
-    if root == 0 { true } else { next == 0 }
+    if root.0 == 0 { true } else { next.0 == 0 }
 }
 
 // The lowest node that meets refusal 4, 0 where none does.
-pub(crate) fn lowest_unlinked(table: &[u8], names: Names) -> u16
+pub(crate) fn lowest_unlinked(table: &[u8], names: Names) -> Node
     requires { ⌜ Framed (now table) × Named (now table) names ⌝ }
-    ensures { λ r. ⌜ r ≡ lowest (linked (now (table .entry))) (nodes (now (table .entry))) ⌝ }
+    ensures { λ r. ⌜ r .0 ≡ lowest (linked (now (table .entry))) (nodes (now (table .entry))) ⌝ }
 {
     let base = frame::base(table);
     let last = frame::last_node(table);
-    let mut n: usize = 0;
-    while n < last {
+    let end = last.0;
+    let mut n: u16 = 0;
+    while n < end {
         n += 1;
-        let first = frame::first_at(table, base, n);
-        let next = frame::next_at(table, base, n);
-        let mentions = names.mentions[n];
-        let root = names.roots[n];
-        if !linked_at(n, first, next, mentions, root, last) {
-            return n as u16;
+        let first = frame::first_at(table, base, Node(n));
+        let next = frame::next_at(table, base, Node(n));
+        let mentions = names.mentions[n as usize];
+        let root = names.roots[n as usize];
+        if !linked_at(Node(n), first, next, mentions, Function(root), last) {
+            return Node(n);
         }
     }
-    0
+    Node(0)
 }

@@ -58,14 +58,16 @@ blank-requires-2 c κs = search needs
 
 -- src/lib.rt:63:9
 returns-2 : tie.Need-returns-2
-returns-2 c = let t = c .before .before .before .before .before .before .before .args .table .now in let fr =
-    c .before .before .before .before .before .before .before .pre in subst (Surveyed t) (sym (c .blank2 .ensures))
-    (blank-surveyed t 4 _ (unlinked-refused t fr _ (sym (c .before .before .before .before .before .roots-fit .ensures) ∙ not-false _
-    (c .before .before .before .before .if1 .left)) (c .before .before .lowest-unlinked .ensures) (c .before .if2 .taken)))
+returns-2 c = let t = c .before .before .before .before .before .before .before .before .args .table .now in let fr =
+    c .before .before .before .before .before .before .before .before .pre in subst (Surveyed t) (sym (c .blank2 .ensures))
+    (blank-surveyed t 4 _ (unlinked-refused t fr _ (sym (c .before .before .before .before .before .before .roots-fit .ensures) ∙
+    not-false _
+    (c .before .before .before .before .before .if1 .left)) (c .before .before .before .lowest-unlinked .ensures)
+    (c .before .if2 .taken)))
 
 -- src/lib.rt:65:9
 records-fit-requires : tie.Need-records-fit-requires
-records-fit-requires c κs = c .before .before .before .before .before .before .pre
+records-fit-requires c κs = c .before .before .before .before .before .before .before .pre
 
 -- src/lib.rt:66:9
 blank-requires-3 : tie.Need-blank-requires-3
@@ -73,28 +75,31 @@ blank-requires-3 c κs = search needs
 
 -- src/lib.rt:66:9
 returns-3 : tie.Need-returns-3
-returns-3 c = let t = c .before .before .before .before .before .before .before .before .before .args .table .now in let fr =
-    c .before .before .before .before .before .before .before .before .before .pre in subst (Surveyed t) (sym (c .blank3 .ensures))
-    (blank-surveyed t 5 0 (records-refused t fr (sym (c .before .before .before .before .before .before .before .roots-fit .ensures) ∙
-    not-false _ (c .before .before .before .before .before .before .if1 .left))
-    (sym (c .before .before .before .before .lowest-unlinked .ensures) ∙ c .before .before .before .if2 .left)
+returns-3 c = let t = c .before .before .before .before .before .before .before .before .before .before .args .table .now in let fr =
+    c .before .before .before .before .before .before .before .before .before .before .pre in subst (Surveyed t) (sym
+    (c .blank3 .ensures))
+    (blank-surveyed t 5 0 (records-refused t fr (sym (c .before .before .before .before .before .before .before .before .roots-fit
+    .ensures) ∙
+    not-false _ (c .before .before .before .before .before .before .before .if1 .left))
+    (sym (c .before .before .before .before .before .lowest-unlinked .ensures) ∙ c .before .before .before .if2 .left)
     (sym (c .before .before .records-fit .ensures) ∙ not-true _ (c .before .if3 .taken))))
 
 -- src/lib.rt:68:9
 collect-requires-2 : tie.Need-collect-requires-2
 collect-requires-2 c κs = (
-  c .before .before .before .before .before .before .before .before .pre,
-  c .before .before .before .before .collect .ensures,
+  c .before .before .before .before .before .before .before .before .before .pre,
+  c .before .before .before .before .before .collect .ensures,
 )
 
 -- src/lib.rt:69:9
 lowest-requires : tie.Need-lowest-requires
-lowest-requires c κs = let t = c .before .before .before .before .before .before .before .before .before .args .table .now in let fr =
-    c .before .before .before .before .before .before .before .before .before .pre in (
+lowest-requires c κs = let t = c .before .before .before .before .before .before .before .before .before .before .args .table .now in let
+    fr =
+    c .before .before .before .before .before .before .before .before .before .before .pre in (
       fr,
-      links-pass t fr (sym (c .before .before .before .before .before .before .before .roots-fit .ensures) ∙ not-false _
-          (c .before .before .before .before .before .before .if1 .left))
-          (sym (c .before .before .before .before .lowest-unlinked .ensures) ∙ c .before .before .before .if2 .left),
+      links-pass t fr (sym (c .before .before .before .before .before .before .before .before .roots-fit .ensures) ∙ not-false _
+          (c .before .before .before .before .before .before .before .if1 .left))
+          (sym (c .before .before .before .before .before .lowest-unlinked .ensures) ∙ c .before .before .before .if2 .left),
       c .collect2 .ensures,
     )
 
@@ -105,16 +110,19 @@ blank-requires-4 c κs = search needs
 -- src/lib.rt:71:9
 returns-4 : tie.Need-returns-4
 returns-4 c = let t =
-    c .before .before .before .before .before .before .before .before .before .before .before .before .before .args .table .now in let
-    fr = c .before .before .before .before .before .before .before .before .before .before .before .before .before .pre in subst
+    c .before .before .before .before .before .before .before .before .before .before .before .before .before .before .before .args .table
+    .now in let
+    fr = c .before .before .before .before .before .before .before .before .before .before .before .before .before .before .before .pre in
+    subst
     (Surveyed t) (sym (c .blank4 .ensures)) (blank-surveyed t _ _ (nodes-checked t fr
-    (sym (c .before .before .before .before .before .before .before .before .before .before .before .roots-fit .ensures) ∙ not-false _
-    (c .before .before .before .before .before .before .before .before .before .before .if1 .left))
-    (sym (c .before .before .before .before .before .before .before .before .lowest-unlinked .ensures) ∙
-    c .before .before .before .before .before .before .before .if2 .left)
-    (sym (c .before .before .before .before .before .before .records-fit .ensures) ∙ not-false _
-    (c .before .before .before .before .before .if3 .left)) ∙ fault-refused t (c .before .before .before .lowest .result)
-    (c .before .before .before .lowest .ensures) (c .before .if4 .taken)))
+    (sym (c .before .before .before .before .before .before .before .before .before .before .before .before .before .roots-fit .ensures) ∙
+    not-false _
+    (c .before .before .before .before .before .before .before .before .before .before .before .before .if1 .left))
+    (sym (c .before .before .before .before .before .before .before .before .before .before .lowest-unlinked .ensures) ∙
+    c .before .before .before .before .before .before .before .before .if2 .left)
+    (sym (c .before .before .before .before .before .before .before .records-fit .ensures) ∙ not-false _
+    (c .before .before .before .before .before .before .if3 .left)) ∙ fault-refused t (c .before .before .before .before .lowest .result)
+    (c .before .before .before .before .lowest .ensures) (c .before .before .if4 .taken)))
 
 -- src/lib.rt:76:36
 functions-requires : tie.Need-functions-requires
@@ -136,17 +144,19 @@ nodes-requires-2 c κs = search needs
 returns-5 : tie.Need-returns-5
 returns-5 c = let t =
     c .before .before .before .before .before .before .before .before .before .before .before .before .before .before .before .before
-    .before .before .args .table .now in let fr =
-    c .before .before .before .before .before .before .before .before .before .before .before .before .before .before .before
+    .before .before .before .args .table .now in let fr =
+    c .before .before .before .before .before .before .before .before .before .before .before .before .before .before .before .before
     .before .before .before .pre in let k =
-    c .before .before .before .before .before .before .before .before .before .collect2 .result in let lo : length (k .owner) ≡ 513
+    c .before .before .before .before .before .before .before .before .before .collect2 .result in let sized =
+    c .before .before .before .before .before .before .before .before .before .collect2 .ok in let lo : length (k .owner) ≡ 513
     = search needs in let lp : length (k .parent) ≡ 513 = search needs in told-surveyed t k _ _ _ _ lo lp
     (c .before .before .before .before .before .before .before .before .before .collect2 .ensures)
     (nodes-checked t fr (sym
-    (c .before .before .before .before .before .before .before .before .before .before .before .before .before .before .before
+    (c .before .before .before .before .before .before .before .before .before .before .before .before .before .before .before .before
     .before .roots-fit .ensures) ∙ not-false _
-    (c .before .before .before .before .before .before .before .before .before .before .before .before .before .before .before .if1
-    .left)) (sym (c .before .before .before .before .before .before .before .before .before .before .before .before .before
+    (c .before .before .before .before .before .before .before .before .before .before .before .before .before .before .before .before
+    .if1
+    .left)) (sym (c .before .before .before .before .before .before .before .before .before .before .before .before .before .before
     .lowest-unlinked .ensures) ∙
     c .before .before .before .before .before .before .before .before .before .before .before .before .if2 .left)
     (sym (c .before .before .before .before .before .before .before .before .before .before .before .records-fit .ensures) ∙

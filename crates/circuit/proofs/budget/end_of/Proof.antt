@@ -29,30 +29,36 @@ find-requires c κs = (c .before .before .before .before .pre .0 .fair, c .befor
 
 -- src/budget.rt:65:9
 returns-2 : tie.Need-returns-2
-returns-2 c = ends-rest (c .before .before .before .before .before .before .args .table .now)
-    (c .before .before .before .before .before .before .args .tags .now) (c .before .before .before .before .before .before .pre .0)
-    (stateAs (c .before .before .before .before .before .before .args .status .now)
-    (c .before .before .before .before .before .before .args .second .now)
-    (c .before .before .before .before .before .before .args .value .now)
-    (c .before .before .before .before .before .before .args .registers .now)
-    (c .before .before .before .before .before .before .args .occupant .now))
-    (c .before .before .before .before .before .before .pre .4) (c .before .before .before .before .before .before .args .top .0)
-    (c .before .before .before .status-at .result) (c .before .before .before .before .before .before .pre .2)
-    (c .before .before .before .status-at .ensures) (c .before .before .if1 .left) (c .before .find .result) (c .before .find .ensures)
+returns-2 c = ends-rest (c .before .before .before .before .before .before .before .args .table .now)
+    (c .before .before .before .before .before .before .before .args .tags .now) (c .before .before .before .before .before .before
+    .before .pre .0)
+    (stateAs (c .before .before .before .before .before .before .before .args .status .now)
+    (c .before .before .before .before .before .before .before .args .second .now)
+    (c .before .before .before .before .before .before .before .args .value .now)
+    (c .before .before .before .before .before .before .before .args .registers .now)
+    (c .before .before .before .before .before .before .before .args .occupant .now))
+    (c .before .before .before .before .before .before .before .pre .4) (c .before .before .before .before .before .before .before .args
+    .top .0)
+    (c .before .before .before .before .status-at .result) (c .before .before .before .before .before .before .before .pre .2)
+    (c .before .before .before .before .status-at .ensures) (c .before .before .before .if1 .left) (c .before .before .find .result .0)
+    (c .before .before .find .ensures)
     (c .if2 .taken)
 
 -- src/budget.rt:44:1
 returns-3 : tie.Need-returns-3
-returns-3 c = ends-spent (c .before .before .before .before .before .before .args .table .now)
-    (c .before .before .before .before .before .before .args .tags .now) (c .before .before .before .before .before .before .pre .0)
-    (stateAs (c .before .before .before .before .before .before .args .status .now)
-    (c .before .before .before .before .before .before .args .second .now)
-    (c .before .before .before .before .before .before .args .value .now)
-    (c .before .before .before .before .before .before .args .registers .now)
-    (c .before .before .before .before .before .before .args .occupant .now))
-    (c .before .before .before .before .before .before .pre .4) (c .before .before .before .before .before .before .args .top .0)
-    (c .before .before .before .status-at .result) (c .before .before .before .before .before .before .pre .2)
-    (c .before .before .before .status-at .ensures) (c .before .before .if1 .left) (c .before .find .result) (c .before .find .ensures)
+returns-3 c = ends-spent (c .before .before .before .before .before .before .before .args .table .now)
+    (c .before .before .before .before .before .before .before .args .tags .now) (c .before .before .before .before .before .before
+    .before .pre .0)
+    (stateAs (c .before .before .before .before .before .before .before .args .status .now)
+    (c .before .before .before .before .before .before .before .args .second .now)
+    (c .before .before .before .before .before .before .before .args .value .now)
+    (c .before .before .before .before .before .before .before .args .registers .now)
+    (c .before .before .before .before .before .before .before .args .occupant .now))
+    (c .before .before .before .before .before .before .before .pre .4) (c .before .before .before .before .before .before .before .args
+    .top .0)
+    (c .before .before .before .before .status-at .result) (c .before .before .before .before .before .before .before .pre .2)
+    (c .before .before .before .before .status-at .ensures) (c .before .before .before .if1 .left) (c .before .before .find .result .0)
+    (c .before .before .find .ensures)
     (c .if2 .left)
 
 pub end-of-spec : {M : Type 1} → statement M

@@ -66,101 +66,103 @@ find-requires c κs = (
 returns-2 : tie.Need-returns-2
 returns-2 c = subst (λ x. FindsIn
     (c .before .before .before .before .before .before .before .before .before .before .before .before .before .before .before .before
-    .before .before .before .before .before .args .table .now)
+    .before .before .before .before .before .before .args .table .now)
     (c .before .before .before .before .before .before .before .before .before .before .before .before .before .before .before .before
-    .before .before .before .before .before .args .tags .now) x nothing)
+    .before .before .before .before .before .before .args .tags .now) x nothing)
     (λ i. stateAs (c .before .before .before .before .before .before .before .before .before .before .before .before .before .before
-    .before .before .before .before .before .before .before .args .s .status)
-    (c .before .before .before .before .before .before .before .before .before .before .before .before .before .before .before .before
-    .before .before .before .before .before .args .s .second)
-    (c .before .before .before .before .before .before .before .before .before .before .before .before .before .before .before .before
-    .before .before .before .before .before .args .s .value)
-    (c .before .before .before .before .before .before .before .before .before .before .before .before .before .before .before .before
-    .before .before .before .before .before .args .s .registers)
-    (c .before .before .before .before .before .before .before .before .before .before .before .before .plain .ensures i))
-    (query-none (c .before .before .before .before .before .before .before .before .before .before .before .before .before .before
-    .before .before .before .before .before .before .before .args .table .now)
-    (c .before .before .before .before .before .before .before .before .before .before .before .before .before .before .before .before
-    .before .before .before .before .before .args .tags .now)
-    (c .before .before .before .before .before .before .before .before .before .before .before .before .before .before .before .before
-    .before .before .before .before .before .pre .0) (stateAs
-    (c .before .before .before .before .before .before .before .before .before .before .before .before .before .before .before .before
-    .before .before .before .before .before .args .s .status)
-    (c .before .before .before .before .before .before .before .before .before .before .before .before .before .before .before .before
-    .before .before .before .before .before .args .s .second)
-    (c .before .before .before .before .before .before .before .before .before .before .before .before .before .before .before .before
-    .before .before .before .before .before .args .s .value)
-    (c .before .before .before .before .before .before .before .before .before .before .before .before .before .before .before .before
-    .before .before .before .before .before .args .s .registers)
-    (c .before .before .before .before .before .before .before .before .before .before .before .before .plain .result))
-    (subst (Stands (c .before .before .before .before .before .before .before .before .before .before .before .before .before .before
-    .before .before .before .before .before .before .before .args .table .now))
-    (sym (λ i. stateAs (c .before .before .before .before .before .before .before .before .before .before .before .before .before
     .before .before .before .before .before .before .before .before .args .s .status)
     (c .before .before .before .before .before .before .before .before .before .before .before .before .before .before .before .before
-    .before .before .before .before .before .args .s .second)
+    .before .before .before .before .before .before .args .s .second)
     (c .before .before .before .before .before .before .before .before .before .before .before .before .before .before .before .before
-    .before .before .before .before .before .args .s .value)
+    .before .before .before .before .before .before .args .s .value)
     (c .before .before .before .before .before .before .before .before .before .before .before .before .before .before .before .before
-    .before .before .before .before .before .args .s .registers)
-    (c .before .before .before .before .before .before .before .before .before .before .before .before .plain .ensures i)))
+    .before .before .before .before .before .before .args .s .registers)
+    (c .before .before .before .before .before .before .before .before .before .before .before .before .before .plain .ensures i))
+    (query-none (c .before .before .before .before .before .before .before .before .before .before .before .before .before .before .before
+    .before .before .before .before .before .before .before .args .table .now)
     (c .before .before .before .before .before .before .before .before .before .before .before .before .before .before .before .before
-    .before .before .before .before .before .pre .1))
-    (c .before .before .before .before .before .before .before .before .before .before .before .top .result .0)
-    (c .before .before .before .before .before .before .before .before .before .status-at .result)
-    (c .before .before .before .before .before .before .before .before .before .before .before .top .ensures .0)
-    (c .before .before .before .before .before .before .before .before .before .status-at .ensures) (c .before .find .result)
-    (c .before .find .ensures) (c .if2 .taken))
+    .before .before .before .before .before .before .args .tags .now)
+    (c .before .before .before .before .before .before .before .before .before .before .before .before .before .before .before .before
+    .before .before .before .before .before .before .pre .0) (stateAs
+    (c .before .before .before .before .before .before .before .before .before .before .before .before .before .before .before .before
+    .before .before .before .before .before .before .args .s .status)
+    (c .before .before .before .before .before .before .before .before .before .before .before .before .before .before .before .before
+    .before .before .before .before .before .before .args .s .second)
+    (c .before .before .before .before .before .before .before .before .before .before .before .before .before .before .before .before
+    .before .before .before .before .before .before .args .s .value)
+    (c .before .before .before .before .before .before .before .before .before .before .before .before .before .before .before .before
+    .before .before .before .before .before .before .args .s .registers)
+    (c .before .before .before .before .before .before .before .before .before .before .before .before .before .plain .result))
+    (subst (Stands (c .before .before .before .before .before .before .before .before .before .before .before .before .before .before
+    .before .before .before .before .before .before .before .before .args .table .now))
+    (sym (λ i. stateAs (c .before .before .before .before .before .before .before .before .before .before .before .before .before .before
+    .before .before .before .before .before .before .before .before .args .s .status)
+    (c .before .before .before .before .before .before .before .before .before .before .before .before .before .before .before .before
+    .before .before .before .before .before .before .args .s .second)
+    (c .before .before .before .before .before .before .before .before .before .before .before .before .before .before .before .before
+    .before .before .before .before .before .before .args .s .value)
+    (c .before .before .before .before .before .before .before .before .before .before .before .before .before .before .before .before
+    .before .before .before .before .before .before .args .s .registers)
+    (c .before .before .before .before .before .before .before .before .before .before .before .before .before .plain .ensures i)))
+    (c .before .before .before .before .before .before .before .before .before .before .before .before .before .before .before .before
+    .before .before .before .before .before .before .pre .1))
+    (c .before .before .before .before .before .before .before .before .before .before .before .before .top .result .0)
+    (c .before .before .before .before .before .before .before .before .before .before .status-at .result)
+    (c .before .before .before .before .before .before .before .before .before .before .before .before .top .ensures .0)
+    (c .before .before .before .before .before .before .before .before .before .before .status-at .ensures)
+    (c .before .before .find .result .0)
+    (c .before .before .find .ensures) (c .if2 .taken))
 
 -- src/budget.rt:21:1
 returns-3 : tie.Need-returns-3
 returns-3 c = subst (λ x. FindsIn
     (c .before .before .before .before .before .before .before .before .before .before .before .before .before .before .before .before
-    .before .before .before .before .before .args .table .now)
+    .before .before .before .before .before .before .args .table .now)
     (c .before .before .before .before .before .before .before .before .before .before .before .before .before .before .before .before
-    .before .before .before .before .before .args .tags .now) x (names (c .before .find .result)))
+    .before .before .before .before .before .before .args .tags .now) x (names (c .before .before .find .result .0)))
     (λ i. stateAs (c .before .before .before .before .before .before .before .before .before .before .before .before .before .before
-    .before .before .before .before .before .before .before .args .s .status)
-    (c .before .before .before .before .before .before .before .before .before .before .before .before .before .before .before .before
-    .before .before .before .before .before .args .s .second)
-    (c .before .before .before .before .before .before .before .before .before .before .before .before .before .before .before .before
-    .before .before .before .before .before .args .s .value)
-    (c .before .before .before .before .before .before .before .before .before .before .before .before .before .before .before .before
-    .before .before .before .before .before .args .s .registers)
-    (c .before .before .before .before .before .before .before .before .before .before .before .before .plain .ensures i))
-    (query-some (c .before .before .before .before .before .before .before .before .before .before .before .before .before .before
-    .before .before .before .before .before .before .before .args .table .now)
-    (c .before .before .before .before .before .before .before .before .before .before .before .before .before .before .before .before
-    .before .before .before .before .before .args .tags .now)
-    (c .before .before .before .before .before .before .before .before .before .before .before .before .before .before .before .before
-    .before .before .before .before .before .pre .0) (stateAs
-    (c .before .before .before .before .before .before .before .before .before .before .before .before .before .before .before .before
-    .before .before .before .before .before .args .s .status)
-    (c .before .before .before .before .before .before .before .before .before .before .before .before .before .before .before .before
-    .before .before .before .before .before .args .s .second)
-    (c .before .before .before .before .before .before .before .before .before .before .before .before .before .before .before .before
-    .before .before .before .before .before .args .s .value)
-    (c .before .before .before .before .before .before .before .before .before .before .before .before .before .before .before .before
-    .before .before .before .before .before .args .s .registers)
-    (c .before .before .before .before .before .before .before .before .before .before .before .before .plain .result))
-    (subst (Stands (c .before .before .before .before .before .before .before .before .before .before .before .before .before .before
-    .before .before .before .before .before .before .before .args .table .now))
-    (sym (λ i. stateAs (c .before .before .before .before .before .before .before .before .before .before .before .before .before
     .before .before .before .before .before .before .before .before .args .s .status)
     (c .before .before .before .before .before .before .before .before .before .before .before .before .before .before .before .before
-    .before .before .before .before .before .args .s .second)
+    .before .before .before .before .before .before .args .s .second)
     (c .before .before .before .before .before .before .before .before .before .before .before .before .before .before .before .before
-    .before .before .before .before .before .args .s .value)
+    .before .before .before .before .before .before .args .s .value)
     (c .before .before .before .before .before .before .before .before .before .before .before .before .before .before .before .before
-    .before .before .before .before .before .args .s .registers)
-    (c .before .before .before .before .before .before .before .before .before .before .before .before .plain .ensures i)))
+    .before .before .before .before .before .before .args .s .registers)
+    (c .before .before .before .before .before .before .before .before .before .before .before .before .before .plain .ensures i))
+    (query-some (c .before .before .before .before .before .before .before .before .before .before .before .before .before .before .before
+    .before .before .before .before .before .before .before .args .table .now)
     (c .before .before .before .before .before .before .before .before .before .before .before .before .before .before .before .before
-    .before .before .before .before .before .pre .1))
-    (c .before .before .before .before .before .before .before .before .before .before .before .top .result .0)
-    (c .before .before .before .before .before .before .before .before .before .status-at .result)
-    (c .before .before .before .before .before .before .before .before .before .before .before .top .ensures .0)
-    (c .before .before .before .before .before .before .before .before .before .status-at .ensures)
-    (c .before .before .before .before .before .before .before .before .if1 .left) (c .before .find .result) (c .before .find .ensures)
+    .before .before .before .before .before .before .args .tags .now)
+    (c .before .before .before .before .before .before .before .before .before .before .before .before .before .before .before .before
+    .before .before .before .before .before .before .pre .0) (stateAs
+    (c .before .before .before .before .before .before .before .before .before .before .before .before .before .before .before .before
+    .before .before .before .before .before .before .args .s .status)
+    (c .before .before .before .before .before .before .before .before .before .before .before .before .before .before .before .before
+    .before .before .before .before .before .before .args .s .second)
+    (c .before .before .before .before .before .before .before .before .before .before .before .before .before .before .before .before
+    .before .before .before .before .before .before .args .s .value)
+    (c .before .before .before .before .before .before .before .before .before .before .before .before .before .before .before .before
+    .before .before .before .before .before .before .args .s .registers)
+    (c .before .before .before .before .before .before .before .before .before .before .before .before .before .plain .result))
+    (subst (Stands (c .before .before .before .before .before .before .before .before .before .before .before .before .before .before
+    .before .before .before .before .before .before .before .before .args .table .now))
+    (sym (λ i. stateAs (c .before .before .before .before .before .before .before .before .before .before .before .before .before .before
+    .before .before .before .before .before .before .before .before .args .s .status)
+    (c .before .before .before .before .before .before .before .before .before .before .before .before .before .before .before .before
+    .before .before .before .before .before .before .args .s .second)
+    (c .before .before .before .before .before .before .before .before .before .before .before .before .before .before .before .before
+    .before .before .before .before .before .before .args .s .value)
+    (c .before .before .before .before .before .before .before .before .before .before .before .before .before .before .before .before
+    .before .before .before .before .before .before .args .s .registers)
+    (c .before .before .before .before .before .before .before .before .before .before .before .before .before .plain .ensures i)))
+    (c .before .before .before .before .before .before .before .before .before .before .before .before .before .before .before .before
+    .before .before .before .before .before .before .pre .1))
+    (c .before .before .before .before .before .before .before .before .before .before .before .before .top .result .0)
+    (c .before .before .before .before .before .before .before .before .before .before .status-at .result)
+    (c .before .before .before .before .before .before .before .before .before .before .before .before .top .ensures .0)
+    (c .before .before .before .before .before .before .before .before .before .before .status-at .ensures)
+    (c .before .before .before .before .before .before .before .before .before .if1 .left) (c .before .before .find .result .0)
+    (c .before .before .find .ensures)
     (c .if2 .left))
 
 pub query-spec : {M : Type 1} → statement M

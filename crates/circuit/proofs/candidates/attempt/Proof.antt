@@ -8,80 +8,97 @@ use Rattle.circuit.proofs.SearchLaws.{tried-none, tried-node}
 use Rattle.circuit.proofs.candidates.attempt.Statement.{statement}
 use Rattle.circuit.proofs.candidates.attempt.Tie as tie
 
--- src/drive.rt:180:9
+-- src/candidates.rt:180:9
 returns : tie.Need-returns
-returns c = tried-none (c .before .before .args .table .now)
-    (stateAs (c .before .before .args .status .now) (c .before .before .args .second .now) (c .before .before .args .value .now)
-    (c .before .before .args .registers .now) (c .before .before .args .occupant .now)) (c .before .before .args .n)
+returns c = tried-none (c .before .before .before .args .table .now)
+    (stateAs (c .before .before .before .args .status .now) (c .before .before .before .args .second .now)
+    (c .before .before .before .args .value .now)
+    (c .before .before .before .args .registers .now) (c .before .before .before .args .occupant .now))
+    (c .before .before .before .args .n .0)
     (λ i. omega (arith, i .0, c .if1 .taken))
 
--- src/drive.rt:182:9
+-- src/candidates.rt:182:9
 nodes-requires : tie.Need-nodes-requires
 nodes-requires c κs = search needs
 
--- src/drive.rt:184:9
+-- src/candidates.rt:184:9
 returns-2 : tie.Need-returns-2
-returns-2 c = tried-none (c .before .before .before .before .before .args .table .now)
-    (stateAs (c .before .before .before .before .before .args .status .now)
-    (c .before .before .before .before .before .args .second .now) (c .before .before .before .before .before .args .value .now)
-    (c .before .before .before .before .before .args .registers .now) (c .before .before .before .before .before .args .occupant .now))
-    (c .before .before .before .before .before .args .n) (λ i. omega (arith, i .1, c .if2 .taken, c .before .before .nodes .ensures))
+returns-2 c = tried-none (c .before .before .before .before .before .before .before .args .table .now)
+    (stateAs (c .before .before .before .before .before .before .before .args .status .now)
+    (c .before .before .before .before .before .before .before .args .second .now) (c .before .before .before .before .before .before
+    .before .args .value .now)
+    (c .before .before .before .before .before .before .before .args .registers .now)
+    (c .before .before .before .before .before .before .before .args .occupant .now))
+    (c .before .before .before .before .before .before .before .args .n .0) (λ i. omega
+    (arith, i .1, c .if2 .taken, c .before .before .before .nodes .ensures))
 
--- src/drive.rt:186:13
+-- src/candidates.rt:186:17
+cast-f : tie.Need-cast-f
+cast-f c = search needs
+
+-- src/candidates.rt:186:13
 mul-f : tie.Need-mul-f
 mul-f c = search needs
 
--- src/drive.rt:186:13
+-- src/candidates.rt:186:13
 element-copy-out-f : tie.Need-element-copy-out-f
 element-copy-out-f c = omega (
   arith,
-  c .if2 .left,
-  c .before .before .nodes .ensures,
+  c .before .if2 .left,
+  c .before .before .before .before .nodes .ensures,
   ok
-      (c .before .before .before .before .before .args .table .now) (c .before .before .before .before .before .pre .0) .N-high,
+      (c .before .before .before .before .before .before .before .before .args .table .now)
+      (c .before .before .before .before .before .before .before .before .pre .0) .N-high,
 )
 
--- src/drive.rt:187:5
+-- src/candidates.rt:187:5
 take-requires : tie.Need-take-requires
 take-requires c κs = (
-  c .before .before .before .before .before .before .before .before .before .before .before .pre .0,
+  c .before .before .before .before .before .before .before .before .before .before .before .before .before .before .pre .0,
   (
-    omega (arith, c .before .before .before .before .before .before .before .before .before .if1 .left),
+    omega (arith, c .before .before .before .before .before .before .before .before .before .before .before .if1 .left),
     omega (
       arith,
-      c .before .before .before .before .before .before .if2 .left,
-      c .before .before .before .before .before .before .before .before .nodes .ensures,
+      c .before .before .before .before .before .before .before .if2 .left,
+      c .before .before .before .before .before .before .before .before .before .before .nodes .ensures,
     ),
   ),
-  c .before .before .before .before .before .before .before .before .before .before .before .pre .1
-      (c .before .before .before .before .before .before .before .before .before .before .before .args .n)
+  c .before .before .before .before .before .before .before .before .before .before .before .before .before .before .pre .1
+      (c .before .before .before .before .before .before .before .before .before .before .before .before .before .before .args .n .0)
       (omega (
         arith,
-        c .before .before .before .before .before .before .if2 .left,
-        c .before .before .before .before .before .before .before .before .nodes .ensures,
+        c .before .before .before .before .before .before .before .if2 .left,
+        c .before .before .before .before .before .before .before .before .before .before .nodes .ensures,
       )),
-  c .before .before .before .before .before .before .before .before .before .before .before .pre .2,
+  c .before .before .before .before .before .before .before .before .before .before .before .before .before .before .pre .2,
 )
 
--- src/drive.rt:162:1
+-- src/candidates.rt:162:1
 returns-3 : tie.Need-returns-3
 returns-3 c = tried-node
-    (c .before .before .before .before .before .before .before .before .before .before .before .before .args .table .now)
-    (stateAs (c .before .before .before .before .before .before .before .before .before .before .before .before .args .status .now)
-    (c .before .before .before .before .before .before .before .before .before .before .before .before .args .second .now)
-    (c .before .before .before .before .before .before .before .before .before .before .before .before .args .value .now)
-    (c .before .before .before .before .before .before .before .before .before .before .before .before .args .registers .now)
-    (c .before .before .before .before .before .before .before .before .before .before .before .before .args .occupant .now))
-    (c .before .before .before .before .before .before .before .before .before .before .before .before .args .n) (c .take .result) _ (
-      omega (arith, c .before .before .before .before .before .before .before .before .before .before .if1 .left),
+    (c .before .before .before .before .before .before .before .before .before .before .before .before .before .before .before .args
+    .table .now)
+    (stateAs (c .before .before .before .before .before .before .before .before .before .before .before .before .before .before .before
+    .args .status .now)
+    (c .before .before .before .before .before .before .before .before .before .before .before .before .before .before .before .args
+    .second .now)
+    (c .before .before .before .before .before .before .before .before .before .before .before .before .before .before .before .args
+    .value .now)
+    (c .before .before .before .before .before .before .before .before .before .before .before .before .before .before .before .args
+    .registers .now)
+    (c .before .before .before .before .before .before .before .before .before .before .before .before .before .before .before .args
+    .occupant .now))
+    (c .before .before .before .before .before .before .before .before .before .before .before .before .before .before .before .args .n
+    .0) (c .take .result) _ (
+      omega (arith, c .before .before .before .before .before .before .before .before .before .before .before .before .if1 .left),
       omega (
         arith,
-        c .before .before .before .before .before .before .before .if2 .left,
-        c .before .before .before .before .before .before .before .before .before .nodes .ensures,
+        c .before .before .before .before .before .before .before .before .if2 .left,
+        c .before .before .before .before .before .before .before .before .before .before .before .nodes .ensures,
       ),
     ) (c .take .ensures)
 
 pub attempt-spec : {M : Type 1} → statement M
 attempt-spec =
     tie.close
-    (tie.spec returns nodes-requires returns-2 mul-f element-copy-out-f take-requires returns-3)
+    (tie.spec returns nodes-requires returns-2 cast-f mul-f element-copy-out-f take-requires returns-3)

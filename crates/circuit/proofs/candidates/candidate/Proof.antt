@@ -5,16 +5,16 @@ use Rattle.circuit.proofs.candidates.candidate.Statement.{statement}
 use Rattle.circuit.proofs.candidates.candidate.Tie as tie
 
 -- src/candidates.rt:156:22
-sub-result : tie.Need-sub-result
-sub-result c = search needs
+sub-n : tie.Need-sub-n
+sub-n c = search needs
 
 -- src/candidates.rt:156:16
-mul-result : tie.Need-mul-result
-mul-result c = search needs
+mul-n : tie.Need-mul-n
+mul-n c = search needs
 
 -- src/candidates.rt:156:16
-element-copy-out-result : tie.Need-element-copy-out-result
-element-copy-out-result c = search needs
+element-copy-out-n : tie.Need-element-copy-out-n
+element-copy-out-n c = search needs
 
 -- src/candidates.rt:156:9
 returns : tie.Need-returns
@@ -31,4 +31,4 @@ returns-2 c = search needs
 pub candidate-spec : {M : Type 1} → statement M
 candidate-spec =
     tie.close
-    (tie.spec sub-result mul-result element-copy-out-result returns find-requires returns-2)
+    (tie.spec sub-n mul-n element-copy-out-n returns find-requires returns-2)

@@ -10,43 +10,43 @@ Inv-loop own stack height f h₀ h = h ≤ 1024
 abbrev μ-loop : tie.MeasureT-loop
 μ-loop own stack height f h₀ h = h
 
--- src/drive.rt:82:5
+-- src/candidates.rt:82:5
 loop-holds : tie.Need-loop-holds Inv-loop μ-loop
 loop-holds c = c .pre
 
--- src/drive.rt:83:30
-sub-owned : tie.Need-sub-owned Inv-loop μ-loop
-sub-owned c = omega arith
+-- src/candidates.rt:83:30
+sub-n : tie.Need-sub-n Inv-loop μ-loop
+sub-n c = omega arith
 
--- src/drive.rt:83:24
-mul-owned : tie.Need-mul-owned Inv-loop μ-loop
-mul-owned c = search needs
+-- src/candidates.rt:83:24
+mul-n : tie.Need-mul-n Inv-loop μ-loop
+mul-n c = search needs
 
--- src/drive.rt:83:24
-element-copy-out-owned : tie.Need-element-copy-out-owned Inv-loop μ-loop
-element-copy-out-owned c = omega (arith, c .before .loop .inv)
+-- src/candidates.rt:83:24
+element-copy-out-n : tie.Need-element-copy-out-n Inv-loop μ-loop
+element-copy-out-n c = omega (arith, c .before .loop .inv)
 
--- src/drive.rt:83:13
+-- src/candidates.rt:83:13
 owned-requires : tie.Need-owned-requires Inv-loop μ-loop
 owned-requires c κs = search needs
 
--- src/drive.rt:84:13
+-- src/candidates.rt:84:13
 returns : tie.Need-returns Inv-loop μ-loop
 returns c = c .before .before .before .before .loop .inv
 
--- src/drive.rt:86:9
+-- src/candidates.rt:86:9
 sub-h : tie.Need-sub-h Inv-loop μ-loop
 sub-h c = omega arith
 
--- src/drive.rt:82:5
+-- src/candidates.rt:82:5
 loop-less : tie.Need-loop-less Inv-loop μ-loop
 loop-less c = omega arith
 
--- src/drive.rt:82:5
+-- src/candidates.rt:82:5
 loop-again : tie.Need-loop-again Inv-loop μ-loop
 loop-again c = omega (arith, c .before .before .before .before .loop .inv)
 
--- src/drive.rt:77:1
+-- src/candidates.rt:77:1
 returns-2 : tie.Need-returns-2 Inv-loop μ-loop
 returns-2 c = omega arith
 
@@ -57,9 +57,9 @@ drop-own-spec =
     Inv-loop
     μ-loop
     loop-holds
-    sub-owned
-    mul-owned
-    element-copy-out-owned
+    sub-n
+    mul-n
+    element-copy-out-n
     owned-requires
     returns
     sub-h

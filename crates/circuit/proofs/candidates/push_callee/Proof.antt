@@ -8,19 +8,19 @@ use Rattle.circuit.proofs.ActBy.{callee-in}
 use Rattle.circuit.proofs.candidates.push_callee.Statement.{statement}
 use Rattle.circuit.proofs.candidates.push_callee.Tie as tie
 
--- src/drive.rt:131:8
+-- src/candidates.rt:131:8
 kind-requires : tie.Need-kind-requires
 kind-requires c κs = search needs
 
--- src/drive.rt:132:9
+-- src/candidates.rt:132:9
 returns : tie.Need-returns
 returns c = search needs
 
--- src/drive.rt:134:9
+-- src/candidates.rt:134:9
 word-requires : tie.Need-word-requires
 word-requires c κs = search needs
 
--- src/drive.rt:135:40
+-- src/candidates.rt:135:40
 cast-t10 : tie.Need-cast-t10
 cast-t10 c = omega (
   arith,
@@ -32,11 +32,11 @@ cast-t10 c = omega (
       (c .before .before .before .before .args .table .now) (c .before .before .before .before .pre .0) .F-high,
 )
 
--- src/drive.rt:135:9
+-- src/candidates.rt:135:9
 root-requires : tie.Need-root-requires
 root-requires c κs = search needs
 
--- src/drive.rt:136:5
+-- src/candidates.rt:136:5
 push-open-requires : tie.Need-push-open-requires
 push-open-requires c κs = (
   omega (
@@ -57,7 +57,7 @@ push-open-requires c κs = (
   c .before .before .before .before .before .before .pre .2,
 )
 
--- src/drive.rt:121:1
+-- src/candidates.rt:121:1
 returns-2 : tie.Need-returns-2
 returns-2 c = search needs
 

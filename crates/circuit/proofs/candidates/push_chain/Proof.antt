@@ -12,11 +12,11 @@ Inv-loop table status stack₀ height h₀ at₀ stack h at = (h ≤ 1024) × (a
 abbrev μ-loop : tie.MeasureT-loop
 μ-loop table status stack₀ height h₀ at₀ stack h at = rest table at
 
--- src/drive.rt:60:5
+-- src/candidates.rt:60:5
 loop-holds : tie.Need-loop-holds Inv-loop μ-loop
 loop-holds c = (c .before .pre .2, c .before .pre .1)
 
--- src/drive.rt:61:9
+-- src/candidates.rt:61:9
 push-open-requires : tie.Need-push-open-requires Inv-loop μ-loop
 push-open-requires c κs = (
   omega (
@@ -28,17 +28,17 @@ push-open-requires c κs = (
   c .before .before .loop .inv .0,
 )
 
--- src/drive.rt:62:13
+-- src/candidates.rt:62:13
 next-requires : tie.Need-next-requires Inv-loop μ-loop
 next-requires c κs = search needs
 
--- src/drive.rt:60:5
+-- src/candidates.rt:60:5
 loop-less : tie.Need-loop-less Inv-loop μ-loop
 loop-less c = falls (c .before .before .before .before .before .before .args .table .now)
     (c .before .before .before .before .before .before .pre .0) (c .before .before .before .before .loop .at)
     (c .before .before .before .loop-test .taken) (c .before .before .before .before .loop .inv .1) _ (c .next .ensures)
 
--- src/drive.rt:60:5
+-- src/candidates.rt:60:5
 loop-again : tie.Need-loop-again Inv-loop μ-loop
 loop-again c = (
   c .before .push-open .ensures,
@@ -47,7 +47,7 @@ loop-again c = (
       (c .before .before .before .loop-test .taken) (c .before .before .before .before .loop .inv .1) _ (c .next .ensures),
 )
 
--- src/drive.rt:48:1
+-- src/candidates.rt:48:1
 returns : tie.Need-returns Inv-loop μ-loop
 returns c = c .before .loop .inv .0
 

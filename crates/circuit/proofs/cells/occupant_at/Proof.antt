@@ -16,16 +16,16 @@ returns : tie.Need-returns
 returns c = entry-none (c .before .before .args .occupant .now) _ _ (c .if1 .taken)
 
 -- src/cells.rt:58:14
-sub-result : tie.Need-sub-result
-sub-result c = search needs
+sub-n : tie.Need-sub-n
+sub-n c = search needs
 
 -- src/cells.rt:58:5
-mul-result : tie.Need-mul-result
-mul-result c = search needs
+mul-n : tie.Need-mul-n
+mul-n c = search needs
 
 -- src/cells.rt:58:5
-element-copy-out-result : tie.Need-element-copy-out-result
-element-copy-out-result c = search needs
+element-copy-out-n : tie.Need-element-copy-out-n
+element-copy-out-n c = search needs
 
 -- src/cells.rt:50:1
 returns-2 : tie.Need-returns-2
@@ -33,4 +33,4 @@ returns-2 c = sym (entry-at (c .before .before .before .args .occupant .now) _ _
 
 pub occupant-at-spec : {M : Type 1} → statement M
 occupant-at-spec =
-    tie.close (tie.spec cast-k returns sub-result mul-result element-copy-out-result returns-2)
+    tie.close (tie.spec cast-k returns sub-n mul-n element-copy-out-n returns-2)

@@ -10,11 +10,11 @@ use Rattle.circuit.proofs.standing.odd_occupant.Statement.{statement}
 use Rattle.circuit.proofs.standing.odd_occupant.Tie as tie
 
 abbrev Inv-loop : tie.InvT-loop
-Inv-loop table occupant limit f₀ f = (f ≤ functions table) × (limit ≡ nodes table) ×
+Inv-loop table occupant last f₀ f = (f ≤ functions table) × (last .0 ≡ nodes table) ×
     (over (nodes table) (functions table) occupant ≡ over (nodes table) f occupant)
 
 abbrev μ-loop : tie.MeasureT-loop
-μ-loop table occupant limit f₀ f = f
+μ-loop table occupant last f₀ f = f
 
 -- src/standing.rt:33:9
 nodes-requires : tie.Need-nodes-requires Inv-loop μ-loop
@@ -45,11 +45,13 @@ occupant-at-requires c κs = omega (
 
 -- src/standing.rt:39:13
 returns : tie.Need-returns Inv-loop μ-loop
-returns c = sym (c .before .before .before .loop .inv .2 ∙ over-here
-    (nodes (c .before .before .before .before .before .before .before .args .table .now))
-    (c .before .before .before .before .before .before .before .args .occupant .now) (c .before .before .before .loop .f)
-    (c .before .occupant-at .result) (c .before .before .loop-test .taken) (c .before .occupant-at .ensures)
-    (omega (arith, c .if1 .taken, c .before .before .before .loop .inv .1)))
+returns c = sym (c .before .before .before .before .before .loop .inv .2 ∙ over-here
+    (nodes (c .before .before .before .before .before .before .before .before .before .args .table .now))
+    (c .before .before .before .before .before .before .before .before .before .args .occupant .now)
+    (c .before .before .before .before .before .loop .f)
+    (c .before .before .before .occupant-at .result .0) (c .before .before .before .before .loop-test .taken)
+    (c .before .before .before .occupant-at .ensures)
+    (omega (arith, c .if1 .taken, c .before .before .before .before .before .loop .inv .1)))
 
 -- src/standing.rt:41:9
 sub-f : tie.Need-sub-f Inv-loop μ-loop
@@ -62,13 +64,15 @@ loop-less c = omega arith
 -- src/standing.rt:37:5
 loop-again : tie.Need-loop-again Inv-loop μ-loop
 loop-again c = (
-  omega (arith, c .before .before .before .loop .inv .0),
-  c .before .before .before .loop .inv .1,
-  c .before .before .before .loop .inv .2 ∙ over-less (nodes
-      (c .before .before .before .before .before .before .before .args .table .now))
-      (c .before .before .before .before .before .before .before .args .occupant .now) (c .before .before .before .loop .f)
-      (c .before .occupant-at .result) (c .before .before .loop-test .taken) (c .before .occupant-at .ensures)
-      (omega (arith, c .if1 .left, c .before .before .before .loop .inv .1)),
+  omega (arith, c .before .before .before .before .before .loop .inv .0),
+  c .before .before .before .before .before .loop .inv .1,
+  c .before .before .before .before .before .loop .inv .2 ∙ over-less (nodes
+      (c .before .before .before .before .before .before .before .before .before .args .table .now))
+      (c .before .before .before .before .before .before .before .before .before .args .occupant .now)
+      (c .before .before .before .before .before .loop .f)
+      (c .before .before .before .occupant-at .result .0) (c .before .before .before .before .loop-test .taken)
+      (c .before .before .before .occupant-at .ensures)
+      (omega (arith, c .if1 .left, c .before .before .before .before .before .loop .inv .1)),
 )
 
 -- src/standing.rt:29:1

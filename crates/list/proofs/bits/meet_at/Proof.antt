@@ -12,11 +12,14 @@ use Rattle.list.proofs.bits.meet_at.Statement.{statement}
 use Rattle.list.proofs.bits.meet_at.Tie as tie
 
 abbrev Inv-loop : tie.InvT-loop
-Inv-loop found₀ set row h base i₀ found i =
+Inv-loop found₀ set row base i₀ found i =
     (i ≤ 64) × (length found ≡ 64) × Upto (λ j. bitOr (getD found₀ j 0) (bitAnd (getD set j 0) (getD row (base + j) 0))) found₀ found i
 
 abbrev μ-loop : tie.MeasureT-loop
-μ-loop found₀ set row h base i₀ found i = 64 - i
+μ-loop found₀ set row base i₀ found i = 64 - i
+
+cast-base : tie.Need-cast-base Inv-loop μ-loop
+cast-base c = search needs
 
 mul-base : tie.Need-mul-base Inv-loop μ-loop
 mul-base c = omega arith
@@ -47,23 +50,23 @@ loop-less c = omega arith
 
 loop-again : tie.Need-loop-again Inv-loop μ-loop
 loop-again c =
-    let a = c .before .before .before .before .before .args in
+    let a = c .before .before .before .before .before .before .args in
     let i = c .before .before .before .before .loop .i in
     let inv = c .before .before .before .before .loop .inv in (
       omega arith,
       simp length-set (inv .1),
       upto-more _ (a .found .now) _ i _ (omega (arith, inv .1)) (inv .2)
-          (ap (λ x. bitOr x (bitAnd (getD (a .set .now) i 0) (getD (a .row .now) (64 * a .h + i) 0))) (inv .2 .left i (omega arith))),
+          (ap (λ x. bitOr x (bitAnd (getD (a .set .now) i 0) (getD (a .row .now) (64 * a .h .0 + i) 0))) (inv .2 .left i (omega arith))),
     )
 
 returns : tie.Need-returns Inv-loop μ-loop
 returns c =
-    let a = c .before .before .args in
+    let a = c .before .before .before .args in
     let inv = c .before .loop .inv in
-    adds-by (λ j. bitAnd (getD (a .set .now) j 0) (getD (a .row .now) (64 * a .h + j) 0)) _ _ _ (inv .1) (λ j h. inv .2 .done j
+    adds-by (λ j. bitAnd (getD (a .set .now) j 0) (getD (a .row .now) (64 * a .h .0 + j) 0)) _ _ _ (inv .1) (λ j h. inv .2 .done j
     (omega arith))
-    (λ m b. and-bit (getD (a .set .now) ((m - 1) / 8) 0) (getD (a .row .now) (64 * a .h + (m - 1) / 8) 0) ((m - 1) % 8)
-    ∙ ap₂ (λ p q. p && q) (sym (tagged-bit (a .set .now) m)) (sym (tagged-row (a .row .now) (a .h) m (b .0))))
+    (λ m b. and-bit (getD (a .set .now) ((m - 1) / 8) 0) (getD (a .row .now) (64 * a .h .0 + (m - 1) / 8) 0) ((m - 1) % 8)
+    ∙ ap₂ (λ p q. p && q) (sym (tagged-bit (a .set .now) m)) (sym (tagged-row (a .row .now) (a .h .0) m (b .0))))
 
 pub meet-at-spec : {M : Type 1} → statement M
 meet-at-spec =
@@ -71,6 +74,7 @@ meet-at-spec =
     (tie.spec
     Inv-loop
     μ-loop
+    cast-base
     mul-base
     loop-holds
     element-copy-out-x

@@ -34,18 +34,18 @@ lowest-unfit-requires c κs = let p = c .before .before .before .before .before 
 
 returns-3 : tie.Need-returns-3
 returns-3 c =
-    let e = c .before .before .before .before .before .before .before .before .pre .3 in
-    unfit _ _ _ _ e (c .before .before .before .before .if1 .left) (sym (past-is _ _ _ e)
-    ∙ sym (c .before .before .before .none-past .ensures)
-    ∙ not-no _ (c .before .before .if2 .left)) (c .before .lowest-unfit .ensures)
+    let e = c .before .before .before .before .before .before .before .before .before .pre .3 in
+    unfit _ _ _ _ e (c .before .before .before .before .before .if1 .left) (sym (past-is _ _ _ e)
+    ∙ sym (c .before .before .before .before .none-past .ensures)
+    ∙ not-no _ (c .before .before .before .if2 .left)) (c .before .before .lowest-unfit .ensures)
     (c .if3 .taken)
 
 returns-4 : tie.Need-returns-4
 returns-4 c =
-    let p = c .before .before .before .before .before .before .before .before .pre in
-    ap₂ accepted (p .2) (p .3) ∙ held-fit _ _ _ (p .3) (c .before .before .before .before .if1 .left)
-    (sym (past-is _ _ _ (p .3)) ∙ sym (c .before .before .before .none-past .ensures)
-    ∙ not-no _ (c .before .before .if2 .left)) (sym (c .before .lowest-unfit .ensures) ∙ c .if3 .left)
+    let p = c .before .before .before .before .before .before .before .before .before .pre in
+    ap₂ accepted (p .2) (p .3) ∙ held-fit _ _ _ (p .3) (c .before .before .before .before .before .if1 .left)
+    (sym (past-is _ _ _ (p .3)) ∙ sym (c .before .before .before .before .none-past .ensures)
+    ∙ not-no _ (c .before .before .before .if2 .left)) (sym (c .before .before .lowest-unfit .ensures) ∙ c .if3 .left)
 
 pub held-spec : {M : Type 1} → statement M
 held-spec =

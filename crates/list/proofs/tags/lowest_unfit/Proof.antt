@@ -30,9 +30,6 @@ add-n c = omega (
       (c .before .before .before .before .before .pre .0) .1,
 )
 
-cast-marks : tie.Need-cast-marks Inv-loop μ-loop
-cast-marks c = search needs
-
 marks-requires : tie.Need-marks-requires Inv-loop μ-loop
 marks-requires c κs = omega arith
 
@@ -140,7 +137,6 @@ lowest-unfit-spec =
     μ-loop
     loop-holds
     add-n
-    cast-marks
     marks-requires
     kind-requires
     returns

@@ -8,6 +8,9 @@ use borrow.Author.Needs.{needs}
 use Rattle.list.proofs.tags.marks.Statement.{statement}
 use Rattle.list.proofs.tags.marks.Tie as tie
 
+cast-i : tie.Need-cast-i
+cast-i c = search needs
+
 sub-at : tie.Need-sub-at
 sub-at c = search needs
 
@@ -29,7 +32,8 @@ returns c = simp low-bit
 
 returns-2 : tie.Need-returns-2
 unfolding tagged
-returns-2 c = rw (List·getD-eq-default (c .before .args .tags .now) 0 (c .if1 .left), zero-div)
+returns-2 c = rw (List·getD-eq-default (c .before .before .args .tags .now) 0 (c .if1 .left), zero-div)
 
 pub marks-spec : {M : Type 1} → statement M
-marks-spec = tie.close (tie.spec sub-at sub-k shared-slice-read-x cast-y shr-y returns returns-2)
+marks-spec =
+    tie.close (tie.spec cast-i sub-at sub-k shared-slice-read-x cast-y shr-y returns returns-2)

@@ -3,6 +3,7 @@ use mathlib.Core.Path.{_≡_, refl, sym, ap, _∙_}
 use mathlib.Core.Bool.{true, not}
 use Prim.Native.Nat.{ℕ, _+_, _-_, _*_, _≤_}
 use native.Mathlib.Omega.{arith}
+use borrow.Author.Needs.{needs}
 use lib.ListN.{length}
 use Rattle.table.specs.Find.{all}
 use Rattle.list.specs.Tags.{tagged}
@@ -11,33 +12,40 @@ use Rattle.list.proofs.tags.none_past.Statement.{statement}
 use Rattle.list.proofs.tags.none_past.Tie as tie
 
 abbrev Inv-loop : tie.InvT-loop
-Inv-loop tags last end i₀ i = (i ≤ 8 * length tags - last) × (all (λ j. not (tagged tags (last + j))) i ≡ true)
+Inv-loop tags end count i₀ i = (i ≤ 8 * length tags - count) × (all (λ j. not (tagged tags (count + j))) i ≡ true)
 
 abbrev μ-loop : tie.MeasureT-loop
-μ-loop tags last end i₀ i = 8 * length tags - last - i
+μ-loop tags end count i₀ i = 8 * length tags - count - i
 
 mul-end : tie.Need-mul-end Inv-loop μ-loop
 mul-end c = omega (arith, c .before .pre .1)
+
+cast-count : tie.Need-cast-count Inv-loop μ-loop
+cast-count c = search needs
 
 loop-holds : tie.Need-loop-holds Inv-loop μ-loop
 loop-holds c = (omega arith, all-none _)
 
 add-loop : tie.Need-add-loop Inv-loop μ-loop
-add-loop c = omega (arith, c .loop .inv .0, c .before .before .pre .0, c .before .before .pre .1)
+add-loop c = omega (arith, c .loop .inv .0, c .before .before .before .pre .0, c .before .before .before .pre .1)
 
 add-i : tie.Need-add-i Inv-loop μ-loop
-add-i c = omega (arith, c .before .loop .inv .0, c .before .before .before .pre .1)
+add-i c = omega (arith, c .before .loop .inv .0, c .before .before .before .before .pre .1)
 
-add-marks : tie.Need-add-marks Inv-loop μ-loop
-add-marks c = omega (arith, c .before .loop .inv .0, c .before .before .before .pre .0, c .before .before .before .pre .1)
+add-n : tie.Need-add-n Inv-loop μ-loop
+add-n c = omega (arith, c .before .loop .inv .0, c .before .before .before .before .pre .0, c .before .before .before .before .pre .1)
+
+cast-n : tie.Need-cast-n Inv-loop μ-loop
+cast-n c = omega (arith, c .before .loop .inv .0, c .before .before .before .before .pre .0, c .before .before .before .before .pre .1)
 
 marks-requires : tie.Need-marks-requires Inv-loop μ-loop
 marks-requires c κs = omega arith
 
 returns : tie.Need-returns Inv-loop μ-loop
 returns c =
-    let a = c .before .before .before .before .before .args in
-    sym (all-fails (λ j. not (tagged (a .tags .now) (a .last + j))) _ (c .before .before .before .loop .i + 1) (omega arith) (omega arith)
+    let a = c .before .before .before .before .before .before .args in
+    sym (all-fails (λ j. not (tagged (a .tags .now) (a .last .0 + j))) _ (c .before .before .before .loop .i + 1) (omega arith)
+    (omega arith)
     (ap not (sym (c .before .marks .ensures) ∙ c .if1 .taken)))
 
 loop-less : tie.Need-loop-less Inv-loop μ-loop
@@ -45,17 +53,17 @@ loop-less c = omega arith
 
 loop-again : tie.Need-loop-again Inv-loop μ-loop
 loop-again c =
-    let a = c .before .before .before .before .before .args in (
+    let a = c .before .before .before .before .before .before .args in (
       omega arith,
-      all-next (λ j. not (tagged (a .tags .now) (a .last + j))) (c .before .before .before .loop .i)
+      all-next (λ j. not (tagged (a .tags .now) (a .last .0 + j))) (c .before .before .before .loop .i)
           (c .before .before .before .loop .inv .1) (ap not (sym (c .before .marks .ensures) ∙ c .if1 .left)),
     )
 
 returns-2 : tie.Need-returns-2 Inv-loop μ-loop
 returns-2 c =
-    let a = c .before .before .before .args in
-    let e : c .before .loop .i ≡ 8 * length (a .tags .now) - a .last = omega (arith, c .before .loop .inv .0) in
-    sym (sym (ap (all (λ j. not (tagged (a .tags .now) (a .last + j)))) e) ∙ c .before .loop .inv .1)
+    let a = c .before .before .before .before .args in
+    let e : c .before .loop .i ≡ 8 * length (a .tags .now) - a .last .0 = omega (arith, c .before .loop .inv .0) in
+    sym (sym (ap (all (λ j. not (tagged (a .tags .now) (a .last .0 + j)))) e) ∙ c .before .loop .inv .1)
 
 pub none-past-spec : {M : Type 1} → statement M
 none-past-spec =
@@ -64,10 +72,12 @@ none-past-spec =
     Inv-loop
     μ-loop
     mul-end
+    cast-count
     loop-holds
     add-loop
     add-i
-    add-marks
+    add-n
+    cast-n
     marks-requires
     returns
     loop-less

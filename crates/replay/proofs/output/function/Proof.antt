@@ -5,10 +5,10 @@ use Rattle.replay.proofs.output.function.Statement.{statement}
 use Rattle.replay.proofs.output.function.Tie as tie
 
 abbrev Inv-loop : tie.InvT-loop
-Inv-loop f registers base i₀ t8 t9 i = i ≤ 8
+Inv-loop registers base i₀ t8 t9 i = i ≤ 8
 
 abbrev μ-loop : tie.MeasureT-loop
-μ-loop f registers base i₀ t8 t9 i = 8 - i
+μ-loop registers base i₀ t8 t9 i = 8 - i
 
 -- src/output.rt:95:10
 slice-aggregate-text : tie.Need-slice-aggregate-text Inv-loop μ-loop
@@ -30,6 +30,9 @@ slice-aggregate-text-2 c = search needs
 text-requires-2 : tie.Need-text-requires-2 Inv-loop μ-loop
 text-requires-2 c κs = search needs
 
+cast-number-2 : tie.Need-cast-number-2 Inv-loop μ-loop
+cast-number-2 c = search needs
+
 -- src/output.rt:98:12
 cast-number : tie.Need-cast-number Inv-loop μ-loop
 cast-number c = search needs
@@ -38,13 +41,16 @@ cast-number c = search needs
 number-requires-2 : tie.Need-number-requires-2 Inv-loop μ-loop
 number-requires-2 c κs = search needs
 
+cast-base : tie.Need-cast-base Inv-loop μ-loop
+cast-base c = search needs
+
 -- src/output.rt:99:21
 sub-base : tie.Need-sub-base Inv-loop μ-loop
 sub-base c = omega arith
 
 -- src/output.rt:99:16
 mul-base : tie.Need-mul-base Inv-loop μ-loop
-mul-base c = omega (arith, c .before .before .before .before .before .before .before .pre .1)
+mul-base c = omega (arith, c .before .before .before .before .before .before .before .before .before .pre .1)
 
 -- src/output.rt:101:5
 loop-holds : tie.Need-loop-holds Inv-loop μ-loop
@@ -63,7 +69,7 @@ add-word : tie.Need-add-word Inv-loop μ-loop
 add-word c = omega (
   arith,
   c .before .before .loop-test .taken,
-  c .before .before .before .before .before .before .before .before .before .before .before .pre .1,
+  c .before .before .before .before .before .before .before .before .before .before .before .before .before .pre .1,
 )
 
 -- src/output.rt:103:14
@@ -71,7 +77,7 @@ mul-word : tie.Need-mul-word Inv-loop μ-loop
 mul-word c = omega (
   arith,
   c .before .before .loop-test .taken,
-  c .before .before .before .before .before .before .before .before .before .before .before .pre .1,
+  c .before .before .before .before .before .before .before .before .before .before .before .before .before .pre .1,
 )
 
 -- src/output.rt:103:14
@@ -79,7 +85,7 @@ element-copy-out-word : tie.Need-element-copy-out-word Inv-loop μ-loop
 element-copy-out-word c = omega (
   arith,
   c .before .before .loop-test .taken,
-  c .before .before .before .before .before .before .before .before .before .before .before .pre .1,
+  c .before .before .before .before .before .before .before .before .before .before .before .before .before .pre .1,
 )
 
 -- src/output.rt:103:9
@@ -118,11 +124,13 @@ function-spec =
     μ-loop
     slice-aggregate-text
     text-requires
+    cast-number
     number-requires
     slice-aggregate-text-2
     text-requires-2
-    cast-number
+    cast-number-2
     number-requires-2
+    cast-base
     sub-base
     mul-base
     loop-holds

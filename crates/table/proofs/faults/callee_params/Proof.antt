@@ -16,6 +16,9 @@ use Rattle.table.proofs.frame.params_at.Reads as params-at-reads
 returns : tie.Need-returns
 returns c = λ e. absurd (c .if1 .taken e)
 
+cast-f : tie.Need-cast-f
+cast-f c = omega (arith, c .before .before .pre .1 (c .if1 .left) .1, c .before .before .pre .0 .F-high)
+
 -- src/faults.rt:55:5
 params-at-requires : tie.Need-params-at-requires
 params-at-requires c κs = (c .before .before .pre .0, c .before .before .pre .1 (c .if1 .left))
@@ -25,4 +28,4 @@ returns-2 : tie.Need-returns-2
 returns-2 c = λ e. c .params-at .ensures
 
 pub callee-params-spec : {M : Type 1} → statement M
-callee-params-spec = tie.close (tie.spec returns params-at-requires returns-2)
+callee-params-spec = tie.close (tie.spec returns cast-f params-at-requires returns-2)

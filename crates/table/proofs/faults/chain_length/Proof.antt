@@ -17,10 +17,10 @@ use Rattle.table.proofs.faults.chain_length.Lts as lts
 use Rattle.table.proofs.frame.next_at.Reads as next-at-reads
 
 abbrev Inv-loop : tie.InvT-loop
-Inv-loop table base c at₀ count₀ at count = ChainTo table at₀ at count
+Inv-loop table base at₀ count₀ at count = ChainTo table at₀ at count
 
 abbrev μ-loop : tie.MeasureT-loop
-μ-loop table base c at₀ count₀ at count = rest table at
+μ-loop table base at₀ count₀ at count = rest table at
 
 -- src/faults.rt:37:5
 loop-holds : tie.Need-loop-holds Inv-loop μ-loop
@@ -36,10 +36,6 @@ next-at-requires c κs = record {
   high = c .before .loop .inv .inside;
 }
 
--- src/faults.rt:38:14
-cast-at : tie.Need-cast-at Inv-loop μ-loop
-cast-at c = search needs
-
 -- src/faults.rt:39:9
 add-count : tie.Need-add-count Inv-loop μ-loop
 add-count c = omega (
@@ -53,13 +49,13 @@ add-count c = omega (
 loop-less : tie.Need-loop-less Inv-loop μ-loop
 loop-less c = chain-falls (c .before .before .before .before .args .table .now) (c .before .before .before .before .pre .1) _
     (c .before .before .loop .at) (c .before .before .loop .count) (c .before .before .loop .inv) (c .before .loop-test .taken)
-    (c .next-at .result) (c .next-at .ensures)
+    (c .next-at .result .0) (c .next-at .ensures)
 
 -- src/faults.rt:37:5
 loop-again : tie.Need-loop-again Inv-loop μ-loop
 loop-again c = chain-next (c .before .before .before .before .args .table .now) (c .before .before .before .before .pre .1) _
     (c .before .before .loop .at) (c .before .before .loop .count) (c .before .before .loop .inv) (c .before .loop-test .taken)
-    (c .next-at .result) (c .next-at .ensures)
+    (c .next-at .result .0) (c .next-at .ensures)
 
 -- src/faults.rt:31:1
 returns : tie.Need-returns Inv-loop μ-loop
@@ -69,13 +65,4 @@ returns c = chain-end (c .before .before .before .args .table .now) (c .before .
 pub chain-length-spec : {M : Type 1} → statement M
 chain-length-spec =
     tie.close
-    (tie.spec
-    Inv-loop
-    μ-loop
-    loop-holds
-    next-at-requires
-    cast-at
-    add-count
-    loop-less
-    loop-again
-    returns)
+    (tie.spec Inv-loop μ-loop loop-holds next-at-requires add-count loop-less loop-again returns)

@@ -42,7 +42,7 @@ chain-length-requires c κs = let p = c .before .before .before .before .pre .0 
     arith,
     c .first-at .ensures,
     first-inside
-        (c .before .before .before .before .args .table .now) (p .links) (c .before .before .before .before .args .n)
+        (c .before .before .before .before .args .table .now) (p .links) (c .before .before .before .before .args .n .0)
         (p .place .low, p .place .high),
   ),
 )
@@ -58,11 +58,11 @@ cast-result c = search needs
 -- src/faults.rt:60:1
 returns : tie.Need-returns
 returns c = sym (sym (told-counted (c .before .before .before .before .before .before .before .args .table .now)
-    (c .before .before .before .before .before .before .before .args .n)
+    (c .before .before .before .before .before .before .before .args .n .0)
     (c .before .before .before .before .before .before .before .args .kind)
     (c .before .before .before .before .before .before .before .args .extra)
     (c .before .before .before .before .before .before .before .args .word)
-    (c .before .before .before .before .before .callee-params .result) (c .before .before .before .first-at .result)
+    (c .before .before .before .before .before .callee-params .result) (c .before .before .before .first-at .result .0)
     (c .before .before .chain-length .result) (c .before .before .before .before .child-counts .result)
     (c .before .before .before .before .before .before .before .pre .0 .kinded)
     (c .before .before .before .before .before .before .before .pre .0 .extras)
@@ -73,11 +73,11 @@ returns c = sym (sym (told-counted (c .before .before .before .before .before .b
 -- src/faults.rt:60:1
 returns-2 : tie.Need-returns-2
 returns-2 c = sym (sym (told-counted (c .before .before .before .before .before .before .before .before .args .table .now)
-    (c .before .before .before .before .before .before .before .before .args .n)
+    (c .before .before .before .before .before .before .before .before .args .n .0)
     (c .before .before .before .before .before .before .before .before .args .kind)
     (c .before .before .before .before .before .before .before .before .args .extra)
     (c .before .before .before .before .before .before .before .before .args .word)
-    (c .before .before .before .before .before .before .callee-params .result) (c .before .before .before .before .first-at .result)
+    (c .before .before .before .before .before .before .callee-params .result) (c .before .before .before .before .first-at .result .0)
     (c .before .before .before .chain-length .result) (c .before .before .before .before .before .child-counts .result)
     (c .before .before .before .before .before .before .before .before .pre .0 .kinded)
     (c .before .before .before .before .before .before .before .before .pre .0 .extras)

@@ -54,9 +54,9 @@ returns : tie.Need-returns
 unfolding faultAt
 returns c = let f1 = sym (c .before .formed .ensures ∙ told-formed
     (c .before .before .before .before .before .before .before .args .table .now)
-    (c .before .before .before .before .before .before .before .args .n) (c .before .before .before .before .before .kind-at .result)
+    (c .before .before .before .before .before .before .before .args .n .0) (c .before .before .before .before .before .kind-at .result)
     (c .before .before .before .before .extra-at .result) (c .before .before .before .word-at .result)
-    (c .before .before .first-at .result) (c .before .before .before .before .before .before .before .args .own)
+    (c .before .before .first-at .result .0) (c .before .before .before .before .before .before .before .args .own .0)
     (c .before .before .before .before .before .kind-at .ensures) (c .before .before .before .before .extra-at .ensures)
     (c .before .before .before .word-at .ensures) (c .before .before .first-at .ensures)
     (c .before .before .before .before .before .before .before .pre .1 .0)) ∙ not-true _ (c .if1 .taken) in simp f1
@@ -70,22 +70,22 @@ returns-2 : tie.Need-returns-2
 unfolding faultAt
 returns-2 c = let f1 = sym (c .before .before .before .formed .ensures ∙ told-formed
     (c .before .before .before .before .before .before .before .before .before .args .table .now)
-    (c .before .before .before .before .before .before .before .before .before .args .n)
+    (c .before .before .before .before .before .before .before .before .before .args .n .0)
     (c .before .before .before .before .before .before .before .kind-at .result)
     (c .before .before .before .before .before .before .extra-at .result) (c .before .before .before .before .before .word-at .result)
-    (c .before .before .before .before .first-at .result)
-    (c .before .before .before .before .before .before .before .before .before .args .own)
+    (c .before .before .before .before .first-at .result .0)
+    (c .before .before .before .before .before .before .before .before .before .args .own .0)
     (c .before .before .before .before .before .before .before .kind-at .ensures)
     (c .before .before .before .before .before .before .extra-at .ensures) (c .before .before .before .before .before .word-at .ensures)
     (c .before .before .before .before .first-at .ensures)
     (c .before .before .before .before .before .before .before .before .before .pre .1 .0)) ∙ not-false _ (c .before .before .if1 .left)
     in let f2 = sym (c .before .callee-fits .ensures ∙ told-callee
     (c .before .before .before .before .before .before .before .before .before .args .table .now)
-    (c .before .before .before .before .before .before .before .before .before .args .n)
+    (c .before .before .before .before .before .before .before .before .before .args .n .0)
     (c .before .before .before .before .before .before .before .kind-at .result)
     (c .before .before .before .before .before .before .extra-at .result) (c .before .before .before .before .before .word-at .result)
-    (c .before .before .before .before .first-at .result)
-    (c .before .before .before .before .before .before .before .before .before .args .own)
+    (c .before .before .before .before .first-at .result .0)
+    (c .before .before .before .before .before .before .before .before .before .args .own .0)
     (c .before .before .before .before .before .before .before .kind-at .ensures)
     (c .before .before .before .before .before .before .extra-at .ensures) (c .before .before .before .before .before .word-at .ensures)
     (c .before .before .before .before .first-at .ensures)
@@ -95,11 +95,11 @@ returns-2 c = let f1 = sym (c .before .before .before .formed .ensures ∙ told-
 count-fits-requires : tie.Need-count-fits-requires
 count-fits-requires c κs = let f2 = sym (c .before .callee-fits .ensures ∙ told-callee
     (c .before .before .before .before .before .before .before .before .before .args .table .now)
-    (c .before .before .before .before .before .before .before .before .before .args .n)
+    (c .before .before .before .before .before .before .before .before .before .args .n .0)
     (c .before .before .before .before .before .before .before .kind-at .result)
     (c .before .before .before .before .before .before .extra-at .result) (c .before .before .before .before .before .word-at .result)
-    (c .before .before .before .before .first-at .result)
-    (c .before .before .before .before .before .before .before .before .before .args .own)
+    (c .before .before .before .before .first-at .result .0)
+    (c .before .before .before .before .before .before .before .before .before .args .own .0)
     (c .before .before .before .before .before .before .before .kind-at .ensures)
     (c .before .before .before .before .before .before .extra-at .ensures) (c .before .before .before .before .before .word-at .ensures)
     (c .before .before .before .before .first-at .ensures)
@@ -118,11 +118,11 @@ count-fits-requires c κs = let f2 = sym (c .before .callee-fits .ensures ∙ to
       },
       callee-in
           (c .before .before .before .before .before .before .before .before .before .args .table .now)
-          (c .before .before .before .before .before .before .before .before .before .args .n)
+          (c .before .before .before .before .before .before .before .before .before .args .n .0)
           (c .before .before .before .before .before .before .before .kind-at .result)
           (c .before .before .before .before .before .before .extra-at .result) (c .before .before .before .before .before .word-at .result)
-          (c .before .before .before .before .first-at .result)
-          (c .before .before .before .before .before .before .before .before .before .args .own)
+          (c .before .before .before .before .first-at .result .0)
+          (c .before .before .before .before .before .before .before .before .before .args .own .0)
           (c .before .before .before .before .before .before .before .kind-at .ensures)
           (c .before .before .before .before .before .before .extra-at .ensures)
           (c .before .before .before .before .before .word-at .ensures)
@@ -136,12 +136,12 @@ returns-3 : tie.Need-returns-3
 unfolding faultAt
 returns-3 c = let f1 = sym (c .before .before .before .before .before .formed .ensures ∙ told-formed
     (c .before .before .before .before .before .before .before .before .before .before .before .args .table .now)
-    (c .before .before .before .before .before .before .before .before .before .before .before .args .n)
+    (c .before .before .before .before .before .before .before .before .before .before .before .args .n .0)
     (c .before .before .before .before .before .before .before .before .before .kind-at .result)
     (c .before .before .before .before .before .before .before .before .extra-at .result)
     (c .before .before .before .before .before .before .before .word-at .result)
-    (c .before .before .before .before .before .before .first-at .result)
-    (c .before .before .before .before .before .before .before .before .before .before .before .args .own)
+    (c .before .before .before .before .before .before .first-at .result .0)
+    (c .before .before .before .before .before .before .before .before .before .before .before .args .own .0)
     (c .before .before .before .before .before .before .before .before .before .kind-at .ensures)
     (c .before .before .before .before .before .before .before .before .extra-at .ensures)
     (c .before .before .before .before .before .before .before .word-at .ensures)
@@ -150,12 +150,12 @@ returns-3 c = let f1 = sym (c .before .before .before .before .before .formed .e
     (c .before .before .before .before .if1 .left) in let f2 = sym
     (c .before .before .before .callee-fits .ensures ∙ told-callee
     (c .before .before .before .before .before .before .before .before .before .before .before .args .table .now)
-    (c .before .before .before .before .before .before .before .before .before .before .before .args .n)
+    (c .before .before .before .before .before .before .before .before .before .before .before .args .n .0)
     (c .before .before .before .before .before .before .before .before .before .kind-at .result)
     (c .before .before .before .before .before .before .before .before .extra-at .result)
     (c .before .before .before .before .before .before .before .word-at .result)
-    (c .before .before .before .before .before .before .first-at .result)
-    (c .before .before .before .before .before .before .before .before .before .before .before .args .own)
+    (c .before .before .before .before .before .before .first-at .result .0)
+    (c .before .before .before .before .before .before .before .before .before .before .before .args .own .0)
     (c .before .before .before .before .before .before .before .before .before .kind-at .ensures)
     (c .before .before .before .before .before .before .before .before .extra-at .ensures)
     (c .before .before .before .before .before .before .before .word-at .ensures)
@@ -186,12 +186,12 @@ returns-4 : tie.Need-returns-4
 unfolding faultAt
 returns-4 c = let f1 = sym (c .before .before .before .before .before .before .before .formed .ensures ∙ told-formed
     (c .before .before .before .before .before .before .before .before .before .before .before .before .before .args .table .now)
-    (c .before .before .before .before .before .before .before .before .before .before .before .before .before .args .n)
+    (c .before .before .before .before .before .before .before .before .before .before .before .before .before .args .n .0)
     (c .before .before .before .before .before .before .before .before .before .before .before .kind-at .result)
     (c .before .before .before .before .before .before .before .before .before .before .extra-at .result)
     (c .before .before .before .before .before .before .before .before .before .word-at .result)
-    (c .before .before .before .before .before .before .before .before .first-at .result)
-    (c .before .before .before .before .before .before .before .before .before .before .before .before .before .args .own)
+    (c .before .before .before .before .before .before .before .before .first-at .result .0)
+    (c .before .before .before .before .before .before .before .before .before .before .before .before .before .args .own .0)
     (c .before .before .before .before .before .before .before .before .before .before .before .kind-at .ensures)
     (c .before .before .before .before .before .before .before .before .before .before .extra-at .ensures)
     (c .before .before .before .before .before .before .before .before .before .word-at .ensures)
@@ -200,12 +200,12 @@ returns-4 c = let f1 = sym (c .before .before .before .before .before .before .b
     _ (c .before .before .before .before .before .before .if1 .left) in let f2 = sym
     (c .before .before .before .before .before .callee-fits .ensures ∙ told-callee
     (c .before .before .before .before .before .before .before .before .before .before .before .before .before .args .table .now)
-    (c .before .before .before .before .before .before .before .before .before .before .before .before .before .args .n)
+    (c .before .before .before .before .before .before .before .before .before .before .before .before .before .args .n .0)
     (c .before .before .before .before .before .before .before .before .before .before .before .kind-at .result)
     (c .before .before .before .before .before .before .before .before .before .before .extra-at .result)
     (c .before .before .before .before .before .before .before .before .before .word-at .result)
-    (c .before .before .before .before .before .before .before .before .first-at .result)
-    (c .before .before .before .before .before .before .before .before .before .before .before .before .before .args .own)
+    (c .before .before .before .before .before .before .before .before .first-at .result .0)
+    (c .before .before .before .before .before .before .before .before .before .before .before .before .before .args .own .0)
     (c .before .before .before .before .before .before .before .before .before .before .before .kind-at .ensures)
     (c .before .before .before .before .before .before .before .before .before .before .extra-at .ensures)
     (c .before .before .before .before .before .before .before .before .before .word-at .ensures)
@@ -224,12 +224,12 @@ unfolding faultAt
 returns-5 c = let f1 = sym (c .before .before .before .before .before .before .before .before .before .formed .ensures ∙ told-formed
     (c .before .before .before .before .before .before .before .before .before .before .before .before .before .before .before .args
     .table .now) (c .before .before .before .before .before .before .before .before .before .before .before .before .before .before
-    .before .args .n) (c .before .before .before .before .before .before .before .before .before .before .before .before .before
+    .before .args .n .0) (c .before .before .before .before .before .before .before .before .before .before .before .before .before
     .kind-at .result) (c .before .before .before .before .before .before .before .before .before .before .before .before .extra-at
     .result) (c .before .before .before .before .before .before .before .before .before .before .before .word-at .result)
-    (c .before .before .before .before .before .before .before .before .before .before .first-at .result)
+    (c .before .before .before .before .before .before .before .before .before .before .first-at .result .0)
     (c .before .before .before .before .before .before .before .before .before .before .before .before .before .before .before
-    .args .own) (c .before .before .before .before .before .before .before .before .before .before .before .before .before .kind-at
+    .args .own .0) (c .before .before .before .before .before .before .before .before .before .before .before .before .before .kind-at
     .ensures) (c .before .before .before .before .before .before .before .before .before .before .before .before .extra-at .ensures)
     (c .before .before .before .before .before .before .before .before .before .before .before .word-at .ensures)
     (c .before .before .before .before .before .before .before .before .before .before .first-at .ensures)
@@ -238,13 +238,13 @@ returns-5 c = let f1 = sym (c .before .before .before .before .before .before .b
     (c .before .before .before .before .before .before .before .callee-fits .ensures ∙ told-callee
     (c .before .before .before .before .before .before .before .before .before .before .before .before .before .before .before
     .args .table .now) (c .before .before .before .before .before .before .before .before .before .before .before .before .before
-    .before .before .args .n)
+    .before .before .args .n .0)
     (c .before .before .before .before .before .before .before .before .before .before .before .before .before .kind-at .result)
     (c .before .before .before .before .before .before .before .before .before .before .before .before .extra-at .result)
     (c .before .before .before .before .before .before .before .before .before .before .before .word-at .result)
-    (c .before .before .before .before .before .before .before .before .before .before .first-at .result)
+    (c .before .before .before .before .before .before .before .before .before .before .first-at .result .0)
     (c .before .before .before .before .before .before .before .before .before .before .before .before .before .before .before
-    .args .own) (c .before .before .before .before .before .before .before .before .before .before .before .before .before .kind-at
+    .args .own .0) (c .before .before .before .before .before .before .before .before .before .before .before .before .before .kind-at
     .ensures) (c .before .before .before .before .before .before .before .before .before .before .before .before .extra-at .ensures)
     (c .before .before .before .before .before .before .before .before .before .before .before .word-at .ensures)
     (c .before .before .before .before .before .before .before .before .before .before .first-at .ensures)
@@ -255,13 +255,13 @@ returns-5 c = let f1 = sym (c .before .before .before .before .before .before .b
     (c .before .tail-fits .ensures ∙ told-tailed
     (c .before .before .before .before .before .before .before .before .before .before .before .before .before .before .before
     .args .table .now) (c .before .before .before .before .before .before .before .before .before .before .before .before .before
-    .before .before .args .n)
+    .before .before .args .n .0)
     (c .before .before .before .before .before .before .before .before .before .before .before .before .before .kind-at .result)
     (c .before .before .before .before .before .before .before .before .before .before .before .before .extra-at .result)
     (c .before .before .before .before .before .before .before .before .before .before .before .word-at .result)
-    (c .before .before .before .before .before .before .before .before .before .before .first-at .result)
+    (c .before .before .before .before .before .before .before .before .before .before .first-at .result .0)
     (c .before .before .before .before .before .before .before .before .before .before .before .before .before .before .before
-    .args .own) (c .before .before .before .before .before .before .before .before .before .before .before .before .before .kind-at
+    .args .own .0) (c .before .before .before .before .before .before .before .before .before .before .before .before .before .kind-at
     .ensures) (c .before .before .before .before .before .before .before .before .before .before .before .before .extra-at .ensures)
     (c .before .before .before .before .before .before .before .before .before .before .before .word-at .ensures)
     (c .before .before .before .before .before .before .before .before .before .before .first-at .ensures)
@@ -276,12 +276,12 @@ unfolding faultAt
 returns-6 c = let f1 = sym (c .before .before .before .before .before .before .before .before .before .formed .ensures ∙ told-formed
     (c .before .before .before .before .before .before .before .before .before .before .before .before .before .before .before .args
     .table .now) (c .before .before .before .before .before .before .before .before .before .before .before .before .before .before
-    .before .args .n) (c .before .before .before .before .before .before .before .before .before .before .before .before .before
+    .before .args .n .0) (c .before .before .before .before .before .before .before .before .before .before .before .before .before
     .kind-at .result) (c .before .before .before .before .before .before .before .before .before .before .before .before .extra-at
     .result) (c .before .before .before .before .before .before .before .before .before .before .before .word-at .result)
-    (c .before .before .before .before .before .before .before .before .before .before .first-at .result)
+    (c .before .before .before .before .before .before .before .before .before .before .first-at .result .0)
     (c .before .before .before .before .before .before .before .before .before .before .before .before .before .before .before
-    .args .own) (c .before .before .before .before .before .before .before .before .before .before .before .before .before .kind-at
+    .args .own .0) (c .before .before .before .before .before .before .before .before .before .before .before .before .before .kind-at
     .ensures) (c .before .before .before .before .before .before .before .before .before .before .before .before .extra-at .ensures)
     (c .before .before .before .before .before .before .before .before .before .before .before .word-at .ensures)
     (c .before .before .before .before .before .before .before .before .before .before .first-at .ensures)
@@ -290,13 +290,13 @@ returns-6 c = let f1 = sym (c .before .before .before .before .before .before .b
     (c .before .before .before .before .before .before .before .callee-fits .ensures ∙ told-callee
     (c .before .before .before .before .before .before .before .before .before .before .before .before .before .before .before
     .args .table .now) (c .before .before .before .before .before .before .before .before .before .before .before .before .before
-    .before .before .args .n)
+    .before .before .args .n .0)
     (c .before .before .before .before .before .before .before .before .before .before .before .before .before .kind-at .result)
     (c .before .before .before .before .before .before .before .before .before .before .before .before .extra-at .result)
     (c .before .before .before .before .before .before .before .before .before .before .before .word-at .result)
-    (c .before .before .before .before .before .before .before .before .before .before .first-at .result)
+    (c .before .before .before .before .before .before .before .before .before .before .first-at .result .0)
     (c .before .before .before .before .before .before .before .before .before .before .before .before .before .before .before
-    .args .own) (c .before .before .before .before .before .before .before .before .before .before .before .before .before .kind-at
+    .args .own .0) (c .before .before .before .before .before .before .before .before .before .before .before .before .before .kind-at
     .ensures) (c .before .before .before .before .before .before .before .before .before .before .before .before .extra-at .ensures)
     (c .before .before .before .before .before .before .before .before .before .before .before .word-at .ensures)
     (c .before .before .before .before .before .before .before .before .before .before .first-at .ensures)
@@ -307,13 +307,13 @@ returns-6 c = let f1 = sym (c .before .before .before .before .before .before .b
     (c .before .tail-fits .ensures ∙ told-tailed
     (c .before .before .before .before .before .before .before .before .before .before .before .before .before .before .before
     .args .table .now) (c .before .before .before .before .before .before .before .before .before .before .before .before .before
-    .before .before .args .n)
+    .before .before .args .n .0)
     (c .before .before .before .before .before .before .before .before .before .before .before .before .before .kind-at .result)
     (c .before .before .before .before .before .before .before .before .before .before .before .before .extra-at .result)
     (c .before .before .before .before .before .before .before .before .before .before .before .word-at .result)
-    (c .before .before .before .before .before .before .before .before .before .before .first-at .result)
+    (c .before .before .before .before .before .before .before .before .before .before .first-at .result .0)
     (c .before .before .before .before .before .before .before .before .before .before .before .before .before .before .before
-    .args .own) (c .before .before .before .before .before .before .before .before .before .before .before .before .before .kind-at
+    .args .own .0) (c .before .before .before .before .before .before .before .before .before .before .before .before .before .kind-at
     .ensures) (c .before .before .before .before .before .before .before .before .before .before .before .before .extra-at .ensures)
     (c .before .before .before .before .before .before .before .before .before .before .before .word-at .ensures)
     (c .before .before .before .before .before .before .before .before .before .before .first-at .ensures)

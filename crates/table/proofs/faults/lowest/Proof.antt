@@ -40,6 +40,9 @@ loop-holds c = (omega arith, lowest-start (c .before .before .before .before .ar
 add-n : tie.Need-add-n Inv-loop μ-loop
 add-n c = omega arith
 
+cast-own : tie.Need-cast-own Inv-loop μ-loop
+cast-own c = search needs
+
 -- src/faults.rt:186:19
 mul-own : tie.Need-mul-own Inv-loop μ-loop
 mul-own c = search needs
@@ -51,6 +54,9 @@ element-copy-out-own c = omega (
   c .before .before .before .last-node .ensures,
   c .before .before .before .before .before .before .pre .0 .N-high,
 )
+
+cast-tail : tie.Need-cast-tail Inv-loop μ-loop
+cast-tail c = search needs
 
 -- src/faults.rt:187:20
 element-copy-out-tail : tie.Need-element-copy-out-tail Inv-loop μ-loop
@@ -90,14 +96,6 @@ fault-at-requires c κs = let t = c .before .before .before .before .before .bef
       ),
     )
 
--- src/faults.rt:189:36
-cast-lower : tie.Need-cast-lower Inv-loop μ-loop
-cast-lower c = omega (
-  arith,
-  c .before .before .before .before .before .before .before .last-node .ensures,
-  c .before .before .before .before .before .before .before .before .before .before .pre .0 .N-high,
-)
-
 -- src/faults.rt:189:9
 lower-requires : tie.Need-lower-requires Inv-loop μ-loop
 lower-requires c κs = search needs
@@ -132,11 +130,12 @@ lowest-spec =
     last-node-requires
     loop-holds
     add-n
+    cast-own
     mul-own
     element-copy-out-own
+    cast-tail
     element-copy-out-tail
     fault-at-requires
-    cast-lower
     lower-requires
     loop-less
     loop-again

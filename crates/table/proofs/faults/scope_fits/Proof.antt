@@ -22,14 +22,14 @@ use Rattle.table.proofs.frame.params_at.Reads as params-at-reads
 -- src/faults.rt:117:24
 params-at-requires : tie.Need-params-at-requires
 params-at-requires c κs = let p = c .before .before .pre in let i = owner-in (c .before .before .args .table .now) (p .0 .links)
-    (c .before .before .args .n) (p .0 .place .low, p .0 .place .high) in
+    (c .before .before .args .n .0) (p .0 .place .low, p .0 .place .high) in
     (p .0 .place .framed, (omega (arith, p .2, i .0), omega (arith, p .2, i .1)))
 
 -- src/faults.rt:117:9
 returns : tie.Need-returns
 returns c = let p = c .before .before .before .pre in let t = c .before .before .before .args .table .now in ap₂ (λ x y. ltb x y)
     (p .0 .extras) (c .params-at .ensures ∙ ap (params t) (p .2)) ∙ sym
-    (scoped-param t (c .before .before .before .args .n) (sym (p .0 .kinded) ∙ c .before .if1 .taken))
+    (scoped-param t (c .before .before .before .args .n .0) (sym (p .0 .kinded) ∙ c .before .if1 .taken))
 
 -- src/faults.rt:120:9
 in-scope-requires : tie.Need-in-scope-requires
@@ -38,13 +38,13 @@ in-scope-requires c κs = let p = c .before .before .before .pre in (p .0 .place
 -- src/faults.rt:120:9
 returns-2 : tie.Need-returns-2
 returns-2 c = let p = c .before .before .before .before .pre in let t = c .before .before .before .before .args .table .now in let n =
-    c .before .before .before .before .args .n in c .in-scope .ensures ∙ ap (λ x. inScope t x n) (p .0 .worded) ∙ sym
+    c .before .before .before .before .args .n .0 in c .in-scope .ensures ∙ ap (λ x. inScope t x n) (p .0 .worded) ∙ sym
     (scoped-bound t n (sym (p .0 .kinded) ∙ c .before .if2 .taken))
 
 -- src/faults.rt:112:1
 returns-3 : tie.Need-returns-3
 returns-3 c = let p = c .before .before .before .pre in let t = c .before .before .before .args .table .now in sym
-    (scoped-other t (c .before .before .before .args .n) (λ e. c .before .if1 .left (p .0 .kinded ∙ e))
+    (scoped-other t (c .before .before .before .args .n .0) (λ e. c .before .if1 .left (p .0 .kinded ∙ e))
     (λ e. c .if2 .left (p .0 .kinded ∙ e)))
 
 pub scope-fits-spec : {M : Type 1} → statement M

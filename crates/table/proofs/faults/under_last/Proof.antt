@@ -18,10 +18,10 @@ use Rattle.table.proofs.faults.under_last.Lts as lts
 use Rattle.table.proofs.frame.next_at.Reads as next-at-reads
 
 abbrev Inv-loop : tie.InvT-loop
-Inv-loop table base parents p n a₀ a = (a ≤ nodes table) × (underLast table p n ≡ underLast table p a)
+Inv-loop table base parents end a₀ a = (a ≤ nodes table) × (underLast table end a₀ ≡ underLast table end a)
 
 abbrev μ-loop : tie.MeasureT-loop
-μ-loop table base parents p n a₀ a = a
+μ-loop table base parents end a₀ a = a
 
 -- src/faults.rt:77:5
 loop-holds : tie.Need-loop-holds Inv-loop μ-loop
@@ -37,9 +37,9 @@ element-copy-out-up c = omega (arith, c .before .before .before .pre .0 .framed 
 
 -- src/faults.rt:78:18
 cast-up : tie.Need-cast-up Inv-loop μ-loop
-cast-up c = let t = c .before .before .before .before .args .table .now in let a = c .before .before .loop .a in let q =
-    c .before .before .before .before .pre .1 a (omega arith) in omega
-    (arith, q, parent-lower t a (omega arith), c .before .before .before .before .pre .0 .framed .N-high)
+cast-up c = let t = c .before .before .before .args .table .now in let a = c .before .loop .a in let q =
+    c .before .before .before .pre .1 a (omega arith) in omega
+    (arith, q, parent-lower t a (omega arith), c .before .before .before .pre .0 .framed .N-high)
 
 -- src/faults.rt:80:20
 next-at-requires : tie.Need-next-at-requires Inv-loop μ-loop
@@ -48,11 +48,13 @@ next-at-requires c κs = let p = c .before .before .before .before .before .pre 
 
 -- src/faults.rt:80:13
 returns : tie.Need-returns Inv-loop μ-loop
-returns c = let t = c .before .before .before .before .before .before .args .table .now in let a =
-    c .before .before .before .before .loop .a in let q = c .before .before .before .before .before .before .pre .1 a (omega arith) in
-    ap (λ x. eqb x 0) (c .next-at .ensures) ∙ sym (c .before .before .before .before .loop .inv .1 ∙ under-child t
-    (c .before .before .before .before .before .before .args .p) (c .before .before .before .before .before .before .pre .2) a
-    (omega arith) (sym q ∙ c .before .if1 .taken))
+returns c = let t = c .before .before .before .before .before .before .before .args .table .now in let a =
+    c .before .before .before .before .before .loop .a in let q = c .before .before .before .before .before .before .before .pre .1 a
+    (omega arith) in
+    ap (λ x. eqb x 0) (c .before .next-at .ensures) ∙ sym (c .before .before .before .before .before .loop .inv .1 ∙ under-child t
+    (c .before .before .before .before .before .before .before .args .p .0) (c .before .before .before .before .before .before .before
+    .pre .2) a
+    (omega arith) (sym q ∙ c .before .before .if1 .taken))
 
 -- src/faults.rt:77:5
 loop-less : tie.Need-loop-less Inv-loop μ-loop
@@ -65,14 +67,14 @@ loop-again c = let t = c .before .before .before .before .before .args .table .n
     q = c .before .before .before .before .before .pre .1 a (omega arith) in (
       omega (arith, q, parent-lower t a (omega arith)),
       c .before .before .before .loop .inv .1 ∙ under-up t
-          (c .before .before .before .before .before .args .p) (c .before .before .before .before .before .pre .2) a (omega arith)
-          (λ e. c .if1 .left (q ∙ e)) ∙ ap (underLast t (c .before .before .before .before .before .args .p)) (sym q),
+          (c .before .before .before .before .before .args .p .0) (c .before .before .before .before .before .pre .2) a (omega arith)
+          (λ e. c .if1 .left (q ∙ e)) ∙ ap (underLast t (c .before .before .before .before .before .args .p .0)) (sym q),
     )
 
 -- src/faults.rt:72:1
 returns-2 : tie.Need-returns-2 Inv-loop μ-loop
 returns-2 c = sym (c .before .loop .inv .1 ∙ under-none (c .before .before .before .args .table .now)
-    (c .before .before .before .args .p) (c .before .before .before .pre .2) (c .before .loop .a) (c .loop-test .left))
+    (c .before .before .before .args .p .0) (c .before .before .before .pre .2) (c .before .loop .a) (c .loop-test .left))
 
 pub under-last-spec : {M : Type 1} → statement M
 under-last-spec =
@@ -81,9 +83,9 @@ under-last-spec =
     Inv-loop
     μ-loop
     loop-holds
+    cast-up
     mul-up
     element-copy-out-up
-    cast-up
     next-at-requires
     returns
     loop-less

@@ -12,6 +12,9 @@ use Rattle.table.proofs.frame.extra_at.Tie as tie
 use Rattle.table.proofs.frame.extra_at.Reads as reads
 use Rattle.table.proofs.frame.extra_at.Lts as lts
 
+cast-k : tie.Need-cast-k
+cast-k c = search needs
+
 -- src/frame.rt:94:18
 mul-result : tie.Need-mul-result
 mul-result c = search needs
@@ -31,8 +34,8 @@ shared-slice-read-result c = search needs
 -- src/frame.rt:90:1
 returns : tie.Need-returns
 unfolding extra nodeAt
-returns c = let a = c .before .args in ap (λ i. byteAt (a .table .now) i) (omega arith)
+returns c = let a = c .before .before .args in ap (λ i. byteAt (a .table .now) i) (omega arith)
 
 pub extra-at-spec : {M : Type 1} → statement M
 extra-at-spec =
-    tie.close (tie.spec mul-result add-result sub-result shared-slice-read-result returns)
+    tie.close (tie.spec cast-k mul-result add-result sub-result shared-slice-read-result returns)

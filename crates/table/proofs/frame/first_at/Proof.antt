@@ -12,6 +12,9 @@ use Rattle.table.proofs.frame.first_at.Reads as reads
 use Rattle.table.proofs.frame.first_at.Lts as lts
 use Rattle.table.proofs.frame.two_at.Reads as two-at-reads
 
+cast-k : tie.Need-cast-k
+cast-k c = search needs
+
 -- src/frame.rt:64:26
 mul-two-at : tie.Need-mul-two-at
 mul-two-at c = search needs
@@ -31,7 +34,8 @@ two-at-requires c κs = search needs
 -- src/frame.rt:60:1
 returns : tie.Need-returns
 unfolding first nodeAt
-returns c = let a = c .before .before .args in c .two-at .ensures ∙ ap (λ i. twoAt (a .table .now) i) (omega arith)
+returns c = let a = c .before .before .before .args in c .two-at .ensures ∙ ap (λ i. twoAt (a .table .now) i) (omega arith)
 
 pub first-at-spec : {M : Type 1} → statement M
-first-at-spec = tie.close (tie.spec mul-two-at add-two-at sub-two-at two-at-requires returns)
+first-at-spec =
+    tie.close (tie.spec cast-k mul-two-at add-two-at sub-two-at two-at-requires returns)

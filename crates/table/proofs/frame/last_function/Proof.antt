@@ -16,14 +16,10 @@ use Rattle.table.proofs.frame.two_at.Reads as two-at-reads
 two-at-requires : tie.Need-two-at-requires
 two-at-requires c κs = search needs
 
--- src/frame.rt:42:5
-cast-result : tie.Need-cast-result
-cast-result c = search needs
-
 -- src/frame.rt:38:1
 returns : tie.Need-returns
 unfolding functions
 returns c = c .two-at .ensures
 
 pub last-function-spec : {M : Type 1} → statement M
-last-function-spec = tie.close (tie.spec two-at-requires cast-result returns)
+last-function-spec = tie.close (tie.spec two-at-requires returns)

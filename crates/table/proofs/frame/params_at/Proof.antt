@@ -11,6 +11,9 @@ use Rattle.table.proofs.frame.params_at.Tie as tie
 use Rattle.table.proofs.frame.params_at.Reads as reads
 use Rattle.table.proofs.frame.params_at.Lts as lts
 
+cast-k : tie.Need-cast-k
+cast-k c = search needs
+
 -- src/frame.rt:65:11
 mul-result : tie.Need-mul-result
 mul-result c = search needs
@@ -18,12 +21,12 @@ mul-result c = search needs
 -- src/frame.rt:65:5
 shared-slice-read-result : tie.Need-shared-slice-read-result
 unfolding params functionAt
-shared-slice-read-result c = omega (arith, c .before .pre .0 .size)
+shared-slice-read-result c = omega (arith, c .before .before .pre .0 .size)
 
 -- src/frame.rt:61:1
 returns : tie.Need-returns
 unfolding params functionAt
-returns c = ap (byteAt (c .before .args .table .now)) (omega arith)
+returns c = ap (byteAt (c .before .before .args .table .now)) (omega arith)
 
 pub params-at-spec : {M : Type 1} → statement M
-params-at-spec = tie.close (tie.spec mul-result shared-slice-read-result returns)
+params-at-spec = tie.close (tie.spec cast-k mul-result shared-slice-read-result returns)

@@ -12,6 +12,9 @@ use Rattle.table.proofs.frame.root_at.Reads as reads
 use Rattle.table.proofs.frame.root_at.Lts as lts
 use Rattle.table.proofs.frame.two_at.Reads as two-at-reads
 
+cast-k : tie.Need-cast-k
+cast-k c = search needs
+
 -- src/frame.rt:79:19
 mul-two-at : tie.Need-mul-two-at
 mul-two-at c = search needs
@@ -23,12 +26,12 @@ add-two-at c = search needs
 -- src/frame.rt:79:5
 two-at-requires : tie.Need-two-at-requires
 unfolding root functionAt
-two-at-requires c κs = omega (arith, c .before .pre .0 .size)
+two-at-requires c κs = omega (arith, c .before .before .pre .0 .size)
 
 -- src/frame.rt:75:1
 returns : tie.Need-returns
 unfolding root functionAt
-returns c = c .two-at .ensures ∙ ap (twoAt (c .before .before .args .table .now)) (omega arith)
+returns c = c .two-at .ensures ∙ ap (twoAt (c .before .before .before .args .table .now)) (omega arith)
 
 pub root-at-spec : {M : Type 1} → statement M
-root-at-spec = tie.close (tie.spec mul-two-at add-two-at two-at-requires returns)
+root-at-spec = tie.close (tie.spec cast-k mul-two-at add-two-at two-at-requires returns)

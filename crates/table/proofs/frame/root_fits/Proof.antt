@@ -14,7 +14,7 @@ returns c = simp (lt-leb 1 _ (c .if1 .taken))
 
 -- src/frame.rt:148:1
 returns-2 : tie.Need-returns-2
-returns-2 c = simp (le-leb 1 _ (c .if1 .left))
+returns-2 c = simp (le-leb 1 _ (c .before .before .if1 .left))
 
 pub root-fits-spec : {M : Type 1} → statement M
 root-fits-spec = tie.close (tie.spec returns returns-2)

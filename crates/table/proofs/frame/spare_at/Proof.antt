@@ -11,6 +11,9 @@ use Rattle.table.proofs.frame.spare_at.Tie as tie
 use Rattle.table.proofs.frame.spare_at.Reads as reads
 use Rattle.table.proofs.frame.spare_at.Lts as lts
 
+cast-k : tie.Need-cast-k
+cast-k c = search needs
+
 -- src/frame.rt:72:11
 mul-result : tie.Need-mul-result
 mul-result c = search needs
@@ -22,12 +25,12 @@ add-result c = search needs
 -- src/frame.rt:72:5
 shared-slice-read-result : tie.Need-shared-slice-read-result
 unfolding spare functionAt
-shared-slice-read-result c = omega (arith, c .before .pre .0 .size)
+shared-slice-read-result c = omega (arith, c .before .before .pre .0 .size)
 
 -- src/frame.rt:68:1
 returns : tie.Need-returns
 unfolding spare functionAt
-returns c = ap (byteAt (c .before .args .table .now)) (omega arith)
+returns c = ap (byteAt (c .before .before .args .table .now)) (omega arith)
 
 pub spare-at-spec : {M : Type 1} → statement M
-spare-at-spec = tie.close (tie.spec mul-result add-result shared-slice-read-result returns)
+spare-at-spec = tie.close (tie.spec cast-k mul-result add-result shared-slice-read-result returns)

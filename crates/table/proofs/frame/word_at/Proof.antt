@@ -13,6 +13,9 @@ use Rattle.table.proofs.frame.word_at.Reads as reads
 use Rattle.table.proofs.frame.word_at.Lts as lts
 use Rattle.table.proofs.frame.four_at.Reads as four-at-reads
 
+cast-k : tie.Need-cast-k
+cast-k c = search needs
+
 -- src/frame.rt:101:27
 mul-four-at : tie.Need-mul-four-at
 mul-four-at c = search needs
@@ -32,7 +35,8 @@ four-at-requires c κs = search needs
 -- src/frame.rt:97:1
 returns : tie.Need-returns
 unfolding word nodeAt
-returns c = let a = c .before .before .args in c .four-at .ensures ∙ ap (λ i. fourAt (a .table .now) i) (omega arith)
+returns c = let a = c .before .before .before .args in c .four-at .ensures ∙ ap (λ i. fourAt (a .table .now) i) (omega arith)
 
 pub word-at-spec : {M : Type 1} → statement M
-word-at-spec = tie.close (tie.spec mul-four-at add-four-at sub-four-at four-at-requires returns)
+word-at-spec =
+    tie.close (tie.spec cast-k mul-four-at add-four-at sub-four-at four-at-requires returns)

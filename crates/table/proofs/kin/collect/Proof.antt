@@ -50,54 +50,57 @@ loop-holds c = (omega arith, kin-none (c .before .before .before .args .table .n
 add-n : tie.Need-add-n Inv-loop μ-loop
 add-n c = omega arith
 
--- src/kin.rt:76:17
-mul-m : tie.Need-mul-m Inv-loop μ-loop
-mul-m c = search needs
+cast-at : tie.Need-cast-at Inv-loop μ-loop
+cast-at c = search needs
 
--- src/kin.rt:76:17
-element-copy-out-m : tie.Need-element-copy-out-m Inv-loop μ-loop
-element-copy-out-m c = omega (arith, c .before .before .last-node .ensures, c .before .before .before .before .before .pre .0 .N-high)
+mul-namer : tie.Need-mul-namer Inv-loop μ-loop
+mul-namer c = search needs
+
+element-copy-out-namer : tie.Need-element-copy-out-namer Inv-loop μ-loop
+element-copy-out-namer c = omega (
+  arith,
+  c .before .before .last-node .ensures,
+  c .before .before .before .before .before .pre .0 .N-high,
+)
 
 -- src/kin.rt:76:17
 cast-m : tie.Need-cast-m Inv-loop μ-loop
 cast-m c = search needs
 
--- src/kin.rt:77:32
-mul-owner-of : tie.Need-mul-owner-of Inv-loop μ-loop
-mul-owner-of c = search needs
+mul-root : tie.Need-mul-root Inv-loop μ-loop
+mul-root c = search needs
 
--- src/kin.rt:77:32
-element-copy-out-owner-of : tie.Need-element-copy-out-owner-of Inv-loop μ-loop
-element-copy-out-owner-of c = omega (
+element-copy-out-root : tie.Need-element-copy-out-root Inv-loop μ-loop
+element-copy-out-root c = omega (
   arith,
   c .before .before .before .last-node .ensures,
   c .before .before .before .before .before .before .pre .0 .N-high,
 )
 
--- src/kin.rt:77:48
-mul-owner-of-2 : tie.Need-mul-owner-of-2 Inv-loop μ-loop
-mul-owner-of-2 c = let t = c .before .before .before .before .before .before .before .args .table .now in let n =
-    c .before .before .before .loop .n + 1 in let q = c .before .before .before .before .before .before .before .pre .1 .holders n
+mul-mine : tie.Need-mul-mine Inv-loop μ-loop
+mul-mine c = let t = c .before .before .before .before .before .before .before .args .table .now in let n = c .before .before .before
+    .loop .n + 1 in let q = c .before .before .before .before .before .before .before .pre .1 .holders n
     (omega arith, omega (arith, c .before .before .before .before .last-node .ensures)) in let w = namer-lower t n (omega arith) in
     omega (
       arith,
       q,
       w,
       c .before .before .before .before .last-node .ensures,
-      c .before .before .before .before .before .before .before .pre .0 .N-high,
+      c .before .before .before .before .before .before .before
+          .pre .0 .N-high,
     )
 
--- src/kin.rt:77:48
-array-read-owner-of : tie.Need-array-read-owner-of Inv-loop μ-loop
-array-read-owner-of c = let t = c .before .before .before .before .before .before .before .args .table .now in let n =
-    c .before .before .before .loop .n + 1 in let q = c .before .before .before .before .before .before .before .pre .1 .holders n
+array-read-mine : tie.Need-array-read-mine Inv-loop μ-loop
+array-read-mine c = let t = c .before .before .before .before .before .before .before .args .table .now in let n = c .before .before
+    .before .loop .n + 1 in let q = c .before .before .before .before .before .before .before .pre .1 .holders n
     (omega arith, omega (arith, c .before .before .before .before .last-node .ensures)) in let w = namer-lower t n (omega arith) in
     omega (
       arith,
       q,
       w,
       c .before .before .before .before .last-node .ensures,
-      c .before .before .before .before .before .before .before .pre .0 .N-high,
+      c .before .before .before .before .before .before .before
+          .pre .0 .N-high,
     )
 
 -- src/kin.rt:77:20
@@ -116,32 +119,32 @@ array-write-owner c = omega (
   c .before .before .before .before .before .before .before .before .pre .0 .N-high,
 )
 
--- src/kin.rt:78:47
-mul-parent-of : tie.Need-mul-parent-of Inv-loop μ-loop
-mul-parent-of c = let t = c .before .before .before .before .before .before .before .before .args .table .now in let n =
-    c .before .before .before .before .loop .n + 1 in let q =
-    c .before .before .before .before .before .before .before .before .pre .1 .holders n
-    (omega arith, omega (arith, c .before .before .before .before .before .last-node .ensures)) in let w = namer-lower t n (omega arith)
-    in omega (
+mul-above : tie.Need-mul-above Inv-loop μ-loop
+mul-above c = let t = c .before .before .before .before .before .before .before .before .args .table .now in let n = c .before .before
+    .before .before .loop .n + 1 in let q = c .before .before .before .before .before .before .before .before .pre .1 .holders n
+    (omega arith, omega (arith, c .before .before .before .before .before .last-node .ensures)) in let w = namer-lower t n
+    (omega arith) in
+    omega (
       arith,
       q,
       w,
       c .before .before .before .before .before .last-node .ensures,
-      c .before .before .before .before .before .before .before .before .pre .0 .N-high,
+      c .before .before .before .before .before .before
+          .before .before .pre .0 .N-high,
     )
 
--- src/kin.rt:78:47
-array-read-parent-of : tie.Need-array-read-parent-of Inv-loop μ-loop
-array-read-parent-of c = let t = c .before .before .before .before .before .before .before .before .args .table .now in let n =
-    c .before .before .before .before .loop .n + 1 in let q =
-    c .before .before .before .before .before .before .before .before .pre .1 .holders n
-    (omega arith, omega (arith, c .before .before .before .before .before .last-node .ensures)) in let w = namer-lower t n (omega arith)
-    in omega (
+array-read-above : tie.Need-array-read-above Inv-loop μ-loop
+array-read-above c = let t = c .before .before .before .before .before .before .before .before .args .table .now in let n = c .before
+    .before .before .before .loop .n + 1 in let q = c .before .before .before .before .before .before .before .before .pre .1 .holders n
+    (omega arith, omega (arith, c .before .before .before .before .before .last-node .ensures)) in let w = namer-lower t n
+    (omega arith) in
+    omega (
       arith,
       q,
       w,
       c .before .before .before .before .before .last-node .ensures,
-      c .before .before .before .before .before .before .before .before .pre .0 .N-high,
+      c .before .before .before .before .before .before
+          .before .before .pre .0 .N-high,
     )
 
 -- src/kin.rt:78:13
@@ -180,59 +183,65 @@ cast-p c = search needs
 
 -- src/kin.rt:81:46
 array-read-tail-of : tie.Need-array-read-tail-of Inv-loop μ-loop
-array-read-tail-of c = let t = c .before .before .before .before .before .before .before .before .before .args .table .now in let n =
-    c .before .before .before .before .before .loop .n + 1 in let q =
-    c .before .before .before .before .before .before .before .before .before .pre .1 .holders n
-    (omega arith, omega (arith, c .before .before .before .before .before .before .last-node .ensures)) in let w = namer-lower t n
+array-read-tail-of c = let t = c .before .before .before .before .before .before .before .before .before .before .args .table .now in let
+    n =
+    c .before .before .before .before .before .before .loop .n + 1 in let q =
+    c .before .before .before .before .before .before .before .before .before .before .pre .1 .holders n
+    (omega arith, omega (arith, c .before .before .before .before .before .before .before .last-node .ensures)) in let w = namer-lower t n
     (omega arith) in omega (
       arith,
-      parent-below t (c .before .before .before .before .before .loop .owner)
-          (c .before .before .before .before .before .loop .parent) (c .before .before .before .before .before .loop .tail)
-          (c .before .before .before .before .before .loop .n) (c .before .before .before .before .before .loop .inv .1)
+      parent-below t (c .before .before .before .before .before .before .loop .owner)
+          (c .before .before .before .before .before .before .loop .parent) (c .before .before .before .before .before .before .loop
+          .tail)
+          (c .before .before .before .before .before .before .loop .n) (c .before .before .before .before .before .before .loop .inv .1)
           (omega (
             arith,
-            c .before .before .before .before .before .before .last-node .ensures,
-            c .before .before .before .before .before .before .before .before .before .pre .0 .N-high,
-          )) _ _ (c .before .owner-of .result)
-          (c .parent-of .result) q (c .before .before .before .before .before .before .before .before .before .pre .1 .tops n (
+            c .before .before .before .before .before .before .before .last-node .ensures,
+            c .before .before .before .before .before .before .before .before .before .before .pre .0 .N-high,
+          )) _ _ (c .before .before .owner-of .result .0)
+          (c .before .parent-of .result .0) q (c .before .before .before .before .before .before .before .before .before .before .pre .1
+          .tops n (
             omega arith,
-            omega (arith, c .before .before .before .before .before .before .last-node .ensures),
-          )) (c .before .owner-of .ensures)
-          (c .parent-of .ensures),
-      c .before .before .before .before .before .before .last-node .ensures,
-      c .before .before .before .before .before .before .before .before .before .pre .0 .N-high,
+            omega (arith, c .before .before .before .before .before .before .before .last-node .ensures),
+          )) (c .before .before .owner-of .ensures)
+          (c .before .parent-of .ensures),
+      c .before .before .before .before .before .before .before .last-node .ensures,
+      c .before .before .before .before .before .before .before .before .before .before .pre .0 .N-high,
     )
 
 -- src/kin.rt:81:19
 tail-of-requires : tie.Need-tail-of-requires Inv-loop μ-loop
-tail-of-requires c κs = let t = c .before .before .before .before .before .before .before .before .before .args .table .now in let n =
-    c .before .before .before .before .before .loop .n + 1 in let q =
-    c .before .before .before .before .before .before .before .before .before .pre .1 .holders n
-    (omega arith, omega (arith, c .before .before .before .before .before .before .last-node .ensures)) in let w = namer-lower t n
+tail-of-requires c κs = let t = c .before .before .before .before .before .before .before .before .before .before .args .table .now in let
+    n =
+    c .before .before .before .before .before .before .loop .n + 1 in let q =
+    c .before .before .before .before .before .before .before .before .before .before .pre .1 .holders n
+    (omega arith, omega (arith, c .before .before .before .before .before .before .before .last-node .ensures)) in let w = namer-lower t n
     (omega arith) in (
       record {
-        framed = c .before .before .before .before .before .before .before .before .before .pre .0;
+        framed = c .before .before .before .before .before .before .before .before .before .before .pre .0;
         start =
-            c .before .before .before .before .before .before .before .base .ensures;
+            c .before .before .before .before .before .before .before .before .base .ensures;
         low = omega arith;
         high = omega
-            (arith, c .before .before .before .before .before .before .last-node .ensures);
+            (arith, c .before .before .before .before .before .before .before .last-node .ensures);
       },
       omega (
         arith,
-        parent-below t (c .before .before .before .before .before .loop .owner)
-            (c .before .before .before .before .before .loop .parent) (c .before .before .before .before .before .loop .tail)
-            (c .before .before .before .before .before .loop .n) (c .before .before .before .before .before .loop .inv .1)
+        parent-below t (c .before .before .before .before .before .before .loop .owner)
+            (c .before .before .before .before .before .before .loop .parent) (c .before .before .before .before .before .before .loop
+            .tail)
+            (c .before .before .before .before .before .before .loop .n) (c .before .before .before .before .before .before .loop .inv .1)
             (omega (
               arith,
-              c .before .before .before .before .before .before .last-node .ensures,
-              c .before .before .before .before .before .before .before .before .before .pre .0 .N-high,
-            )) _ _ (c .before .owner-of .result)
-            (c .parent-of .result) q (c .before .before .before .before .before .before .before .before .before .pre .1 .tops n (
+              c .before .before .before .before .before .before .before .last-node .ensures,
+              c .before .before .before .before .before .before .before .before .before .before .pre .0 .N-high,
+            )) _ _ (c .before .before .owner-of .result .0)
+            (c .before .parent-of .result .0) q (c .before .before .before .before .before .before .before .before .before .before .pre .1
+            .tops n (
               omega arith,
-              omega (arith, c .before .before .before .before .before .before .last-node .ensures),
-            )) (c .before .owner-of .ensures)
-            (c .parent-of .ensures),
+              omega (arith, c .before .before .before .before .before .before .before .last-node .ensures),
+            )) (c .before .before .owner-of .ensures)
+            (c .before .parent-of .ensures),
       ),
     )
 
@@ -240,8 +249,8 @@ tail-of-requires c κs = let t = c .before .before .before .before .before .befo
 array-write-tail : tie.Need-array-write-tail Inv-loop μ-loop
 array-write-tail c = omega (
   arith,
-  c .before .before .before .before .before .before .before .last-node .ensures,
-  c .before .before .before .before .before .before .before .before .before .before .pre .0 .N-high,
+  c .before .before .before .before .before .before .before .before .last-node .ensures,
+  c .before .before .before .before .before .before .before .before .before .before .before .pre .0 .N-high,
 )
 
 -- src/kin.rt:74:5
@@ -250,24 +259,29 @@ loop-less c = omega arith
 
 -- src/kin.rt:74:5
 loop-again : tie.Need-loop-again Inv-loop μ-loop
-loop-again c = let t = c .before .before .before .before .before .before .before .before .before .before .args .table .now in let n =
-    c .before .before .before .before .before .before .loop .n + 1 in let q =
-    c .before .before .before .before .before .before .before .before .before .before .pre .1 .holders n
-    (omega arith, omega (arith, c .before .before .before .before .before .before .before .last-node .ensures)) in let w = namer-lower t
+loop-again c = let t = c .before .before .before .before .before .before .before .before .before .before .before .args .table .now in let
+    n =
+    c .before .before .before .before .before .before .before .loop .n + 1 in let q =
+    c .before .before .before .before .before .before .before .before .before .before .before .pre .1 .holders n
+    (omega arith, omega (arith, c .before .before .before .before .before .before .before .before .last-node .ensures)) in let w =
+    namer-lower t
     n (omega arith) in (
       omega arith,
-      kin-more t (c .before .before .before .before .before .before .loop .owner)
-          (c .before .before .before .before .before .before .loop .parent) (c .before .before .before .before .before .before .loop .tail)
-          (c .before .before .before .before .before .before .loop .n) (c .before .before .before .before .before .before .loop .inv .1)
+      kin-more t (c .before .before .before .before .before .before .before .loop .owner)
+          (c .before .before .before .before .before .before .before .loop .parent)
+          (c .before .before .before .before .before .before .before .loop .tail)
+          (c .before .before .before .before .before .before .before .loop .n) (c .before .before .before .before .before .before .before
+          .loop .inv .1)
           (omega (
             arith,
-            c .before .before .before .before .before .before .before .last-node .ensures,
-            c .before .before .before .before .before .before .before .before .before .before .pre .0 .N-high,
+            c .before .before .before .before .before .before .before .before .last-node .ensures,
+            c .before .before .before .before .before .before .before .before .before .before .before .pre .0 .N-high,
           )) _ _
-          (c .before .before .owner-of .result) (c .before .parent-of .result) q
-          (c .before .before .before .before .before .before .before .before .before .before .pre .1 .tops n
-          (omega arith, omega (arith, c .before .before .before .before .before .before .before .last-node .ensures)))
-          (c .before .before .owner-of .ensures) (c .before .parent-of .ensures) (c .tail-of .result) (c .tail-of .ensures),
+          (c .before .before .before .owner-of .result .0) (c .before .before .parent-of .result .0) q
+          (c .before .before .before .before .before .before .before .before .before .before .before .pre .1 .tops n
+          (omega arith, omega (arith, c .before .before .before .before .before .before .before .before .last-node .ensures)))
+          (c .before .before .before .owner-of .ensures) (c .before .before .parent-of .ensures) (c .tail-of .result)
+          (c .tail-of .ensures),
     )
 
 -- src/kin.rt:64:1
@@ -286,18 +300,19 @@ collect-spec =
     last-node-requires
     loop-holds
     add-n
-    mul-m
-    element-copy-out-m
+    cast-at
+    mul-namer
+    element-copy-out-namer
     cast-m
-    mul-owner-of
-    element-copy-out-owner-of
-    mul-owner-of-2
-    array-read-owner-of
+    mul-root
+    element-copy-out-root
+    mul-mine
+    array-read-mine
     owner-of-requires
     mul-owner
     array-write-owner
-    mul-parent-of
-    array-read-parent-of
+    mul-above
+    array-read-above
     parent-of-requires
     mul-parent
     array-write-parent

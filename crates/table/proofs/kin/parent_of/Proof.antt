@@ -16,25 +16,24 @@ returns c = simp (eq-eqb _ _ (c .if1 .taken))
 
 -- src/kin.rt:39:9
 first-at-requires : tie.Need-first-at-requires
-first-at-requires c κs = let p = c .before .before .pre in record
+first-at-requires c κs = let p = c .before .before .before .pre in record
     { framed = p .0 .framed; start = p .0 .start; low = omega arith; high = omega (arith, p .0 .high) }
-
--- src/kin.rt:40:9
-cast-if2 : tie.Need-cast-if2
-cast-if2 c = search needs
-
--- src/kin.rt:40:32
-cast-result : tie.Need-cast-result
-cast-result c = search needs
 
 -- src/kin.rt:32:1
 returns-2 : tie.Need-returns-2
-returns-2 c = simp (ne-eqb _ _ (c .before .before .if1 .left), told-yes _ (c .before .first-at .ensures) (c .if2 .taken))
+returns-2 c = simp (
+  ne-eqb _ _ (c .before .before .before .before .if1 .left),
+  told-yes _ (c .before .before .before .first-at .ensures)
+      (c .if2 .taken),
+)
 
 -- src/kin.rt:32:1
 returns-3 : tie.Need-returns-3
-returns-3 c = simp (ne-eqb _ _ (c .before .before .if1 .left), told-no _ (c .before .first-at .ensures) (c .if2 .left))
+returns-3 c = simp (
+  ne-eqb _ _ (c .before .before .before .before .if1 .left),
+  told-no _ (c .before .before .before .first-at .ensures)
+      (c .if2 .left),
+)
 
 pub parent-of-spec : {M : Type 1} → statement M
-parent-of-spec =
-    tie.close (tie.spec returns first-at-requires cast-if2 cast-result returns-2 returns-3)
+parent-of-spec = tie.close (tie.spec returns first-at-requires returns-2 returns-3)

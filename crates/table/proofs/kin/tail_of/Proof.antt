@@ -20,68 +20,64 @@ returns c = simp (eq-eqb _ _ (c .if1 .taken))
 
 -- src/kin.rt:51:9
 kind-at-requires : tie.Need-kind-at-requires
-kind-at-requires c κs = let p = c .before .before .pre in record
+kind-at-requires c κs = let p = c .before .before .before .pre in record
     { framed = p .0 .framed; start = p .0 .start; low = omega arith; high = omega (arith, p .0 .high) }
 
 -- src/kin.rt:52:9
 first-at-requires : tie.Need-first-at-requires
-first-at-requires c κs = let p = c .before .before .before .pre in record
+first-at-requires c κs = let p = c .before .before .before .before .pre in record
     { framed = p .0 .framed; start = p .0 .start; low = omega arith; high = omega (arith, p .0 .high) }
 
 -- src/kin.rt:53:9
 next-at-requires : tie.Need-next-at-requires
-next-at-requires c κs = let p = c .before .before .before .before .pre in p .0
-
--- src/kin.rt:55:20
-cast-if3 : tie.Need-cast-if3
-cast-if3 c = search needs
+next-at-requires c κs = let p = c .before .before .before .before .before .pre in p .0
 
 -- src/kin.rt:55:9
 returns-2 : tie.Need-returns-2
 unfolding tailChild
 returns-2 c = simp (
-  ne-eqb _ _ (c .before .before .before .before .before .if1 .left),
+  ne-eqb _ _ (c .before .before .before .before .before .before .before .if1 .left),
   sym
-      (c .before .before .before .before .kind-at .ensures) ∙ c .before .if2 .taken,
+      (c .before .before .before .before .before .before .kind-at .ensures) ∙ c .before .before .before .if2 .taken,
   told-yes _
-      (c .before .before .before .first-at .ensures) (c .if3 .taken),
+      (c .before .before .before .before .before .first-at .ensures) (c .if3 .taken),
 )
 
 -- src/kin.rt:55:9
 returns-3 : tie.Need-returns-3
 unfolding tailChild
 returns-3 c = simp (
-  ne-eqb _ _ (c .before .before .before .before .before .if1 .left),
+  ne-eqb _ _ (c .before .before .before .before .before .before .before .if1 .left),
   sym
-      (c .before .before .before .before .kind-at .ensures) ∙ c .before .if2 .taken,
+      (c .before .before .before .before .before .before .kind-at .ensures) ∙ c .before .before .before .if2 .taken,
   told-no _
-      (c .before .before .before .first-at .ensures) (c .if3 .left),
+      (c .before .before .before .before .before .first-at .ensures) (c .if3 .left),
 )
 
 -- src/kin.rt:58:9
 returns-4 : tie.Need-returns-4
 unfolding tailChild
 returns-4 c = simp (
-  ne-eqb _ _ (c .before .before .before .before .before .before .if1 .left),
+  ne-eqb _ _ (c .before .before .before .before .before .before .before .if1 .left),
   told-no 5
-      (c .before .before .before .before .before .kind-at .ensures) (c .before .before .if2 .left),
+      (c .before .before .before .before .before .before .kind-at .ensures) (c .before .before .before .if2 .left),
   told-yes 6
-      (c .before .before .before .before .before .kind-at .ensures) (c .before .if4 .taken),
+      (c .before .before .before .before .before .before .kind-at .ensures) (c .before .before .if4 .taken),
   told-yes 0
-      (c .before .before .before .next-at .ensures) (c .if5 .taken),
+      (c .before .before .before .before .next-at .ensures) (c .if5 .taken),
 )
 
 -- src/kin.rt:58:9
 returns-5 : tie.Need-returns-5
 unfolding tailChild
 returns-5 c = simp (
-  ne-eqb _ _ (c .before .before .before .before .before .before .if1 .left),
+  ne-eqb _ _ (c .before .before .before .before .before .before .before .if1 .left),
   told-no 5
-      (c .before .before .before .before .before .kind-at .ensures) (c .before .before .if2 .left),
+      (c .before .before .before .before .before .before .kind-at .ensures) (c .before .before .before .if2 .left),
   told-yes 6
-      (c .before .before .before .before .before .kind-at .ensures) (c .before .if4 .taken),
+      (c .before .before .before .before .before .before .kind-at .ensures) (c .before .before .if4 .taken),
   told-no 0
-      (c .before .before .before .next-at .ensures) (c .if5 .left),
+      (c .before .before .before .before .next-at .ensures) (c .if5 .left),
 )
 
 -- src/kin.rt:44:1
@@ -103,7 +99,6 @@ tail-of-spec =
     kind-at-requires
     first-at-requires
     next-at-requires
-    cast-if3
     returns-2
     returns-3
     returns-4

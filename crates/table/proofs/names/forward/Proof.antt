@@ -13,11 +13,11 @@ returns c = simp (eq-eqb _ _ (c .if1 .taken))
 
 -- src/names.rt:90:1
 returns-2 : tie.Need-returns-2
-returns-2 c = simp (ne-eqb _ _ (c .before .if1 .left), lt-ltb _ _ (c .if2 .taken))
+returns-2 c = simp (ne-eqb _ _ (c .before .before .before .before .before .if1 .left), lt-ltb _ _ (c .before .before .if2 .taken))
 
 -- src/names.rt:90:1
 returns-3 : tie.Need-returns-3
-returns-3 c = simp (ne-eqb _ _ (c .before .if1 .left), le-ltb _ _ (c .if2 .left))
+returns-3 c = simp (ne-eqb _ _ (c .before .before .before .if1 .left), le-ltb _ _ (c .if2 .left))
 
 pub forward-spec : {M : Type 1} → statement M
 forward-spec = tie.close (tie.spec returns returns-2 returns-3)

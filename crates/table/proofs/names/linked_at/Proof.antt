@@ -33,15 +33,23 @@ returns-3 c = let d = sym (c .before .before .before .before .forward .ensures) 
 
 -- src/names.rt:101:1
 returns-4 : tie.Need-returns-4
-returns-4 c = let d = sym (c .before .before .before .before .before .forward .ensures) ∙ not-false _
-    (c .before .before .before .before .if1 .left) in let e = sym (c .before .before .before .forward2 .ensures) ∙ not-false _
-    (c .before .before .if2 .left) in simp (d, e, eq-eqb _ _ (c .before .if3 .left), eq-eqb _ _ (c .if4 .taken))
+returns-4 c = let d = sym (c .before .before .before .before .before .before .forward .ensures) ∙ not-false _
+    (c .before .before .before .before .before .if1 .left) in let e = sym (c .before .before .before .before .forward2 .ensures) ∙
+    not-false _
+    (c .before .before .before .if2 .left) in simp (d, e, eq-eqb _ _ (c .before .before .if3 .left), eq-eqb _ _ (c .if4 .taken))
 
 -- src/names.rt:101:1
 returns-5 : tie.Need-returns-5
-returns-5 c = let d = sym (c .before .before .before .before .before .forward .ensures) ∙ not-false _
-    (c .before .before .before .before .if1 .left) in let e = sym (c .before .before .before .forward2 .ensures) ∙ not-false _
-    (c .before .before .if2 .left) in simp (d, e, eq-eqb _ _ (c .before .if3 .left), ne-eqb _ _ (c .if4 .left))
+returns-5 c = let d = sym (c .before .before .before .before .before .before .before .forward .ensures) ∙ not-false _
+    (c .before .before .before .before .before .before .if1 .left) in let e = sym (c .before .before .before .before .before .forward2
+    .ensures) ∙ not-false _
+    (c .before .before .before .before .if2 .left) in simp (
+      d,
+      e,
+      eq-eqb _ _ (c .before .before .before .if3 .left),
+      ne-eqb _ _
+          (c .before .if4 .left),
+    )
 
 pub linked-at-spec : {M : Type 1} → statement M
 linked-at-spec =

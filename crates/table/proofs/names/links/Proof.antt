@@ -145,14 +145,6 @@ array-write-mentions-2 c = omega arith
 ahead-requires : tie.Need-ahead-requires Inv-loop μ-loop
 ahead-requires c κs = search needs
 
--- src/names.rt:81:21
-cast-namers : tie.Need-cast-namers Inv-loop μ-loop
-cast-namers c = omega (
-  arith,
-  c .before .before .before .before .before .before .before .before .before .last-node .ensures,
-  c .before .before .before .before .before .before .before .before .before .before .before .before .pre .0 .N-high,
-)
-
 -- src/names.rt:81:9
 mul-namers : tie.Need-mul-namers Inv-loop μ-loop
 mul-namers c = search needs
@@ -164,14 +156,6 @@ array-write-namers c = omega arith
 -- src/names.rt:82:13
 ahead-requires-2 : tie.Need-ahead-requires-2 Inv-loop μ-loop
 ahead-requires-2 c κs = search needs
-
--- src/names.rt:83:21
-cast-namers-2 : tie.Need-cast-namers-2 Inv-loop μ-loop
-cast-namers-2 c = omega (
-  arith,
-  c .before .before .before .before .before .before .before .before .before .before .last-node .ensures,
-  c .before .before .before .before .before .before .before .before .before .before .before .before .before .pre .0 .N-high,
-)
 
 -- src/names.rt:83:9
 mul-namers-2 : tie.Need-mul-namers-2 Inv-loop μ-loop
@@ -196,7 +180,7 @@ loop-again c = (
       (c .before .before .before .before .before .before .before .loop .namers)
       (c .before .before .before .before .before .before .before .loop .n)
       (c .before .before .before .before .before .before .before .loop .inv .1)
-      (c .before .before .before .before .before .first-at .result) (c .before .before .before .before .next-at .result)
+      (c .before .before .before .before .before .first-at .result .0) (c .before .before .before .before .next-at .result .0)
       (c .before .before .before .slot .result) (c .before .before .slot2 .result) (c .before .ahead .result) (c .ahead2 .result)
       (c .before .before .before .before .before .first-at .ensures) (c .before .before .before .before .next-at .ensures)
       (c .before .before .before .slot .ensures .0) (c .before .before .slot2 .ensures .0) (c .before .ahead .ensures .0)
@@ -236,11 +220,9 @@ links-spec =
     mul-mentions-4
     array-write-mentions-2
     ahead-requires
-    cast-namers
     mul-namers
     array-write-namers
     ahead-requires-2
-    cast-namers-2
     mul-namers-2
     array-write-namers-2
     loop-less

@@ -28,10 +28,10 @@ use Rattle.table.proofs.frame.next_at.Reads as next-at-reads
 use Rattle.table.proofs.names.linked_at.Reads as linked-at-reads
 
 abbrev Inv-loop : tie.InvT-loop
-Inv-loop table names base last n₀ n = (n ≤ last) × (lowest (linked table) n ≡ 0)
+Inv-loop table names base last end n₀ n = (n ≤ end) × (lowest (linked table) n ≡ 0)
 
 abbrev μ-loop : tie.MeasureT-loop
-μ-loop table names base last n₀ n = last - n
+μ-loop table names base last end n₀ n = end - n
 
 -- src/names.rt:121:9
 base-requires : tie.Need-base-requires Inv-loop μ-loop
@@ -71,6 +71,9 @@ next-at-requires c κs = record {
       (arith, c .before .before .before .last-node .ensures);
 }
 
+cast-mentions : tie.Need-cast-mentions Inv-loop μ-loop
+cast-mentions c = search needs
+
 -- src/names.rt:128:24
 mul-mentions : tie.Need-mul-mentions Inv-loop μ-loop
 mul-mentions c = search needs
@@ -82,6 +85,9 @@ element-copy-out-mentions c = omega (
   c .before .before .before .before .last-node .ensures,
   c .before .before .before .before .before .before .before .pre .0 .N-high,
 )
+
+cast-root : tie.Need-cast-root Inv-loop μ-loop
+cast-root c = search needs
 
 -- src/names.rt:129:20
 mul-root : tie.Need-mul-root Inv-loop μ-loop
@@ -98,14 +104,6 @@ element-copy-out-root c = omega (
 -- src/names.rt:130:13
 linked-at-requires : tie.Need-linked-at-requires Inv-loop μ-loop
 linked-at-requires c κs = search needs
-
--- src/names.rt:131:20
-cast-result : tie.Need-cast-result Inv-loop μ-loop
-cast-result c = omega (
-  arith,
-  c .before .before .before .before .before .before .before .before .last-node .ensures,
-  c .before .before .before .before .before .before .before .before .before .before .before .pre .0 .N-high,
-)
 
 -- src/names.rt:131:13
 returns : tie.Need-returns Inv-loop μ-loop
@@ -155,12 +153,13 @@ lowest-unlinked-spec =
     add-n
     first-at-requires
     next-at-requires
+    cast-mentions
     mul-mentions
     element-copy-out-mentions
+    cast-root
     mul-root
     element-copy-out-root
     linked-at-requires
-    cast-result
     returns
     loop-less
     loop-again

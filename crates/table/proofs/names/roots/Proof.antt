@@ -77,14 +77,6 @@ mul-mentions-2 c = search needs
 array-write-mentions : tie.Need-array-write-mentions Inv-loop μ-loop
 array-write-mentions c = omega arith
 
--- src/names.rt:57:21
-cast-roots : tie.Need-cast-roots Inv-loop μ-loop
-cast-roots c = omega (
-  arith,
-  c .before .before .before .before .last-function .ensures,
-  c .before .before .before .before .before .before .pre .F-high,
-)
-
 -- src/names.rt:57:9
 mul-roots : tie.Need-mul-roots Inv-loop μ-loop
 mul-roots c = search needs
@@ -103,7 +95,7 @@ loop-again c = (
   omega arith,
   roots-more (c .before .before .before .before .before .before .args .table .now)
       (c .before .before .before .loop .mentions) (c .before .before .before .loop .roots) (c .before .before .before .loop .f)
-      (c .before .root-at .result) (c .slot .result) (c .before .before .before .loop .inv .1) (c .before .root-at .ensures)
+      (c .before .root-at .result .0) (c .slot .result) (c .before .before .before .loop .inv .1) (c .before .root-at .ensures)
       (c .slot .ensures .0),
 )
 
@@ -129,7 +121,6 @@ roots-spec =
     add-mentions
     mul-mentions-2
     array-write-mentions
-    cast-roots
     mul-roots
     array-write-roots
     loop-less

@@ -122,7 +122,7 @@ loop-again c = (
       (c .before .before .before .before .before .before .before .before .before .before .before .before .before .before .before .before
       .before .before .before .before .before .before .if1 .taken)) .undone)
       (c .before .before .before .before .before .before .before .before .before .before .before .before .before .before .candidate
-      .result) (c .before .before .before .before .before .attempt .result) _
+      .result .0) (c .before .before .before .before .before .attempt .result) _
       (c .before .before .before .before .before .attempt .ensures) (c .before .before .before .before .if2 .taken),
   λ e. absurd
       (let y = (goes-on (c .before .before .before .before .before .before .before .before .before .before .before .before .before
@@ -225,7 +225,7 @@ loop-again-2 c = (
       .before .before .before .before .before .before .loop .taken)
       (c .before .before .before .before .before .before .before .before .before .before .before .before .before .before .before .before
       .before .before .before .before .before .before .loop .inv .2)
-      (c .before .before .before .before .before .before .before .before .before .before .before .candidate .result)
+      (c .before .before .before .before .before .before .before .before .before .before .before .candidate .result .0)
       (c .before .before .attempt .result) _ (c .before .before .attempt .ensures) (c .before .if2 .left),
   rests
       (c .before .before .before .before .before .before .before .before .before .before .before .before .before .before .before .before
@@ -243,7 +243,7 @@ loop-again-2 c = (
       .before .before .before .before .before .before .loop .plain))
       (c .before .before .before .before .before .before .before .before .before .before .before .before .before .before .before .before
       .before .before .before .before .before .before .loop .height)
-      (c .before .before .before .before .before .before .before .before .before .before .before .candidate .result)
+      (c .before .before .before .before .before .before .before .before .before .before .before .candidate .result .0)
       (c .before .before .attempt .result) _
       (c .before .before .before .before .before .before .before .before .before .before .before .candidate .ensures)
       (c .before .before .attempt .ensures) (c .before .if2 .left),
