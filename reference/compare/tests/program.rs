@@ -46,7 +46,7 @@ fn printed(input: &[u8], piece: usize) -> Result<Vec<u8>, String> {
     drop(stdin);
     let output = child.wait_with_output().map_err(said)?;
     let broken = || format!("it was stopped, {}: {}", output.status, String::from_utf8_lossy(&output.stderr));
-    ensure(output.status.code().is_some(), broken)?;
+    ensure(output.status.success(), broken)?;
     Ok(output.stdout)
 }
 
@@ -171,8 +171,8 @@ fn from_a_file() -> Outcome {
             Command::new(binary()?).stdin(file).stdout(Stdio::piped()).spawn().map_err(|error| error.to_string())?;
         let mut text = String::new();
         child.stdout.take().ok_or("no output")?.read_to_string(&mut text).map_err(|error| error.to_string())?;
-        child.wait().map_err(|error| error.to_string())?;
-        ensure(text == program(&input), || text.clone())?;
+        let status = child.wait().map_err(|error| error.to_string())?;
+        ensure(status.success() && text == program(&input), || format!("{status}: {text}"))?;
     }
     Ok(())
 }
