@@ -7,7 +7,7 @@ use native.Mathlib.Omega.{arith}
 use native.Mathlib.Decide.{ℕ-discrete, decLt}
 use lib.Dec.{eqb, ltb}
 use lib.ListN.{length, length-append}
-use borrow.Author.Tests.{eqb-true, eqb-false, eq-eqb, ne-eqb, ltb-true, lt-ltb}
+use borrow.Author.Tests.{eqb-true, eqb-false, eq-eqb, ne-eqb, ltb-true, lt-ltb, not-true}
 use Rattle.table.proofs.Tests.{ltb-no}
 use Rattle.table.specs.Pick.{pick}
 use Rattle.table.specs.Syntax.{id}
@@ -44,10 +44,6 @@ both-true : (a b : Bool) → (a && b) ≡ true → (a ≡ true) × (b ≡ true)
 both-true true b e = (refl, e)
 both-true false b e = let z : _≡_ {A = ℕ} 0 1 = cc in absurd (omega arith)
 
-not-yes : (b : Bool) → not b ≡ true → b ≡ false
-not-yes true e = let z : _≡_ {A = ℕ} 0 1 = cc in absurd (omega arith)
-not-yes false e = refl
-
 pub record Going (rest : Bool) (n budget x : ℕ) : Type 0 where
   pub awake : rest ≡ false
   pub room : n < budget
@@ -58,7 +54,7 @@ pub goes-on : (rest : Bool) (n budget x : ℕ) (b : Bool) → b ≡ (not rest &&
 goes-on rest n budget x b e h =
     let p = both-true (not rest) (ltb n budget && not (eqb x 3)) (sym e ∙ h) in
     let q = both-true (ltb n budget) (not (eqb x 3)) (p .1) in
-    record { awake = not-yes rest (p .0); room = ltb-true n budget (q .0); undone = eqb-false x 3 (not-yes (eqb x 3) (q .1)) }
+    record { awake = not-true rest (p .0); room = ltb-true n budget (q .0); undone = eqb-false x 3 (not-true (eqb x 3) (q .1)) }
 
 -- the run stops where main's root isn't done and it isn't at rest: the budget is spent
 pub stops-spent : (rest : Bool) (n budget x : ℕ) (b : Bool) → b ≡ (not rest && (ltb n budget && not (eqb x 3))) → b ≡ false

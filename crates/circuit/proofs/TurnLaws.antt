@@ -7,6 +7,7 @@ use native.Mathlib.Omega.{arith}
 use native.Mathlib.Decide.{ℕ-discrete, decLe}
 use lib.Dec.{eqb}
 use borrow.Author.Tests.{eq-eqb, ne-eqb, lt-ltb}
+use Rattle.rules.proofs.StepFacts.{told-accepted}
 use Rattle.table.proofs.Tests.{ltb-no}
 use Rattle.table.specs.Pick.{pick}
 use Rattle.table.specs.Syntax.{id}
@@ -121,10 +122,6 @@ module _ (t tags : List ℕ) (fair : Fair t) (s : State512) (n : ℕ) where
           answer = told (id (bodyOf t (functions t))) (view u);
           state = u;
         }) (h .1)
-
-  told-accepted : (b : Bool) (v : ℕ) → Accepted (pick b (answered v) taken)
-  told-accepted true v = tt
-  told-accepted false v = tt
 
   pub out-goes : (a : Act) → Accepted (Out a .answer) → goes a ≡ true
   out-goes stuck h = absurd h

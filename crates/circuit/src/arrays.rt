@@ -2,9 +2,8 @@
 use crate::groups;
 use table::Node;
 ghost use mathlib.Core.Path.{_≡_};
-ghost use mathlib.Core.List.{map};
 ghost use Rattle.circuit.specs.Meaning.{numbers};
-ghost use Rattle.circuit.specs.Plan.{Fair, Owners, asNode};
+ghost use Rattle.circuit.specs.Plan.{Fair, Owners};
 
 pub fn plain(raw: [Node; 32]) -> [u16; 32]
     ensures { λ r. ⌜ r ≡ numbers raw ⌝ }

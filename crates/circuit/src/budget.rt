@@ -11,11 +11,11 @@ use crate::search;
 use crate::turn;
 use table::Node;
 ghost use mathlib.Core.Path.{_≡_};
-ghost use Prim.Native.Nat.{_≤_, _<_};
+ghost use Prim.Native.Nat.{_≤_};
 ghost use Rattle.table.specs.Bytes.{functions, root};
 ghost use Rattle.rules.specs.Runs.{Picks};
 ghost use Rattle.circuit.specs.Meaning.{listsOf, drivenOf, foundOf, endedOf, stateAs};
-ghost use Rattle.circuit.specs.Plan.{Fair, Owners, Agreed, Stands, FindsIn, EndsIn};
+ghost use Rattle.circuit.specs.Plan.{Owners, Agreed, Stands, FindsIn, EndsIn};
 
 // None once main's root is done, else the first node that has a move.
 pub(crate) fn query(table: &[u8], tags: &[u8], s: State) -> Found

@@ -3,7 +3,7 @@ use table::Function;
 use table::Node;
 ghost use mathlib.Core.Path.{_≡_};
 ghost use mathlib.Core.Bool.{false};
-ghost use Prim.Native.Nat.{_≤_, _<_};
+ghost use Prim.Native.Nat.{_≤_};
 ghost use Rattle.rules.specs.State.{entry, write, register};
 
 pub(crate) fn status_at(status: &[u8; 512], n: Node) -> u8

@@ -5,7 +5,7 @@ use table::Node;
 use table::read;
 ghost use mathlib.Core.Path.{_≡_};
 ghost use mathlib.Core.List.{map};
-ghost use Prim.Native.Nat.{_≤_, _<_};
+ghost use Prim.Native.Nat.{_≤_};
 ghost use Rattle.table.specs.Bytes.{nodes};
 ghost use Rattle.table.specs.Naming.{chain};
 ghost use Rattle.rules.specs.State.{entry, opened};

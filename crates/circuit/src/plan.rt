@@ -6,16 +6,16 @@ use table::Node;
 use table::read;
 ghost use mathlib.Core.Path.{_≡_};
 ghost use mathlib.Core.List.{List};
-ghost use Prim.Native.Nat.{ℕ, _≤_, _<_};
+ghost use Prim.Native.Nat.{ℕ, _≤_};
 ghost use lib.Dec.{eqb};
 ghost use Rattle.table.specs.Pick.{pick};
-ghost use Rattle.table.specs.Bytes.{nodes, kind, word, extra, next};
+ghost use Rattle.table.specs.Bytes.{kind, word, next};
 ghost use Rattle.rules.specs.State.{entry};
 ghost use Rattle.table.specs.Naming.{owner};
 ghost use Rattle.table.specs.Working.{IsNode};
 ghost use Rattle.rules.specs.Circuit.{actOf};
 ghost use Rattle.circuit.specs.Meaning.{stateAs};
-ghost use Rattle.circuit.specs.Plan.{Fair, Owners, planned, openBy, busyBy, primBy, selfBy, callBy, condBy, bindBy, passBy};
+ghost use Rattle.circuit.specs.Plan.{Fair, planned, openBy, busyBy, primBy, selfBy, callBy, condBy, bindBy, passBy};
 
 // What a node would do: no step (21), none while the resource is occupied (22 or 23), or a move. The nodes that it opens and the
 // arguments that it hands over are read off the table when it moves.

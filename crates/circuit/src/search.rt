@@ -6,7 +6,7 @@ use table::Node;
 use table::read;
 ghost use mathlib.Core.Path.{_≡_};
 ghost use mathlib.Core.List.{List};
-ghost use Prim.Native.Nat.{ℕ, _≤_, _<_};
+ghost use Prim.Native.Nat.{ℕ};
 ghost use Rattle.circuit.specs.Meaning.{stateAs};
 ghost use Rattle.circuit.specs.Plan.{Fair, Owners, planned, goes, FoundAt};
 

@@ -7,7 +7,7 @@ use table::Node;
 use table::read;
 ghost use mathlib.Core.Path.{_≡_};
 ghost use lib.Dec.{eqb};
-ghost use Prim.Native.Nat.{_≤_, _<_};
+ghost use Prim.Native.Nat.{_≤_};
 ghost use Rattle.table.specs.Pick.{pick};
 ghost use Rattle.table.specs.Bytes.{functions, root};
 ghost use Rattle.list.specs.Tags.{tagged};

@@ -1,11 +1,11 @@
 -- the numbers tell every answer apart: numbers of refusals below 256, places below 2^16, values below 2^32
-use Prim.Native.Nat.{ℕ, _+_, _*_, _<_}
+use Prim.Native.Nat.{ℕ}
 use mathlib.Core.Path.{_≡_, refl, ap₂, ap}
 use native.Mathlib.Omega.{arith}
 use Rattle.rules.specs.Step.{Reply, taken, answered, refused}
 use Rattle.rules.specs.Runs.{Halt, whole, stopped, Ended, gave, atRest, spent, barred, Found, names, nothing, unasked}
-use Rattle.exports.specs.Answers.{refusalCode, valueCode, replyCode, foundCode, haltCode, endedCode}
-use Rattle.exports.specs.Answers.{Refusable, Valued, FitsReply, FitsFound, FitsHalt, FitsEnded}
+use Rattle.exports.specs.Answers.{refusalCode, replyCode, foundCode, haltCode, endedCode}
+use Rattle.exports.specs.Answers.{Refusable, FitsReply, FitsFound, FitsHalt, FitsEnded}
 
 same-refusal : {A : Type 0} (f : ℕ → ℕ → A) (k p k′ p′ : ℕ) → Refusable k p → Refusable k′ p′ → refusalCode k p ≡ refusalCode k′ p′
     → f k p ≡ f k′ p′

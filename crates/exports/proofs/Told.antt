@@ -3,9 +3,8 @@ use Prim.Native.Nat.{ℕ}
 use mathlib.Core.Path.{_≡_, refl, ap, _∙_, subst}
 use mathlib.Core.List.{List}
 use Rattle.rules.specs.State.{State512}
-use Rattle.rules.specs.Step.{Stepped}
-use Rattle.rules.specs.Circuit.{Started, stateOf, startOf, stepOf}
-use Rattle.rules.specs.Runs.{runOf, Ran, Drives, Finds}
+use Rattle.rules.specs.Circuit.{Started, stateOf, stepOf}
+use Rattle.rules.specs.Runs.{runOf, Drives, Finds}
 use Rattle.circuit.specs.declared.State.{State}
 use Rattle.circuit.specs.declared.Started.{Started as StartedCode}
 use Rattle.circuit.specs.declared.Stepped.{Stepped as SteppedCode}

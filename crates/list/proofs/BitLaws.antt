@@ -2,7 +2,7 @@
 use Prim.Native.Nat.{ℕ, zero, suc, _+_, _-_, _*_, _/_, _%_, _^_, _<_, _≤_, max, min}
 use mathlib.Core.Path.{_≡_, refl, sym, ap, ap₂, _∙_}
 use mathlib.Core.Bool.{Bool, true, false, _&&_, _||_}
-use mathlib.Core.List.{List, [], _∷_}
+use mathlib.Core.List.{List}
 use native.Mathlib.Omega.{arith}
 use native.Mathlib.Nat.{one-mul, mod-eq-of-lt, pow-suc, div-self, div-eq-of-lt, zero-div, div-div-eq-div-mul}
 use native.Mathlib.Decide.{decLt, ℕ-discrete}
@@ -126,7 +126,7 @@ pub tagged-row : (l : List ℕ) (g m : ℕ) → 1 ≤ m → tagged l (512 * g + 
 tagged-row l g m h = tagged-bit l (512 * g + m) ∙ ap₂ (λ a b. bitAt (getD l a 0) b) (row-byte g m h) (row-bit g m h)
 
 -- a set of no bit
-zeros-at : (n i : ℕ) → _≡_ {A = ℕ} (getD (replicate n 0) i 0) 0
+pub zeros-at : (n i : ℕ) → _≡_ {A = ℕ} (getD (replicate n 0) i 0) 0
 zeros-at zero i = refl
 zeros-at (suc n) zero = refl
 zeros-at (suc n) (suc i) = zeros-at n i

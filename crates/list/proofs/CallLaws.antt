@@ -1,28 +1,27 @@
 -- the call sets and the conflicts of an accepted table: every call is of a function below main; a body's set; what a node's conflicts are
 use Prim.Native.Nat.{ℕ, zero, suc, _+_, _-_, _≤_, _<_}
 use mathlib.Core.Path.{_≡_, refl, subst, sym, ap, ap₂, _∙_}
-use mathlib.Core.Bool.{Bool, true, false, _&&_, _||_}
-use mathlib.Core.Logic.{_⊎_, inl, inr}
+use mathlib.Core.Bool.{Bool, true, false, _||_}
+use mathlib.Core.Logic.{inl, inr}
 use mathlib.Core.List.{List}
 use native.Mathlib.Omega.{arith}
-use native.Mathlib.Decide.{ℕ-discrete}
 use lib.Dec.{eqb}
 use borrow.Author.Tests.{eq-eqb, ne-eqb}
+use native.Mathlib.Nat.{suc-add}
 use Rattle.table.specs.Pick.{pick, Range}
 use Rattle.table.specs.Syntax.{Expr, Exprs, const, param, prim, call, self, cond, bind, bound, none, some, Sub, Sub*}
 use Rattle.table.specs.Well.{CallIn, CallIn*}
-use Rattle.table.specs.Bytes.{functions, nodes, word}
+use Rattle.table.specs.Bytes.{functions, nodes}
 use Rattle.table.specs.Naming.{owner}
-use Rattle.table.specs.Check.{accepted, checkOf}
 use Rattle.table.specs.Expressions.{exprAt, bodyOf}
 use Rattle.table.specs.Working.{IsNode, IsFunction}
 use Rattle.table.proofs.CallPlaces.{call-node}
 use Rattle.table.proofs.LaidOut.{laid, call-here}
-use Rattle.list.specs.Arbiters.{Test, nothing, joined, anyUpTo, callsIn, callsIn*, parallel, conflicts, conflicts*, callsOf}
+use Rattle.list.specs.Arbiters.{Test, nothing, joined, callsIn, callsIn*, parallel, conflicts, conflicts*, callsOf}
 use Rattle.list.specs.Arbiters.{listedIn}
 use Rattle.list.specs.CallSets.{callee, callee-at, sets}
 use Rattle.list.specs.Tags.{calleeOf, listed}
-use Rattle.list.specs.Working.{Callee, Taken, callsBy, callsAt, callsAt*, conflictsAt, conflictsAt*}
+use Rattle.list.specs.Working.{Callee, Taken, callsBy, callsAt, conflictsAt}
 use Rattle.list.proofs.ListedCalls.{Calling, C-all, sets-all, listed-all}
 use Rattle.list.proofs.ArbiterFacts.{C-decides, sets-decides, any-in}
 use Rattle.list.proofs.Callees.{callee-word, listed-exactly}
@@ -71,12 +70,9 @@ module _ (N : ℕ) (target : ℕ → ℕ) (body : ℕ → Expr) (m : ℕ) where
       zero-plus : (a : ℕ) → 0 + a ≡ a
       zero-plus a = omega arith
   same-up (suc d) a g h =
-      ap (λ k. S k g m) (suc-plus d a)
+      ap (λ k. S k g m) (suc-add d a)
       ∙ ap (λ b. pick b (callsIn N target (S (d + a)) (body g) m) (S (d + a) g m)) (ne-eqb g (suc (d + a)) (λ e. omega (arith, e)))
       ∙ same-up d a g h
-    where
-      suc-plus : (d a : ℕ) → suc d + a ≡ suc (d + a)
-      suc-plus d a = omega arith
 
   own-set : (k : ℕ) → S (suc k) (suc k) m ≡ callsIn N target (S k) (body (suc k)) m
   unfolding callsOf

@@ -3,7 +3,7 @@ use Prim.Native.Nat.{ℕ, zero, suc, _+_, _-_, _≤_, _<_}
 use mathlib.Core.Path.{_≡_, refl, subst, sym}
 use mathlib.Core.Logic.{inl, inr}
 use native.Mathlib.Omega.{arith}
-use native.Mathlib.Nat.{not-suc-le-zero}
+use native.Mathlib.Nat.{not-suc-le-zero, suc-add}
 use native.Mathlib.Decide.{ℕ-discrete}
 use Rattle.table.specs.Syntax.{Expr, Exprs, const, param, prim, call, self, cond, bind, bound, none, some}
 use Rattle.list.specs.Sets.{Calls}
@@ -63,16 +63,13 @@ module _ (F : ℕ) (body at : ℕ → Expr) (m : ℕ) where
   zero-plus : (t : ℕ) → 0 + t ≡ t
   zero-plus t = omega arith
 
-  suc-plus : (d t : ℕ) → suc d + t ≡ suc (d + t)
-  suc-plus d t = omega arith
-
   raise : (d t g : ℕ) → g ≤ t → S t g m → S (d + t) g m
   raise zero t g h x = subst (λ n. S n g m) (sym (zero-plus t)) x
-  raise (suc d) t g h x = subst (λ n. S n g m) (sym (suc-plus d t)) (lift (d + t) g (omega arith) (raise d t g h x))
+  raise (suc d) t g h x = subst (λ n. S n g m) (sym (suc-add d t)) (lift (d + t) g (omega arith) (raise d t g h x))
 
   sink : (d t g : ℕ) → g ≤ t → S (d + t) g m → S t g m
   sink zero t g h x = subst (λ n. S n g m) (zero-plus t) x
-  sink (suc d) t g h x = sink d t g h (lower (d + t) g (omega arith) (subst (λ n. S n g m) (suc-plus d t) x))
+  sink (suc d) t g h x = sink d t g h (lower (d + t) g (omega arith) (subst (λ n. S n g m) (suc-add d t) x))
 
   -- a body's calls, its callees' included, are in its set
   pub body-calls : ((f c g : ℕ) → 1 ≤ f → f ≤ F → CallIn c g (body f) → (1 ≤ g) × (g < f)) → (g : ℕ) → 1 ≤ g → g ≤ F

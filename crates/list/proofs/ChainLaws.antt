@@ -1,7 +1,8 @@
 -- what the walk over a node's children comes to, from what it called
 use Prim.Native.Nat.{ℕ}
-use mathlib.Core.Path.{_≡_, refl, subst, sym, ap, _∙_}
-use mathlib.Core.Bool.{Bool, true, false, _&&_, _||_}
+use mathlib.Core.Path.{_≡_, subst, sym, ap, _∙_}
+use mathlib.Core.Bool.{Bool, false, _&&_, _||_}
+use Rattle.table.proofs.Tests.{and-no}
 use Rattle.list.proofs.ParallelLaws.{parallel-is}
 use mathlib.Core.List.{List}
 use lib.ListN.{length, replicate}
@@ -62,10 +63,6 @@ module _ (t : List ℕ) (f c : ℕ) (at : Within t f c) where
           parallel-is t m (some (exprAt t d) none) (λ p. bs .calls m (ap (λ es. callsAt* t es m) here ∙ p) .0)
           ∙ ap (λ p. callsAt* t (some (exprAt t d) none) m && p) (lone-twice t (exprAt t d) (calleeOf t m))
           ∙ and-no (callsAt* t (some (exprAt t d) none) m)
-        where
-          and-no : (p : Bool) → p && false ≡ false
-          and-no true = refl
-          and-no false = refl
 
       alone : (m : ℕ) → joined (parallelAt t (some (exprAt t d) none)) (conflictsAt* t (some (exprAt t d) none)) m ≡ conflictsAt t
           (exprAt t d) m

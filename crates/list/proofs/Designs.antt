@@ -1,7 +1,7 @@
 -- the arbiter lists of document 01's designs, as tag bytes and as records
 use Prim.Native.Nat.{ℕ}
 use mathlib.Core.Path.{_≡_, refl}
-use mathlib.Core.List.{List, [], _∷_}
+use mathlib.Core.List.{[], _∷_}
 use Rattle.table.specs.Designs.{twice, pair, layered, fir}
 use Rattle.table.proofs.CheckedDesigns.{syntax-open}
 use Rattle.list.specs.declared.Record.{Record}

@@ -1,35 +1,30 @@
 -- the conflicts found once every body is walked are the list, and its bytes are the tag bytes
 use Prim.Native.Nat.{ℕ, zero, suc, _+_, _-_, _*_, _/_, _%_, _^_, _≤_, _<_}
-use mathlib.Core.Path.{_≡_, refl, sym, subst, ap, ap₂, _∙_}
-use mathlib.Core.Bool.{Bool, true, false, _&&_, _||_, true≢false}
-use mathlib.Core.List.{List, []}
+use mathlib.Core.Path.{_≡_, refl, sym, ap, ap₂, _∙_}
+use mathlib.Core.Bool.{Bool, true, false, _&&_, true≢false}
+use mathlib.Core.List.{List}
 use native.Mathlib.Omega.{arith}
 use native.Mathlib.Nat.{pow-suc, mul-comm, div-div-eq-div-mul, div-one}
-use native.Mathlib.Decide.{decLe, ℕ-discrete}
+use native.Mathlib.Decide.{ℕ-discrete}
 use lib.Dec.{eqb, leb}
 use lib.ListN.{length, getD, take, replicate}
 use lib.Seq.{ext-getD, getD-take, length-take-le}
-use borrow.Author.Tests.{le-leb, lt-leb}
-use Rattle.table.specs.Pick.{Range}
+use borrow.Author.Tests.{le-leb}
+use Rattle.table.proofs.Tests.{and-no}
 use Rattle.table.specs.Bytes.{functions, nodes}
 use Rattle.table.specs.Find.{one}
 use Rattle.table.specs.Expressions.{bodyOf}
 use Rattle.table.specs.Working.{IsFunction}
 use Rattle.table.proofs.Passed.{passed}
-use Rattle.list.specs.Arbiters.{Test, conflicts, listedIn}
-use Rattle.list.specs.Tags.{tagged, calleeOf, listed, bitsFrom, bytesFrom, tagLength, tagsOf}
-use Rattle.list.specs.Working.{bitAt, Bit, Taken, callsBy, conflictsAt, Seen, Memo, Grown}
-use Rattle.list.proofs.BitLaws.{none-tagged, tagged-bit}
+use Rattle.list.specs.Arbiters.{Test, listedIn}
+use Rattle.list.specs.Tags.{tagged, listed, bitsFrom, bytesFrom, tagLength, tagsOf}
+use Rattle.list.specs.Working.{bitAt, Bit, Taken, callsBy, conflictsAt, Seen, Memo}
+use Rattle.list.proofs.BitLaws.{none-tagged, tagged-bit, zeros-at}
 use Rattle.list.proofs.ArbiterFacts.{any-out}
 use Rattle.list.proofs.ParallelLaws.{by-true}
 use Rattle.list.proofs.TagFacts.{byte-is, bytes-length, listed-call}
 
 module _ (t : List ℕ) where
-  zeros-at : (n i : ℕ) → _≡_ {A = ℕ} (getD (replicate n 0) i 0) 0
-  zeros-at zero i = refl
-  zeros-at (suc n) zero = refl
-  zeros-at (suc n) (suc i) = zeros-at n i
-
   -- before the first walk
   pub memo-none : Memo t (replicate 2112 0) (replicate 33 0) (replicate 64 0)
   memo-none = record {
@@ -117,10 +112,6 @@ module _ (t : List ℕ) (ok : Taken t) (found : List ℕ) (size : length found �
       go : (b : Bool) → listed t n ≡ b → listed t n ≡ leb n (nodes t) && listed t n
       go true e = sym (ap (λ p. p && listed t n) (le-leb n (nodes t) (listed-call t (functions t) (nodes t) ok n e .0 .1)))
       go false e = e ∙ sym (ap (λ p. leb n (nodes t) && p) e ∙ and-no (leb n (nodes t)))
-        where
-          and-no : (b : Bool) → b && false ≡ false
-          and-no true = refl
-          and-no false = refl
 
   bits-at : (i j : ℕ) → i < 64 → j < 8 → bitAt (getD found i 0) j ≡ s (1 + 8 * i + j)
   bits-at i j p q =

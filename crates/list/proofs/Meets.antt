@@ -6,6 +6,7 @@ use mathlib.Core.List.{List}
 use native.Mathlib.Omega.{arith}
 use native.Mathlib.Numerals.{add-one}
 use lib.ListN.{length}
+use Rattle.table.proofs.Tests.{and-no}
 use Rattle.list.specs.Arbiters.{Test, anyUpTo}
 use Rattle.list.specs.Tags.{tagged}
 use Rattle.list.specs.Working.{bitAt, Bit, Adds, meetOf}
@@ -14,10 +15,6 @@ use Rattle.list.proofs.BitLaws.{high-bit}
 pub or-no : (p : Bool) → p || false ≡ p
 or-no true = refl
 or-no false = refl
-
-and-no : (p : Bool) → p && false ≡ false
-and-no true = refl
-and-no false = refl
 
 -- nothing added
 pub adds-none : (s : Test) (x : List ℕ) → length x ≡ 64 → ((m : ℕ) → Bit m → s m ≡ false) → Adds s x x

@@ -6,6 +6,7 @@ use mathlib.Core.List.{List}
 use native.Mathlib.Omega.{arith}
 use lib.Dec.{eqb}
 use borrow.Author.Tests.{ne-eqb}
+use Rattle.table.proofs.Tests.{and-no}
 use Rattle.table.specs.Pick.{pick}
 use Rattle.table.specs.Syntax.{Expr, Exprs, const, param, prim, call, self, cond, bind, bound, none, some}
 use Rattle.table.specs.Bytes.{functions, nodes, root, kind, extra, word, first, next}
@@ -133,10 +134,6 @@ module _ (t : List ℕ) where
       some-twice e none h ∙ ap₂ (λ p q. p || (calledIn t (callsAt t e) h && q)) (none-twice h) (called-none t
       (callsAt* t none) h none-calls)
       ∙ and-no (calledIn t (callsAt t e) h)
-    where
-      and-no : (p : Bool) → p && false ≡ false
-      and-no true = refl
-      and-no false = refl
 
 module _ (t : List ℕ) (f n : ℕ) (at : Within t f n) where
   abbrev ok : Passed t

@@ -1,37 +1,27 @@
 -- the owners that a survey tells, and when a tag fits its node
-use Prim.Native.Nat.{ℕ, zero, suc, _+_, _≤_, _<_}
-use mathlib.Core.Path.{_≡_, refl, sym, subst, ap, ap₂, _∙_}
+use Prim.Native.Nat.{ℕ, _+_, _≤_, _<_}
+use mathlib.Core.Path.{_≡_, refl, ap, ap₂, _∙_}
 use mathlib.Core.Bool.{Bool, true, false, _&&_, _||_, not}
-use mathlib.Core.List.{List, [], _∷_}
+use mathlib.Core.List.{List}
 use native.Mathlib.Omega.{arith}
-use lib.Dec.{eqb, leb}
+use lib.Dec.{eqb}
 use lib.ListN.{getD}
 use borrow.Author.Tests.{le-leb, eq-eqb, ne-eqb}
+use Rattle.table.proofs.SurveyLaws.{tabulate-at}
+use Rattle.table.proofs.Tests.{and-no}
 use Rattle.table.specs.declared.Function.{Function}
 use Rattle.table.specs.Pick.{pick}
-use Rattle.table.specs.Bytes.{functions, nodes, kind, word}
+use Rattle.table.specs.Bytes.{nodes, kind, word}
 use Rattle.table.specs.Naming.{owner}
-use Rattle.table.specs.Survey.{tabulate, ifAccepted, ofNode, ownersOf}
+use Rattle.table.specs.Survey.{ifAccepted, ofNode, ownersOf}
 use Rattle.table.specs.Check.{checkOf}
 use Rattle.list.specs.Tags.{tagged, isCall, tagFits}
 use Rattle.list.specs.Working.{Taken}
 
-tabulate-at : {A : Type 0} (g : ℕ → A) (k n i : ℕ) (d : A) → i < k → getD (tabulate g k n) i d ≡ g (n + i)
-unfolding tabulate
-tabulate-at g zero n i d h = absurd (omega arith)
-tabulate-at g (suc k) n zero d h = ap g (plus-zero n)
-  where
-    plus-zero : (n : ℕ) → n ≡ n + 0
-    plus-zero n = omega arith
-tabulate-at g (suc k) n (suc i) d h = tabulate-at g k (suc n) i d (omega arith) ∙ ap g (plus-suc n i)
-  where
-    plus-suc : (n i : ℕ) → suc n + i ≡ n + suc i
-    plus-suc n i = omega arith
-
 pub owner-at : (t : List ℕ) → Taken t → (n : ℕ) (d : Function) → n ≤ nodes t → n < 513 → getD (ownersOf t) n d .0 ≡ owner t n
 unfolding ownersOf
 owner-at t ok n d h l =
-    ap (λ x. x .0) (tabulate-at g 513 0 n d l) ∙ ap (λ m. ifAccepted (checkOf t) (ofNode t (owner t) m) 0) (zero-plus n)
+    ap (λ x. x .0) (tabulate-at g d 513 0 n l) ∙ ap (λ m. ifAccepted (checkOf t) (ofNode t (owner t) m) 0) (zero-plus n)
     ∙ ap (λ v. ifAccepted v (ofNode t (owner t) n) 0) ok ∙ ap (λ b. pick b (owner t n) 0) (le-leb n (nodes t) h)
   where
     g : ℕ → Function
@@ -58,10 +48,6 @@ module _ (t tags : List ℕ) (n : ℕ) where
   unfolding tagFits isCall
   tag-again e w =
       ap₂ (λ a b. not a || (eqb (kind t n) 4 && not b)) e (eq-eqb (word t n) (owner t n) w) ∙ and-no (eqb (kind t n) 4)
-    where
-      and-no : (b : Bool) → b && false ≡ false
-      and-no true = refl
-      and-no false = refl
 
   pub tag-call : kind t n ≡ 4 → (word t n ≡ owner t n → ⊥) → tagFits t tags n ≡ true
   unfolding tagFits isCall

@@ -1,7 +1,6 @@
 -- PC by one pass over the expressions is the paper's union over i ≠ j, and so is the decided PC
 use Prim.Native.Nat.{ℕ, zero, suc}
-use mathlib.Core.Path.{_≡_, refl, sym, ap}
-use mathlib.Core.Bool.{true}
+use mathlib.Core.Path.{_≡_, refl, ap}
 use mathlib.Core.Logic.{_⊎_, inl, inr}
 use native.Mathlib.Omega.{arith}
 use Rattle.table.specs.Pick.{Range}

@@ -1,22 +1,21 @@
 -- the sites of each function, node by node
-use Prim.Native.Nat.{ℕ, zero, suc, _+_, _*_, _≤_, _<_}
-use mathlib.Core.Path.{_≡_, refl, sym, subst, ap, ap₂, _∙_}
+use Prim.Native.Nat.{ℕ, _+_, _*_, _≤_}
+use mathlib.Core.Path.{_≡_, refl, sym, ap, ap₂, _∙_}
 use mathlib.Core.Bool.{Bool, true, false, _&&_, _||_}
 use mathlib.Core.List.{List}
 use native.Mathlib.Omega.{arith}
 use native.Mathlib.Decide.{ℕ-discrete, decLe}
 use lib.Dec.{eqb, leb}
-use lib.ListN.{length, replicate}
+use lib.ListN.{replicate}
 use borrow.Author.Tests.{le-leb, lt-leb, eq-eqb, ne-eqb}
-use Rattle.table.specs.Pick.{Range}
+use Rattle.table.proofs.Tests.{and-no}
 use Rattle.table.specs.Bytes.{functions, nodes, kind, word}
 use Rattle.table.specs.Naming.{owner}
 use Rattle.table.specs.Working.{IsNode}
 use Rattle.table.proofs.Passed.{passed}
 use Rattle.table.proofs.Family.{owner-in}
 use Rattle.table.proofs.View.{View, is-const, is-param, is-prim, is-call, is-self, is-cond, is-bind, is-bound, view}
-use Rattle.list.specs.Tags.{tagged}
-use Rattle.list.specs.Working.{Bit, Taken, site, SitedTo, PutAt}
+use Rattle.list.specs.Working.{Taken, site, SitedTo, PutAt}
 use Rattle.list.proofs.BitLaws.{none-tagged}
 
 -- a call's word is a function
@@ -75,10 +74,6 @@ module _ (t : List ℕ) where
           go : Dec (a ≡ b) → eqb a b ≡ eqb b a
           go (yes d) = eq-eqb a b d ∙ sym (eq-eqb b a (sym d))
           go (no d) = ne-eqb a b d ∙ sym (ne-eqb b a (λ z. d (sym z)))
-
-      and-no : (a : Bool) → a && false ≡ false
-      and-no true = refl
-      and-no false = refl
 
       and-yes : (a : Bool) → a && true ≡ a
       and-yes true = refl

@@ -4,7 +4,7 @@ use mathlib.Core.Bool.{Bool, true, false, _&&_, _||_, not}
 use mathlib.Core.Path.{_≡_, refl, sym, ap, _∙_}
 use mathlib.Core.List.{List}
 use native.Mathlib.Omega.{arith}
-use native.Mathlib.Nat.{div-div-eq-div-mul, div-one, pow-suc, mul-comm}
+use native.Mathlib.Nat.{div-div-eq-div-mul, div-one, pow-suc, mul-comm, add-suc, suc-add}
 use lib.Dec.{T, eqb, leb, le→leb}
 use lib.Arith.{lt→nleb}
 use lib.ListN.{length, getD}
@@ -45,13 +45,10 @@ bit-is s (suc k) n zero h =
     plus-zero n = omega arith
 bit-is s (suc k) n (suc j) h =
     ap (λ x. x % 2) (halved (one (s n) + 2 * bitsFrom s k (suc n)) j ∙ ap (λ x. x / 2 ^ j) (half-of (s n) (bitsFrom s k (suc n))))
-    ∙ bit-is s k (suc n) j (omega arith) ∙ ap (λ m. one (s m)) (plus-suc n j)
+    ∙ bit-is s k (suc n) j (omega arith) ∙ ap (λ m. one (s m)) (suc-add n j ∙ sym (add-suc n j))
   where
     halved : (x j : ℕ) → x / 2 ^ suc j ≡ x / 2 / 2 ^ j
     halved x j = ap (λ y. x / y) (pow-suc 2 j ∙ mul-comm (2 ^ j) 2) ∙ sym (div-div-eq-div-mul x 2 (2 ^ j))
-
-    plus-suc : (n j : ℕ) → suc n + j ≡ n + suc j
-    plus-suc n j = omega arith
 
 pub byte-is : (s : Test) (k n i : ℕ) → i < k → getD (bytesFrom s k n) i 0 ≡ bitsFrom s 8 (n + 8 * i)
 unfolding bytesFrom

@@ -8,24 +8,15 @@ use lib.Dec.{eqb}
 use lib.ListN.{length, getD, take}
 use lib.Seq.{getD-take}
 use borrow.Author.Tests.{eq-eqb, ne-eqb}
-use Rattle.table.specs.declared.Checked.{Checked}
 use Rattle.table.specs.Bytes.{functions, nodes}
 use Rattle.table.specs.Find.{lowest, all}
 use Rattle.table.specs.Check.{Verdict, accepted, refused, stage, checkOf}
-use Rattle.table.specs.Survey.{verdictOf, ifAccepted}
+use Rattle.table.specs.Survey.{ifAccepted}
 use Rattle.table.proofs.Passed.{passed}
 use Rattle.list.specs.Tags.{tagged, listed, tagLength, nonePast, tagFits, tagsRefusal, tagsOf, after, checkWith, fillVerdict}
 use Rattle.list.specs.Tags.{filledTags}
 use Rattle.list.specs.Working.{Bit, Taken}
 use Rattle.list.proofs.ListLaws.{tags-are}
-
-pub not-yes : (b : Bool) → not b ≡ true → b ≡ false
-not-yes true e = sym e
-not-yes false e = refl
-
-pub not-no : (b : Bool) → not b ≡ false → b ≡ true
-not-no true e = refl
-not-no false e = sym e
 
 -- the accepted table's own numbers
 pub taken-by : (t : List ℕ) (F N : ℕ) → accepted F N ≡ checkOf t → Taken t × (F ≡ functions t) × (N ≡ nodes t)

@@ -1,11 +1,11 @@
 -- the number of bits set in the tag bytes is the number of records
-use Prim.Native.Nat.{ℕ, zero, suc, _+_, _-_, _*_, _/_, _%_, _^_, _≤_, _<_}
+use Prim.Native.Nat.{ℕ, zero, suc, _+_, _-_, _*_, _%_, _^_, _≤_, _<_}
 use mathlib.Core.Path.{_≡_, refl, sym, subst, ap, ap₂, _∙_}
 use mathlib.Core.Bool.{Bool, true, false, _&&_}
-use mathlib.Core.List.{List, [], _∷_, _++_}
+use mathlib.Core.List.{List, _∷_}
 use native.Mathlib.Omega.{arith}
-use native.Mathlib.Nat.{mod-eq-of-lt}
-use native.Mathlib.Decide.{ℕ-discrete, decLe}
+use native.Mathlib.Nat.{mod-eq-of-lt, suc-add}
+use native.Mathlib.Decide.{ℕ-discrete}
 use lib.Count.{ones, ones-step}
 use lib.Dec.{eqb, leb}
 use lib.ListN.{length, length-append}
@@ -17,8 +17,8 @@ use Rattle.table.proofs.Passed.{passed}
 use Rattle.list.specs.Arbiters.{Test}
 use Rattle.list.specs.Tags.{calleeOf, listed, bitsFrom, bytesFrom, tagLength, tagsOf, bitsSet}
 use Rattle.list.specs.Records.{recordAt, callsFrom, recordsFrom, recordsOf}
-use Rattle.list.specs.Working.{Callee, Taken}
-use Rattle.list.proofs.TagFacts.{half-of, low-of, listed-call}
+use Rattle.list.specs.Working.{Taken}
+use Rattle.list.proofs.TagFacts.{half-of, low-of}
 use Rattle.list.proofs.CallLaws.{listed-called}
 
 -- g at n, n + 1, ..: k of them
@@ -55,13 +55,10 @@ sum-split g zero b n = ap₂ (λ k m. sumFrom g k m) (zero-plus b) (plus-zero n)
     plus-zero : (n : ℕ) → n ≡ n + 0
     plus-zero n = omega arith
 sum-split g (suc a) b n =
-    ap (λ k. sumFrom g k n) (suc-plus a b) ∙ ap (λ x. g n + x) (sum-split g a b (suc n))
+    ap (λ k. sumFrom g k n) (suc-add a b) ∙ ap (λ x. g n + x) (sum-split g a b (suc n))
     ∙ group (g n) (sumFrom g a (suc n)) (sumFrom g b (suc n + a))
     ∙ ap (λ m. g n + sumFrom g a (suc n) + sumFrom g b m) (moved n a)
   where
-    suc-plus : (a b : ℕ) → suc a + b ≡ suc (a + b)
-    suc-plus a b = omega arith
-
     group : (x y z : ℕ) → x + (y + z) ≡ x + y + z
     group x y z = omega arith
 

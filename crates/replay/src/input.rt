@@ -1,6 +1,6 @@
 // What the program is given: its arguments and the table file.
 ghost use mathlib.Core.Path.{_≡_};
-ghost use Prim.Native.Nat.{_≤_, _<_};
+ghost use Prim.Native.Nat.{_≤_};
 ghost use lib.ListN.{length};
 
 // Main's arguments; a count of 10 says that one of them is no number, and 9 stands for any count above 8.

@@ -9,8 +9,7 @@ use circuit::State;
 use table::Function;
 use table::Node;
 use table::read;
-ghost use Prim.Native.Nat.{_+_, _≤_, _<_};
-ghost use lib.ListN.{length};
+ghost use Prim.Native.Nat.{_≤_};
 
 fn main() {
     if input::runs() {

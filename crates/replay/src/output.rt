@@ -3,7 +3,7 @@ use circuit::Answer;
 use circuit::Ended;
 use table::Function;
 use table::Node;
-ghost use Prim.Native.Nat.{_≤_, _<_};
+ghost use Prim.Native.Nat.{_≤_};
 
 fn text(s: &[u8]) {
     io::write_all(libc::STDOUT_FILENO, s);

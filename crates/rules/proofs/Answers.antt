@@ -15,12 +15,12 @@ use Rattle.table.specs.Well.{CallIn, Well}
 use Rattle.table.proofs.CallPlaces.{call-node}
 use Rattle.rules.proofs.Places.{still-busy}
 use Rattle.rules.proofs.Invariant.{Step, inner, enter, leave, again, inner-sound, Fn, Active, New, Sound, new-live}
-use Rattle.rules.specs.Reading.{Outcome, val, Readings, Reads}
+use Rattle.rules.specs.Reading.{val, Readings, Reads}
 use Rattle.rules.proofs.Counts.{left-reads, over-left}
 use Rattle.rules.proofs.Total.{step-before}
 use Rattle.table.specs.Find.{total}
 use Rattle.rules.proofs.SumLaws.{sum-zero}
-use Rattle.rules.proofs.Remaining.{Ends, nowhere, Rest, Expects}
+use Rattle.rules.proofs.Remaining.{Closes, nowhere, Rest, Expects}
 use Rattle.rules.proofs.Enter as Enter
 use Rattle.rules.proofs.Leave as Leave
 use Rattle.rules.proofs.Again as Again
@@ -65,9 +65,36 @@ module _ (apply : ℕ → List ℕ → ℕ) (F : ℕ) (body : ℕ → Expr) (wel
                 still-busy s (s .occupant f) (o .4 .0) (body (o .0)) (sound .rest (o .0) (o .1) (⊎-elim e (λ y. y z₀)))
                 (call-node (s .occupant f) f (body (o .0)) (o .3))
 
-  module _ (K : Readings)
-      (reads : (f v : ℕ) (vs : List ℕ) (o : Outcome) (j i : ℕ) → Fn apply F body f
-      → Reads apply K (λ x. getD vs x 0) (body f) (nowhere apply F body K) o j → Ends apply F body K f o v i → K f vs v (j + i)) where
+  -- a started circuit: main's body new, every other body idle, every resource free
+  pub record Started (s : View) (args : List ℕ) : Type 0 where
+    pub main : New apply F body s F
+    pub others : (f : ℕ) → Fn apply F body f → (f ≡ F → ⊥) → Every (Still s) (body f)
+    pub free : (f : ℕ) → s .occupant f ≡ 0
+    pub arguments : (i : ℕ) → s .register F i ≡ getD args i 0
+
+  pub started-sound : (s : View) (args : List ℕ) → Started s args → Sound apply F body s
+  started-sound s args st = record {
+    opened = λ f q a. opened-f f a;
+    rest = λ f q a. st .others f q (λ e. a (inl e));
+    held = λ f c q e z. absurd (z (sym e ∙ st .free f));
+    top = st .free F;
+  }
+    where
+      opened-f : (f : ℕ) → Active apply F body s f → Opened s (body f)
+      opened-f f (inl e) = subst (λ x. Opened s (body x)) (sym e) (inl (new-live apply F body s (body F) (st .main .0) (st .main .1)))
+      opened-f f (inr z) = absurd (z (st .free f))
+
+  sum-main : (k : ℕ) (R : ℕ → ℕ) → ((f : ℕ) → 1 ≤ f → f ≤ k → R f ≡ 0) → total R k ≡ 0
+  unfolding total
+  sum-main zero R h = refl
+  sum-main (suc k) R h = omega (arith, h (suc k) (omega arith) (omega arith), sum-main k R (λ f a b. h f a (omega arith)))
+
+  sum-last : (k : ℕ) (R : ℕ → ℕ) → 1 ≤ k → ((f : ℕ) → 1 ≤ f → f < k → R f ≡ 0) → total R k ≡ R k
+  unfolding total
+  sum-last zero R a h = absurd (omega arith)
+  sum-last (suc k) R a h = omega (arith, sum-main k R (λ f p q. h f p (omega arith)))
+
+  module _ (K : Readings) (reads : Closes apply F body K) where
     pub steps-before : (s s′ : View) (n : ℕ) (W′ R′ : ℕ → ℕ) → Sound apply F body s → Steps s s′ n → Expects apply F body K s′ W′ R′
         → (W R : ℕ → ℕ) × Expects apply F body K s W R × (total R F ≡ n + total R′ F) × (W 0 ≡ W′ 0)
     steps-before s s′ n W′ R′ d rest e = (W′, R′, e, omega arith, refl)
@@ -96,35 +123,6 @@ module _ (apply : ℕ → List ℕ → ℕ) (F : ℕ) (body : ℕ → Expr) (wel
         act f q a (yes e) = subst (λ y. Rest apply F body K s (λ m. s .value (id (body F))) y (s .value (id (body F))) 0) (sym e) main
         act f q (inl a) (no e) = absurd (e a)
         act f q (inr a) (no e) = absurd (a (asleep s d r h (suc F) f (omega arith) q e))
-
-    -- a started circuit: main's body new, every other body idle, every resource free
-    pub record Started (s : View) (args : List ℕ) : Type 0 where
-      pub main : New apply F body s F
-      pub others : (f : ℕ) → Fn apply F body f → (f ≡ F → ⊥) → Every (Still s) (body f)
-      pub free : (f : ℕ) → s .occupant f ≡ 0
-      pub arguments : (i : ℕ) → s .register F i ≡ getD args i 0
-
-    pub started-sound : (s : View) (args : List ℕ) → Started s args → Sound apply F body s
-    started-sound s args st = record {
-      opened = λ f q a. opened-f f a;
-      rest = λ f q a. st .others f q (λ e. a (inl e));
-      held = λ f c q e z. absurd (z (sym e ∙ st .free f));
-      top = st .free F;
-    }
-      where
-        opened-f : (f : ℕ) → Active apply F body s f → Opened s (body f)
-        opened-f f (inl e) = subst (λ x. Opened s (body x)) (sym e) (inl (new-live apply F body s (body F) (st .main .0) (st .main .1)))
-        opened-f f (inr z) = absurd (z (st .free f))
-
-    sum-main : (k : ℕ) (R : ℕ → ℕ) → ((f : ℕ) → 1 ≤ f → f ≤ k → R f ≡ 0) → total R k ≡ 0
-    unfolding total
-    sum-main zero R h = refl
-    sum-main (suc k) R h = omega (arith, h (suc k) (omega arith) (omega arith), sum-main k R (λ f a b. h f a (omega arith)))
-
-    sum-last : (k : ℕ) (R : ℕ → ℕ) → 1 ≤ k → ((f : ℕ) → 1 ≤ f → f < k → R f ≡ 0) → total R k ≡ R k
-    unfolding total
-    sum-last zero R a h = absurd (omega arith)
-    sum-last (suc k) R a h = omega (arith, sum-main k R (λ f p q. h f p (omega arith)))
 
     -- the third demand's last sentence
     pub answer : (s s′ : View) (args : List ℕ) (n : ℕ) → Fn apply F body F → Started s args → Steps s s′ n → s′ .status (id (body F)) ≡ 3

@@ -26,7 +26,7 @@ use Rattle.table.proofs.Passed.{passes, passed, goes-on, params-small}
 use Rattle.table.proofs.LaidOut.{laid}
 use Rattle.list.specs.Tags.{tagged, after, tagLength, nonePast, tagsRefusal, checkWith, Holding}
 use Rattle.list.proofs.Callees.{listed-exactly}
-use Rattle.rules.proofs.Levels.{readings-unique}
+use Rattle.rules.proofs.Unique.{readings-unique}
 use Rattle.rules.proofs.Logs.{begin, logged, more, plays, plays-alike}
 use Rattle.rules.proofs.Kept.{Kept, refused-kept, start-kept, kept-alike, kept-right, kept-balance, kept-one, kept-over}
 use Rattle.rules.proofs.Kept.{kept-main-free, kept-lively, kept-phases, kept-silent}

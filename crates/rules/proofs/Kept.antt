@@ -7,20 +7,20 @@ use mathlib.Core.Logic.{_⊎_, inl, inr}
 use mathlib.Core.List.{List, []}
 use native.Mathlib.Omega.{arith}
 use native.Mathlib.Decide.{ℕ-discrete}
-use lib.ListN.{length, getD}
+use lib.ListN.{length}
 use lib.Dec.{eqb}
 use borrow.Author.Tests.{eqb-true, eqb-false}
 use Rattle.table.proofs.LaidOut.{call-here}
 use Rattle.table.specs.Syntax.{Expr, id, Sub}
 use Rattle.rules.specs.State.{View, State512, In, view, circuitStart}
-use Rattle.rules.specs.Reading.{Outcome, val, again, Readings, Reads, readings}
+use Rattle.rules.specs.Reading.{val, again, Readings, readings}
 use Rattle.table.specs.Pick.{pick, Range}
-use Rattle.rules.proofs.Levels.{reads}
+use Rattle.rules.proofs.Levels.{closes}
 use Rattle.table.specs.Well.{CallIn, Laid}
 use Rattle.list.specs.Conflict.{C}
 use Rattle.rules.proofs.Invariant.{Fn, Sound}
 use Rattle.rules.proofs.Collide.{waiting-listed}
-use Rattle.rules.proofs.Remaining.{Ends, nowhere}
+use Rattle.rules.proofs.Remaining.{Closes}
 use Rattle.rules.proofs.Answers.{Steps, rest, then, Started, started-sound, answer}
 use Rattle.rules.specs.Step.{taken, answered, refused, refusal, circuitStep, Move, does, act, done, perform}
 use Rattle.rules.proofs.StepTaken.{Waits, step-cases}
@@ -42,10 +42,9 @@ module _ (apply : ℕ → List ℕ → ℕ) {F N : ℕ} {body at : ℕ → Expr}
   fn-main = (laid .some-function, omega arith)
 
   -- the readings are what the abstract proof asks for
-  program-reads : (f v : ℕ) (vs : List ℕ) (o : Outcome) (j i : ℕ) → Fn apply F body f
-      → Reads apply K (λ x. getD vs x 0) (body f) (nowhere apply F body K) o j → Ends apply F body K f o v i → K f vs v (j + i)
-  program-reads f v vs (val w) j i r x e = reads apply body F (laid .well .below) f v vs (val w) j i (r .0) (r .1) x e
-  program-reads f v vs (again ws) j i r x e = reads apply body F (laid .well .below) f v vs (again ws) j i (r .0) (r .1) x e
+  program-reads : Closes apply F body K
+  program-reads f v vs (val w) j i r x e = closes apply body F (laid .well .below) f v vs (val w) j i (r .0) (r .1) x e
+  program-reads f v vs (again ws) j i r x e = closes apply body F (laid .well .below) f v vs (again ws) j i (r .0) (r .1) x e
 
   abbrev Root : ℕ
   Root = id (body F)
@@ -132,8 +131,8 @@ module _ (apply : ℕ → List ℕ → ℕ) {F N : ℕ} {body at : ℕ → Expr}
     abbrev s₀ : View
     s₀ = view (circuitStart F body args)
 
-    started : Started apply F body (laid .well) K program-reads s₀ args
-    started = start-started apply laid args K program-reads few
+    started : Started apply F body (laid .well) s₀ args
+    started = start-started apply laid args few
 
     no-steps : (c : ℕ) → count c [] % 3 ≡ 0
     unfolding count
@@ -143,7 +142,7 @@ module _ (apply : ℕ → List ℕ → ℕ) {F N : ℕ} {body at : ℕ → Expr}
     start-kept = record {
       good = record {
         sized = start-sized apply laid args;
-        sound = started-sound apply F body (laid .well) K program-reads s₀ args started;
+        sound = started-sound apply F body (laid .well) s₀ args started;
       };
       steps = rest;
       phased = λ f c g q i. no-steps c ∙ sym (third-rest s₀ c (start-rest apply laid args c));

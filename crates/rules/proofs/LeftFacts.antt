@@ -9,44 +9,37 @@ use Rattle.table.specs.Syntax.{Expr, Exprs, const, param, prim, call, self, con
 use Rattle.table.specs.Syntax.{Sub*}
 use Rattle.rules.specs.State.{View}
 use Rattle.table.specs.Environment.{values, extend}
-use Rattle.rules.proofs.Shape.{Still, Idle, Busy, Live, Opened*, Opened}
+use Rattle.rules.proofs.Shape.{Still, Idle, Live, Opened*, Opened}
 use Rattle.rules.specs.Reading.{Chosen, Outcome, val, Readings}
 use Rattle.table.specs.Well.{Apart, Apart*, Fits, Fits*}
 use Rattle.rules.proofs.Frame.{Same}
 use Rattle.table.proofs.SyntaxLaws.{node-id, sub-node, sub-node*}
 use Rattle.rules.proofs.Within.{idle-not, idle-not*, done-not, done-not*}
-use Rattle.rules.proofs.Left.{Over, Fresh, Left, Left*}
+use Rattle.rules.proofs.Left.{Going, Left, Left*}
 
 -- what is left outside
 module _ (apply : ℕ → List ℕ → ℕ) (K : Readings) (s s′ : View) (W W′ : ℕ → ℕ) (args : ℕ → ℕ) (X : ℕ → Type 0)
     (keeps : (m : ℕ) → (X m → ⊥) → Same s s′ m) (expects : (m : ℕ) → (X m → ⊥) → W′ m ≡ W m) where
-  abbrev After : Expr → (ℕ → ℕ) → Outcome → ℕ → Type 0
-  After = Left apply K s′ W′ args
-
-  abbrev Before : Expr → (ℕ → ℕ) → Outcome → ℕ → Type 0
-  Before = Left apply K s W args
-
-  abbrev After* : Exprs → (ℕ → ℕ) → List ℕ → ℕ → Type 0
-  After* = Left* apply K s′ W′ args
-
-  abbrev Before* : Exprs → (ℕ → ℕ) → List ℕ → ℕ → Type 0
-  Before* = Left* apply K s W args
-
   abbrev Clear : Expr → Type 0
   Clear e = (m : ℕ) → Node m e → X m → ⊥
 
   abbrev Clear* : Exprs → Type 0
   Clear* es = (m : ℕ) → Node* m es → X m → ⊥
 
-  over-over : (n : ℕ) (o : Outcome) (k : ℕ) → (X n → ⊥) → Over apply K s′ W′ args n o k → Over apply K s W args n o k
-  over-over n o k x h = (sym (keeps n x .0) ∙ h .0, h .1 ∙ ap val (keeps n x .2), h .2)
+  part-over : (e : Expr) → Clear e → (ρ : ℕ → ℕ) (o : Outcome) (k : ℕ) → (Going apply K s′ W′ args e ρ o k → Going apply K s W args e ρ o k)
+      → Left apply K s′ W′ args e ρ o k → Left apply K s W args e ρ o k
+  part-over e c ρ o k f h = go h
+    where
+      same : Same s s′ (id e)
+      same = keeps (id e) (c (id e) (node-id e))
 
-  fresh-over : (e : Expr) (ρ : ℕ → ℕ) (o : Outcome) (k : ℕ) → (X (id e) → ⊥) → Fresh apply K s′ W′ args e ρ o k
-      → Fresh apply K s W args e ρ o k
-  fresh-over e ρ o k x h = (⊎-elim (λ p. inl (sym (keeps (id e) x .0) ∙ p)) (λ p. inr (sym (keeps (id e) x .0) ∙ p)) (h .0), h .1)
+      go : Left apply K s′ W′ args e ρ o k → Left apply K s W args e ρ o k
+      go (inl h) = inl (sym (same .0) ∙ h .0, h .1 ∙ ap val (same .2), h .2)
+      go (inr (inl h)) = inr (inl (⊎-elim (λ p. inl (sym (same .0) ∙ p)) (λ p. inr (sym (same .0) ∙ p)) (h .0), h .1))
+      go (inr (inr h)) = inr (inr (sym (same .0) ∙ h .0, f (h .1)))
 
-  busy-over : (n : ℕ) (p : Bool) → (X n → ⊥) → Busy s′ n p → Busy s n p
-  busy-over n p x h = (sym (keeps n x .0) ∙ h .0, sym (keeps n x .1) ∙ h .1)
+  phase-over : (n : ℕ) (p : Bool) → (X n → ⊥) → s′ .second n ≡ p → s .second n ≡ p
+  phase-over n p x h = sym (keeps n x .1) ∙ h
 
   values-over : (es : Exprs) → Clear* es → values (s′ .value) es ≡ values (s .value) es
   values-over none c = refl
@@ -60,94 +53,89 @@ module _ (apply : ℕ → List ℕ → ℕ) (K : Readings) (s s′ : View) (W W�
       at (suc k) t = f t
 
   mutual
-    pub left-over : (e : Expr) → Clear e → (ρ : ℕ → ℕ) (o : Outcome) (k : ℕ) → After e ρ o k → Before e ρ o k
-    left-over (const n v) c ρ o k (inl h) = inl (over-over n o k (c n refl) h)
-    left-over (const n v) c ρ o k (inr h) = inr (fresh-over (const n v) ρ o k (c n refl) h)
-    left-over (param n i) c ρ o k (inl h) = inl (over-over n o k (c n refl) h)
-    left-over (param n i) c ρ o k (inr h) = inr (fresh-over (param n i) ρ o k (c n refl) h)
-    left-over (prim n op es) c ρ o k (inl h) = inl (over-over n o k (c n (inl refl)) h)
-    left-over (prim n op es) c ρ o k (inr (inl h)) = inr (inl (fresh-over (prim n op es) ρ o k (c n (inl refl)) h))
-    left-over (prim n op es) c ρ o k (inr (inr h)) =
-        inr (inr (
-          sym (keeps n (c n (inl refl)) .0) ∙ h .0,
-          (h .1 .0, h .1 .1, left-over* es (λ m q. c m (inr q)) ρ (h .1 .0) (h .1 .1) (h .1 .2), h .1 .3, h .1 .4),
-        ))
-    left-over (call n g es) c ρ o k (inl h) = inl (over-over n o k (c n (inl refl)) h)
-    left-over (call n g es) c ρ o k (inr (inl h)) = inr (inl (fresh-over (call n g es) ρ o k (c n (inl refl)) h))
-    left-over (call n g es) c ρ o k (inr (inr (inl h))) =
-        inr (inr (inl (
-          busy-over n false (c n (inl refl)) (h .0),
+    going-over : (e : Expr) → Clear e → (ρ : ℕ → ℕ) (o : Outcome) (k : ℕ) → Going apply K s′ W′ args e ρ o k
+        → Going apply K s W args e ρ o k
+    going-over (const n v) c ρ o k h = h
+    going-over (param n i) c ρ o k h = h
+    going-over (prim n op es) c ρ o k h = (h .0, h .1, left-over* es (λ m q. c m (inr q)) ρ (h .0) (h .1) (h .2), h .3, h .4)
+    going-over (call n g es) c ρ o k (inl (p, h)) =
+        inl (
+          phase-over n false (c n (inl refl)) p,
           (
-            h .1 .0,
-            h .1 .1,
-            h .1 .2,
-            h .1 .3,
-            left-over* es (λ m q. c m (inr q)) ρ (h .1 .0) (h .1 .2) (h .1 .4),
-            h .1 .5,
-            h .1 .6,
-            h .1 .7,
+            h .0,
+            h .1,
+            h .2,
+            h .3,
+            left-over* es (λ m q. c m (inr q)) ρ (h .0) (h .2) (h .4),
+            h .5,
+            h .6,
+            h .7,
           ),
-        )))
-    left-over (call n g es) c ρ o k (inr (inr (inr h))) =
-        inr (inr (inr (busy-over n true (c n (inl refl)) (h .0), h .1 ∙ ap val (expects n (c n (inl refl))), h .2)))
-    left-over (self n es) c ρ o k (inl h) = inl (over-over n o k (c n (inl refl)) h)
-    left-over (self n es) c ρ o k (inr (inl h)) = inr (inl (fresh-over (self n es) ρ o k (c n (inl refl)) h))
-    left-over (self n es) c ρ o k (inr (inr h)) =
-        inr (inr (
-          sym (keeps n (c n (inl refl)) .0) ∙ h .0,
-          (h .1 .0, h .1 .1, left-over* es (λ m q. c m (inr q)) ρ (h .1 .0) (h .1 .1) (h .1 .2), h .1 .3, h .1 .4),
-        ))
-    left-over (cond n a b d) c ρ o k (inl h) = inl (over-over n o k (c n (inl refl)) h)
-    left-over (cond n a b d) c ρ o k (inr (inl h)) = inr (inl (fresh-over (cond n a b d) ρ o k (c n (inl refl)) h))
-    left-over (cond n a b d) c ρ o k (inr (inr (inl h))) =
-        inr (inr (inl (
-          busy-over n false (c n (inl refl)) (h .0),
-          (h .1 .0, h .1 .1, h .1 .2, left-over a (λ m q. c m (inr (inl q))) ρ (val (h .1 .0)) (h .1 .1) (h .1 .3), h .1 .4, h .1 .5),
-        )))
-    left-over (cond n a b d) c ρ o k (inr (inr (inr h))) =
-        inr (inr (inr (
-          busy-over n true (c n (inl refl)) (h .0),
+        )
+    going-over (call n g es) c ρ o k (inr h) =
+        inr (phase-over n true (c n (inl refl)) (h .0), h .1 ∙ ap val (expects n (c n (inl refl))), h .2)
+    going-over (self n es) c ρ o k h = (h .0, h .1, left-over* es (λ m q. c m (inr q)) ρ (h .0) (h .1) (h .2), h .3, h .4)
+    going-over (cond n a b d) c ρ o k (inl (p, h)) =
+        inl (
+          phase-over n false (c n (inl refl)) p,
           (
-            h .1 .0,
-            taken-back (After b ρ o (h .1 .0)) (After d ρ o (h .1 .0)) (Before b ρ o (h .1 .0)) (Before d ρ o (h .1 .0))
-                (λ t. left-over b (λ m q. c m (inr (inr (inl q)))) ρ o (h .1 .0) t) (λ t. left-over d (λ m q. c m (inr (inr (inr q)))) ρ o
-                (h .1 .0) t)
-                (s′ .value (id a)) (s .value (id a)) (keeps (id a) (c (id a) (inr (inl (node-id a)))) .2) (h .1 .1),
-            h .1 .2,
+            h .0,
+            h .1,
+            h .2,
+            part-over a (λ m q. c m (inr (inl q))) ρ (val (h .0)) (h .1) (λ x. going-over a (λ m q. c m (inr (inl q))) ρ (val
+                (h .0)) (h .1) x) (h .3),
+            h .4,
+            h .5,
           ),
-        )))
-    left-over (bind n ds b) c ρ o k (inl h) = inl (over-over n o k (c n (inl refl)) h)
-    left-over (bind n ds b) c ρ o k (inr (inl h)) = inr (inl (fresh-over (bind n ds b) ρ o k (c n (inl refl)) h))
-    left-over (bind n ds b) c ρ o k (inr (inr (inl h))) =
-        inr (inr (inl (
-          busy-over n false (c n (inl refl)) (h .0),
-          (h .1 .0, h .1 .1, h .1 .2, left-over* ds (λ m q. c m (inr (inl q))) ρ (h .1 .0) (h .1 .1) (h .1 .3), h .1 .4, h .1 .5),
-        )))
-    left-over (bind n ds b) c ρ o k (inr (inr (inr h))) =
-        inr (inr (inr (
-          busy-over n true (c n (inl refl)) (h .0),
+        )
+    going-over (cond n a b d) c ρ o k (inr (p, h)) =
+        let cb : Clear b = λ m q. c m (inr (inr (inl q))) in
+        let cd : Clear d = λ m q. c m (inr (inr (inr q))) in
+        inr (
+          phase-over n true (c n (inl refl)) p,
           (
-            h .1 .0,
-            subst (λ vs. Before b (extend ds vs ρ) o (h .1 .0)) (values-over ds (λ m q. c m (inr (inl q))))
-                (left-over b (λ m q. c m (inr (inr q))) (extend ds (values (s′ .value) ds) ρ) o (h .1 .0) (h .1 .1)),
-            h .1 .2,
+            h .0,
+            taken-back (Left apply K s′ W′ args b ρ o (h .0)) (Left apply K s′ W′ args d ρ o (h .0)) (Left apply K s W args b ρ o (h .0))
+                (Left apply K s W args d ρ o (h .0)) (part-over b cb ρ o (h .0) (λ x. going-over b cb ρ o (h .0) x))
+                (part-over d cd ρ o (h .0) (λ x. going-over d cd ρ o (h .0) x))
+                (s′ .value (id a)) (s .value (id a)) (keeps (id a) (c (id a) (inr (inl (node-id a)))) .2) (h .1),
+            h .2,
           ),
-        )))
-    left-over (bound n d) c ρ o k (inl h) = inl (over-over n o k (c n refl) h)
-    left-over (bound n d) c ρ o k (inr h) = inr (fresh-over (bound n d) ρ o k (c n refl) h)
+        )
+    going-over (bind n ds b) c ρ o k (inl (p, h)) =
+        inl (
+          phase-over n false (c n (inl refl)) p,
+          (h .0, h .1, h .2, left-over* ds (λ m q. c m (inr (inl q))) ρ (h .0) (h .1) (h .3), h .4, h .5),
+        )
+    going-over (bind n ds b) c ρ o k (inr (p, h)) =
+        let r = extend ds (values (s′ .value) ds) ρ in
+        inr (
+          phase-over n true (c n (inl refl)) p,
+          (
+            h .0,
+            subst (λ vs. Left apply K s W args b (extend ds vs ρ) o (h .0)) (values-over ds (λ m q. c m (inr (inl q))))
+                (part-over b (λ m q. c m (inr (inr q))) r o (h .0) (λ x. going-over b (λ m q. c m (inr (inr q))) r o (h .0) x) (h .1)),
+            h .2,
+          ),
+        )
+    going-over (bound n d) c ρ o k h = h
 
-    pub left-over* : (es : Exprs) → Clear* es → (ρ : ℕ → ℕ) (vs : List ℕ) (j : ℕ) → After* es ρ vs j → Before* es ρ vs j
+    pub left-over* : (es : Exprs) → Clear* es → (ρ : ℕ → ℕ) (vs : List ℕ) (j : ℕ) → Left* apply K s′ W′ args es ρ vs j
+        → Left* apply K s W args es ρ vs j
     left-over* none c ρ vs j h = h
     left-over* (some e es) c ρ vs j h = (
       h .0,
       h .1,
       h .2,
       h .3,
-      left-over e (λ m q. c m (inl q)) ρ (val (h .0)) (h .2) (h .4),
+      part-over e (λ m q. c m (inl q)) ρ (val (h .0)) (h .2) (λ x. going-over e (λ m q. c m (inl q)) ρ (val (h .0)) (h .2) x) (h .4),
       left-over* es (λ m q. c m (inr q)) ρ (h .1) (h .3) (h .5),
       h .6,
       h .7,
     )
+
+  pub left-over : (e : Expr) → Clear e → (ρ : ℕ → ℕ) (o : Outcome) (k : ℕ) → Left apply K s′ W′ args e ρ o k → Left apply K s W args e ρ o k
+  left-over e c ρ o k h = part-over e c ρ o k (going-over e c ρ o k) h
 
 -- what is left of a body
 module _ (apply : ℕ → List ℕ → ℕ) (K : Readings) (s s′ : View) (W W′ : ℕ → ℕ) (args : ℕ → ℕ) (u : Expr) (d : ℕ)
@@ -159,9 +147,6 @@ module _ (apply : ℕ → List ℕ → ℕ) (K : Readings) (s s′ : View) (W W�
   Back e = (ρ : ℕ → ℕ) (o : Outcome) (k : ℕ) → Live s e → Fits (s .value) e ρ → Left apply K s′ W′ args e ρ o k
       → Left apply K s W args e ρ o (d + k)
 
-  abbrev Y : ℕ → Type 0
-  Y m = Node m u
-
   here : (e : Expr) → u ≡ e → Back e
   here e p = subst Back p local
 
@@ -170,12 +155,13 @@ module _ (apply : ℕ → List ℕ → ℕ) (K : Readings) (s s′ : View) (W W�
   back-opened e f p ρ o k (inl l) g h = f ρ o k l g h
   back-opened e f p ρ o k (inr x) g h = absurd (done-not s u moving e x p)
 
-  not-over : (n : ℕ) (o : Outcome) (k : ℕ) → (Node n u → ⊥) → s .status n ≡ 2 → Over apply K s′ W′ args n o k → ⊥
-  not-over n o k x b h = omega (arith, keeps n x .0, h .0, b)
-
-  not-fresh : (e : Expr) (ρ : ℕ → ℕ) (o : Outcome) (k : ℕ) → (Node (id e) u → ⊥) → s .status (id e) ≡ 2 → Fresh apply K s′ W′ args e ρ o k
-      → ⊥
-  not-fresh e ρ o k x b h = ⊎-elim (λ p. omega (arith, keeps (id e) x .0, p, b)) (λ p. omega (arith, keeps (id e) x .0, p, b)) (h .0)
+  -- of a busy expression around the move, what is left after it is what is left of a busy one
+  going : (e : Expr) → (Node (id e) u → ⊥) → s .status (id e) ≡ 2 → (ρ : ℕ → ℕ) (o : Outcome) (k : ℕ) → Left apply K s′ W′ args e ρ o k
+      → Going apply K s′ W′ args e ρ o k
+  going e x b ρ o k (inl h) = absurd (omega (arith, keeps (id e) x .0, h .0, b))
+  going e x b ρ o k (inr (inl h)) =
+      absurd (⊎-elim (λ p. omega (arith, keeps (id e) x .0, p, b)) (λ p. omega (arith, keeps (id e) x .0, p, b)) (h .0))
+  going e x b ρ o k (inr (inr h)) = h .1
 
   phases : (n : ℕ) → (Node n u → ⊥) → s .second n ≡ false → s′ .second n ≡ true → ⊥
   phases n x p q = true≢false (sym q ∙ keeps n x .1 ∙ p)
@@ -193,174 +179,142 @@ module _ (apply : ℕ → List ℕ → ℕ) (K : Readings) (s s′ : View) (W W�
 
   mutual
     pub left-within : (e : Expr) → Apart e → Sub u e → Back e
-    left-within (const n v) a p ρ o k l f g = here (const n v) p ρ o k l f g
-    left-within (param n i) a p ρ o k l f g = here (param n i) p ρ o k l f g
-    left-within (prim n op es) a (inl p) ρ o k l f g = here (prim n op es) p ρ o k l f g
+    left-within (const n v) a p ρ o k l f h = here (const n v) p ρ o k l f h
+    left-within (param n i) a p ρ o k l f h = here (param n i) p ρ o k l f h
+    left-within (prim n op es) a (inl p) ρ o k l f h = here (prim n op es) p ρ o k l f h
     left-within (prim n op es) a (inr p) ρ o k (inl l) f h = absurd (idle-not* s u moving es (l .1) p)
-    left-within (prim n op es) a (inr p) ρ o k (inr l) f (inl h) = absurd (not-over n o k (λ x. a .0 (sub-node* u n es p x)) (l .0 .0) h)
-    left-within (prim n op es) a (inr p) ρ o k (inr l) f (inr (inl h)) =
-        absurd (not-fresh (prim n op es) ρ o k (λ x. a .0 (sub-node* u n es p x)) (l .0 .0) h)
-    left-within (prim n op es) a (inr p) ρ o k (inr l) f (inr (inr h)) =
-        inr (inr (
+    left-within (prim n op es) a (inr p) ρ o k (inr l) f h =
+        let g = going (prim n op es) (λ x. a .0 (sub-node* u n es p x)) (l .0 .0) ρ o k h in
+        inr (inr (l .0 .0, (g .0, d + g .1, left-within* es (a .1) p ρ (g .0) (g .1) (l .1) f (g .2), g .3, omega (arith, g .4))))
+    left-within (call n q es) a (inl p) ρ o k l f h = here (call n q es) p ρ o k l f h
+    left-within (call n q es) a (inr p) ρ o k (inl l) f h = absurd (idle-not* s u moving es (l .1) p)
+    left-within (call n q es) a (inr p) ρ o k (inr (inl l)) f h =
+        ⊎-elim (λ g. inr (inr (
           l .0 .0,
-          (
-            h .1 .0,
-            d + h .1 .1,
-            left-within* es (a .1) p ρ (h .1 .0) (h .1 .1) (l .1) f (h .1 .2),
-            h .1 .3,
-            omega (arith, h .1 .4),
+          inl (
+            l .0 .1,
+            (
+              g .1 .0,
+              g .1 .1,
+              d + g .1 .2,
+              g .1 .3,
+              left-within* es (a .1) p ρ (g .1 .0) (g .1 .2) (l .1) f (g .1 .4),
+              g .1 .5,
+              g .1 .6,
+              omega (arith, g .1 .7),
+            ),
           ),
-        ))
-    left-within (call n q es) a (inl p) ρ o k l f g = here (call n q es) p ρ o k l f g
-    left-within (call n g es) a (inr p) ρ o k (inl l) f h = absurd (idle-not* s u moving es (l .1) p)
-    left-within (call n g es) a (inr p) ρ o k (inr (inl l)) f (inl h) =
-        absurd (not-over n o k (λ x. a .0 (sub-node* u n es p x)) (l .0 .0) h)
-    left-within (call n g es) a (inr p) ρ o k (inr (inl l)) f (inr (inl h)) =
-        absurd (not-fresh (call n g es) ρ o k (λ x. a .0 (sub-node* u n es p x)) (l .0 .0) h)
-    left-within (call n g es) a (inr p) ρ o k (inr (inl l)) f (inr (inr (inl h))) =
-        inr (inr (inl (
-          l .0,
-          (
-            h .1 .0,
-            h .1 .1,
-            d + h .1 .2,
-            h .1 .3,
-            left-within* es (a .1) p ρ (h .1 .0) (h .1 .2) (l .1) f (h .1 .4),
-            h .1 .5,
-            h .1 .6,
-            omega (arith, h .1 .7),
-          ),
-        )))
-    left-within (call n g es) a (inr p) ρ o k (inr (inl l)) f (inr (inr (inr h))) =
-        absurd (phases n (λ x. a .0 (sub-node* u n es p x)) (l .0 .1) (h .0 .1))
-    left-within (call n g es) a (inr p) ρ o k (inr (inr l)) f h = absurd (done-not* s u moving es (l .1) p)
-    left-within (self n es) a (inl p) ρ o k l f g = here (self n es) p ρ o k l f g
+        ))) (λ g. absurd (phases n (λ x. a .0 (sub-node* u n es p x)) (l .0 .1) (g .0)))
+        (going (call n q es) (λ x. a .0 (sub-node* u n es p x)) (l .0 .0) ρ o k h)
+    left-within (call n q es) a (inr p) ρ o k (inr (inr l)) f h = absurd (done-not* s u moving es (l .1) p)
+    left-within (self n es) a (inl p) ρ o k l f h = here (self n es) p ρ o k l f h
     left-within (self n es) a (inr p) ρ o k (inl l) f h = absurd (idle-not* s u moving es (l .1) p)
-    left-within (self n es) a (inr p) ρ o k (inr l) f (inl h) = absurd (not-over n o k (λ x. a .0 (sub-node* u n es p x)) (l .0 .0) h)
-    left-within (self n es) a (inr p) ρ o k (inr l) f (inr (inl h)) =
-        absurd (not-fresh (self n es) ρ o k (λ x. a .0 (sub-node* u n es p x)) (l .0 .0) h)
-    left-within (self n es) a (inr p) ρ o k (inr l) f (inr (inr h)) =
-        inr (inr (
+    left-within (self n es) a (inr p) ρ o k (inr l) f h =
+        let g = going (self n es) (λ x. a .0 (sub-node* u n es p x)) (l .0 .0) ρ o k h in
+        inr (inr (l .0 .0, (g .0, d + g .1, left-within* es (a .1) p ρ (g .0) (g .1) (l .1) f (g .2), g .3, omega (arith, g .4))))
+    left-within (cond n a b c) q (inl p) ρ o k l f h = here (cond n a b c) p ρ o k l f h
+    left-within (cond n a b c) q (inr (inl p)) ρ o k (inl l) f h = absurd (idle-not s u moving a (l .1) p)
+    left-within (cond n a b c) q (inr (inl p)) ρ o k (inr (inl l)) f h =
+        ⊎-elim (λ g. inr (inr (
           l .0 .0,
-          (
-            h .1 .0,
-            d + h .1 .1,
-            left-within* es (a .1) p ρ (h .1 .0) (h .1 .1) (l .1) f (h .1 .2),
-            h .1 .3,
-            omega (arith, h .1 .4),
+          inl (
+            l .0 .1,
+            (
+              g .1 .0,
+              d + g .1 .1,
+              g .1 .2,
+              back-opened a (λ ρ′ o′ k′ l′ f′ h′. left-within a (q .3) p ρ′ o′ k′ l′ f′ h′) p ρ (val (g .1 .0)) (g .1 .1) (l .1)
+                  (f .0) (g .1 .3),
+              g .1 .4,
+              omega (arith, g .1 .5),
+            ),
           ),
-        ))
-    left-within (cond n a b c) h (inl p) ρ o k l f g = here (cond n a b c) p ρ o k l f g
-    left-within (cond n a b c) h (inr (inl p)) ρ o k (inl l) f g = absurd (idle-not s u moving a (l .1) p)
-    left-within (cond n a b c) h (inr (inl p)) ρ o k (inr (inl l)) f (inl g) =
-        absurd (not-over n o k (λ x. h .0 (sub-node u n a p x)) (l .0 .0) g)
-    left-within (cond n a b c) h (inr (inl p)) ρ o k (inr (inl l)) f (inr (inl g)) =
-        absurd (not-fresh (cond n a b c) ρ o k (λ x. h .0 (sub-node u n a p x)) (l .0 .0) g)
-    left-within (cond n a b c) h (inr (inl p)) ρ o k (inr (inl l)) f (inr (inr (inl g))) =
-        inr (inr (inl (
-          l .0,
-          (
-            g .1 .0,
-            d + g .1 .1,
-            g .1 .2,
-            back-opened a (λ ρ′ o′ k′ l′ f′ h′. left-within a (h .3) p ρ′ o′ k′ l′ f′ h′) p ρ (val (g .1 .0)) (g .1 .1) (l .1) (f .0)
-                (g .1 .3),
-            g .1 .4,
-            omega (arith, g .1 .5),
-          ),
-        )))
-    left-within (cond n a b c) h (inr (inl p)) ρ o k (inr (inl l)) f (inr (inr (inr g))) =
-        absurd (phases n (λ x. h .0 (sub-node u n a p x)) (l .0 .1) (g .0 .1))
-    left-within (cond n a b c) h (inr (inl p)) ρ o k (inr (inr l)) f g = absurd (done-not s u moving a (l .1) p)
-    left-within (cond n a b c) h (inr (inr p)) ρ o k (inl l) f g =
+        ))) (λ g. absurd (phases n (λ x. q .0 (sub-node u n a p x)) (l .0 .1) (g .0)))
+        (going (cond n a b c) (λ x. q .0 (sub-node u n a p x)) (l .0 .0) ρ o k h)
+    left-within (cond n a b c) q (inr (inl p)) ρ o k (inr (inr l)) f h = absurd (done-not s u moving a (l .1) p)
+    left-within (cond n a b c) q (inr (inr p)) ρ o k (inl l) f h =
         absurd (⊎-elim (λ x. idle-not s u moving b (l .2) x) (λ x. idle-not s u moving c (l .3) x) p)
-    left-within (cond n a b c) h (inr (inr p)) ρ o k (inr (inl l)) f g =
+    left-within (cond n a b c) q (inr (inr p)) ρ o k (inr (inl l)) f h =
         absurd (⊎-elim (λ x. idle-not s u moving b (l .2) x) (λ x. idle-not s u moving c (l .3) x) p)
-    left-within (cond n a b c) h (inr (inr (inl p))) ρ o k (inr (inr l)) f (inl g) =
-        absurd (not-over n o k (λ x. h .1 (sub-node u n b p x)) (l .0 .0) g)
-    left-within (cond n a b c) h (inr (inr (inl p))) ρ o k (inr (inr l)) f (inr (inl g)) =
-        absurd (not-fresh (cond n a b c) ρ o k (λ x. h .1 (sub-node u n b p x)) (l .0 .0) g)
-    left-within (cond n a b c) h (inr (inr (inl p))) ρ o k (inr (inr l)) f (inr (inr (inl g))) =
-        absurd (phases′ n (λ x. h .1 (sub-node u n b p x)) (l .0 .1) (g .0 .1))
-    left-within (cond n a b c) h (inr (inr (inl p))) ρ o k (inr (inr l)) f (inr (inr (inr g))) =
-        inr (inr (inr (
-          l .0,
-          (
-            d + g .1 .0,
-            branch (Opened s b × Every (Idle s) c) (Opened s c × Every (Idle s) b) (Left apply K s′ W′ args b ρ o (g .1 .0))
-                (Left apply K s′ W′ args c ρ o (g .1 .0)) (Left apply K s W args b ρ o (d + g .1 .0))
-                (Left apply K s W args c ρ o (d + g .1 .0))
-                (λ x t. back-opened b (λ ρ′ o′ k′ l′ f′ h′. left-within b (h .4) p ρ′ o′ k′ l′ f′ h′) p ρ o (g .1 .0) (x .0) (f .1) t)
-                (λ x t. absurd (idle-not s u moving b (x .1) p))
-                (s .value (id a)) (s′ .value (id a)) (keeps (id a) (λ x. h .6 (id a) (node-id a) (sub-node u (id a) b p x)) .2) (l .2)
-                (g .1 .1),
-            omega (arith, g .1 .2),
+    left-within (cond n a b c) q (inr (inr (inl p))) ρ o k (inr (inr l)) f h =
+        ⊎-elim (λ g. absurd (phases′ n (λ x. q .1 (sub-node u n b p x)) (l .0 .1) (g .0)))
+        (λ g. inr (inr (
+          l .0 .0,
+          inr (
+            l .0 .1,
+            (
+              d + g .1 .0,
+              branch (Opened s b × Every (Idle s) c) (Opened s c × Every (Idle s) b) (Left apply K s′ W′ args b ρ o (g .1 .0))
+                  (Left apply K s′ W′ args c ρ o (g .1 .0)) (Left apply K s W args b ρ o (d + g .1 .0))
+                  (Left apply K s W args c ρ o (d + g .1 .0))
+                  (λ x t. back-opened b (λ ρ′ o′ k′ l′ f′ h′. left-within b (q .4) p ρ′ o′ k′ l′ f′ h′) p ρ o (g .1 .0) (x .0) (f .1) t)
+                  (λ x t. absurd (idle-not s u moving b (x .1) p))
+                  (s .value (id a)) (s′ .value (id a)) (keeps (id a) (λ x. q .6 (id a) (node-id a) (sub-node u (id a) b p x)) .2)
+                  (l .2) (g .1 .1),
+              omega (arith, g .1 .2),
+            ),
           ),
         )))
-    left-within (cond n a b c) h (inr (inr (inr p))) ρ o k (inr (inr l)) f (inl g) =
-        absurd (not-over n o k (λ x. h .2 (sub-node u n c p x)) (l .0 .0) g)
-    left-within (cond n a b c) h (inr (inr (inr p))) ρ o k (inr (inr l)) f (inr (inl g)) =
-        absurd (not-fresh (cond n a b c) ρ o k (λ x. h .2 (sub-node u n c p x)) (l .0 .0) g)
-    left-within (cond n a b c) h (inr (inr (inr p))) ρ o k (inr (inr l)) f (inr (inr (inl g))) =
-        absurd (phases′ n (λ x. h .2 (sub-node u n c p x)) (l .0 .1) (g .0 .1))
-    left-within (cond n a b c) h (inr (inr (inr p))) ρ o k (inr (inr l)) f (inr (inr (inr g))) =
-        inr (inr (inr (
-          l .0,
-          (
-            d + g .1 .0,
-            branch (Opened s b × Every (Idle s) c) (Opened s c × Every (Idle s) b) (Left apply K s′ W′ args b ρ o (g .1 .0))
-                (Left apply K s′ W′ args c ρ o (g .1 .0)) (Left apply K s W args b ρ o (d + g .1 .0))
-                (Left apply K s W args c ρ o (d + g .1 .0))
-                (λ x t. absurd (idle-not s u moving c (x .1) p))
-                (λ x t. back-opened c (λ ρ′ o′ k′ l′ f′ h′. left-within c (h .5) p ρ′ o′ k′ l′ f′ h′) p ρ o (g .1 .0) (x .0) (f .2) t)
-                (s .value (id a)) (s′ .value (id a)) (keeps (id a) (λ x. h .7 (id a) (node-id a) (sub-node u (id a) c p x)) .2) (l .2)
-                (g .1 .1),
-            omega (arith, g .1 .2),
+        (going (cond n a b c) (λ x. q .1 (sub-node u n b p x)) (l .0 .0) ρ o k h)
+    left-within (cond n a b c) q (inr (inr (inr p))) ρ o k (inr (inr l)) f h =
+        ⊎-elim (λ g. absurd (phases′ n (λ x. q .2 (sub-node u n c p x)) (l .0 .1) (g .0)))
+        (λ g. inr (inr (
+          l .0 .0,
+          inr (
+            l .0 .1,
+            (
+              d + g .1 .0,
+              branch (Opened s b × Every (Idle s) c) (Opened s c × Every (Idle s) b) (Left apply K s′ W′ args b ρ o (g .1 .0))
+                  (Left apply K s′ W′ args c ρ o (g .1 .0)) (Left apply K s W args b ρ o (d + g .1 .0))
+                  (Left apply K s W args c ρ o (d + g .1 .0))
+                  (λ x t. absurd (idle-not s u moving c (x .1) p))
+                  (λ x t. back-opened c (λ ρ′ o′ k′ l′ f′ h′. left-within c (q .5) p ρ′ o′ k′ l′ f′ h′) p ρ o (g .1 .0) (x .0) (f .2) t)
+                  (s .value (id a)) (s′ .value (id a)) (keeps (id a) (λ x. q .7 (id a) (node-id a) (sub-node u (id a) c p x)) .2)
+                  (l .2) (g .1 .1),
+              omega (arith, g .1 .2),
+            ),
           ),
         )))
-    left-within (bind n ds b) h (inl p) ρ o k l f g = here (bind n ds b) p ρ o k l f g
-    left-within (bind n ds b) h (inr (inl p)) ρ o k (inl l) f g = absurd (idle-not* s u moving ds (l .1) p)
-    left-within (bind n ds b) h (inr (inl p)) ρ o k (inr (inl l)) f (inl g) =
-        absurd (not-over n o k (λ x. h .0 (sub-node* u n ds p x)) (l .0 .0) g)
-    left-within (bind n ds b) h (inr (inl p)) ρ o k (inr (inl l)) f (inr (inl g)) =
-        absurd (not-fresh (bind n ds b) ρ o k (λ x. h .0 (sub-node* u n ds p x)) (l .0 .0) g)
-    left-within (bind n ds b) h (inr (inl p)) ρ o k (inr (inl l)) f (inr (inr (inl g))) =
-        inr (inr (inl (
-          l .0,
-          (
-            g .1 .0,
-            d + g .1 .1,
-            g .1 .2,
-            left-within* ds (h .2) p ρ (g .1 .0) (g .1 .1) (l .1) (f .0) (g .1 .3),
-            g .1 .4,
-            omega (arith, g .1 .5),
+        (going (cond n a b c) (λ x. q .2 (sub-node u n c p x)) (l .0 .0) ρ o k h)
+    left-within (bind n ds b) q (inl p) ρ o k l f h = here (bind n ds b) p ρ o k l f h
+    left-within (bind n ds b) q (inr (inl p)) ρ o k (inl l) f h = absurd (idle-not* s u moving ds (l .1) p)
+    left-within (bind n ds b) q (inr (inl p)) ρ o k (inr (inl l)) f h =
+        ⊎-elim (λ g. inr (inr (
+          l .0 .0,
+          inl (
+            l .0 .1,
+            (
+              g .1 .0,
+              d + g .1 .1,
+              g .1 .2,
+              left-within* ds (q .2) p ρ (g .1 .0) (g .1 .1) (l .1) (f .0) (g .1 .3),
+              g .1 .4,
+              omega (arith, g .1 .5),
+            ),
+          ),
+        ))) (λ g. absurd (phases n (λ x. q .0 (sub-node* u n ds p x)) (l .0 .1) (g .0)))
+        (going (bind n ds b) (λ x. q .0 (sub-node* u n ds p x)) (l .0 .0) ρ o k h)
+    left-within (bind n ds b) q (inr (inl p)) ρ o k (inr (inr l)) f h = absurd (done-not* s u moving ds (l .1) p)
+    left-within (bind n ds b) q (inr (inr p)) ρ o k (inl l) f h = absurd (idle-not s u moving b (l .2) p)
+    left-within (bind n ds b) q (inr (inr p)) ρ o k (inr (inl l)) f h = absurd (idle-not s u moving b (l .2) p)
+    left-within (bind n ds b) q (inr (inr p)) ρ o k (inr (inr l)) f h =
+        ⊎-elim (λ g. absurd (phases′ n (λ x. q .1 (sub-node u n b p x)) (l .0 .1) (g .0)))
+        (λ g. inr (inr (
+          l .0 .0,
+          inr (
+            l .0 .1,
+            (
+              d + g .1 .0,
+              back-opened b (λ ρ′ o′ k′ l′ f′ h′. left-within b (q .3) p ρ′ o′ k′ l′ f′ h′) p (extend ds (values
+                  (s .value) ds) ρ) o (g .1 .0)
+                  (l .2) (f .1) (subst (λ vs. Left apply K s′ W′ args b (extend ds vs ρ) o (g .1 .0))
+                  (values-over apply K s s′ W W′ args (λ m. Node m u) keeps expects ds (λ m k x. q .4 m k (sub-node u m b p x))) (g .1 .1)),
+              omega (arith, g .1 .2),
+            ),
           ),
         )))
-    left-within (bind n ds b) h (inr (inl p)) ρ o k (inr (inl l)) f (inr (inr (inr g))) =
-        absurd (phases n (λ x. h .0 (sub-node* u n ds p x)) (l .0 .1) (g .0 .1))
-    left-within (bind n ds b) h (inr (inl p)) ρ o k (inr (inr l)) f g = absurd (done-not* s u moving ds (l .1) p)
-    left-within (bind n ds b) h (inr (inr p)) ρ o k (inl l) f g = absurd (idle-not s u moving b (l .2) p)
-    left-within (bind n ds b) h (inr (inr p)) ρ o k (inr (inl l)) f g = absurd (idle-not s u moving b (l .2) p)
-    left-within (bind n ds b) h (inr (inr p)) ρ o k (inr (inr l)) f (inl g) =
-        absurd (not-over n o k (λ x. h .1 (sub-node u n b p x)) (l .0 .0) g)
-    left-within (bind n ds b) h (inr (inr p)) ρ o k (inr (inr l)) f (inr (inl g)) =
-        absurd (not-fresh (bind n ds b) ρ o k (λ x. h .1 (sub-node u n b p x)) (l .0 .0) g)
-    left-within (bind n ds b) h (inr (inr p)) ρ o k (inr (inr l)) f (inr (inr (inl g))) =
-        absurd (phases′ n (λ x. h .1 (sub-node u n b p x)) (l .0 .1) (g .0 .1))
-    left-within (bind n ds b) h (inr (inr p)) ρ o k (inr (inr l)) f (inr (inr (inr g))) =
-        inr (inr (inr (
-          l .0,
-          (
-            d + g .1 .0,
-            back-opened b (λ ρ′ o′ k′ l′ f′ h′. left-within b (h .3) p ρ′ o′ k′ l′ f′ h′) p (extend ds (values (s .value) ds) ρ) o
-                (g .1 .0) (l .2)
-                (f .1)
-                (subst (λ vs. Left apply K s′ W′ args b (extend ds vs ρ) o (g .1 .0))
-                (values-over apply K s s′ W W′ args Y keeps expects ds (λ m k x. h .4 m k (sub-node u m b p x))) (g .1 .1)),
-            omega (arith, g .1 .2),
-          ),
-        )))
-    left-within (bound n i) a p ρ o k l f g = here (bound n i) p ρ o k l f g
+        (going (bind n ds b) (λ x. q .1 (sub-node u n b p x)) (l .0 .0) ρ o k h)
+    left-within (bound n i) a p ρ o k l f h = here (bound n i) p ρ o k l f h
 
     pub left-within* : (es : Exprs) → Apart* es → Sub* u es → (ρ : ℕ → ℕ) (vs : List ℕ) (j : ℕ) → Opened* s es → Fits* (s .value) es ρ
         → Left* apply K s′ W′ args es ρ vs j → Left* apply K s W args es ρ vs (d + j)
@@ -371,7 +325,7 @@ module _ (apply : ℕ → List ℕ → ℕ) (K : Readings) (s s′ : View) (W W�
       d + h .2,
       h .3,
       back-opened e (λ ρ′ o′ k′ l′ f′ h′. left-within e (a .0) p ρ′ o′ k′ l′ f′ h′) p ρ (val (h .0)) (h .2) (l .0) (f .0) (h .4),
-      left-over* apply K s s′ W W′ args Y keeps expects es (λ m k x. a .2 m (sub-node u m e p x) k) ρ (h .1) (h .3) (h .5),
+      left-over* apply K s s′ W W′ args (λ m. Node m u) keeps expects es (λ m k x. a .2 m (sub-node u m e p x) k) ρ (h .1) (h .3) (h .5),
       h .6,
       omega (arith, h .7),
     )
@@ -380,7 +334,8 @@ module _ (apply : ℕ → List ℕ → ℕ) (K : Readings) (s s′ : View) (W W�
       h .1,
       h .2,
       d + h .3,
-      left-over apply K s s′ W W′ args Y keeps expects e (λ m k x. a .2 m k (sub-node* u m es p x)) ρ (val (h .0)) (h .2) (h .4),
+      left-over apply K s s′ W W′ args (λ m. Node m u) keeps expects e (λ m k x. a .2 m k (sub-node* u m es p x)) ρ (val (h .0))
+          (h .2) (h .4),
       left-within* es (a .1) p ρ (h .1) (h .3) (l .1) (f .1) (h .5),
       h .6,
       omega (arith, h .7),

@@ -57,3 +57,4 @@ pub mod TotalEnter
 pub mod Total
 pub mod Answers
 pub mod Levels
+pub mod Unique

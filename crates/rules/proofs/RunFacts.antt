@@ -19,7 +19,6 @@ use Rattle.rules.specs.Companions.{UnderAnyTags, RunDemand, DriveDemand}
 use Rattle.rules.proofs.Logs.{played-state, played-nodes, asks-join}
 use Rattle.rules.proofs.Demands.{Passes, start-passes, under-any-tags}
 use Rattle.rules.proofs.AnyState.{refused-unchanged, done-none}
-use Rattle.table.specs.Check as TableCheck
 
 module _ (t tags : List ℕ) where
   -- a play of one more number

@@ -126,7 +126,7 @@ module _ (s : View) (n : ℕ) (es : Exprs) (at : s .status n ≡ 2) (ready : Fin
     self-left (cond m x y z) t (inr (inr (inl p))) (inl l) ρ = absurd (idle-not s U moves y (l .2) p)
     self-left (cond m x y z) t (inr (inr (inl p))) (inr (inl l)) ρ = absurd (idle-not s U moves y (l .2) p)
     self-left (cond m x y z) t (inr (inr (inl p))) (inr (inr l)) ρ =
-        inr (inr (inr (l .0, (1, go (λ l′. self-left y (t .1) p l′ ρ) (s .value (id x)) (l .2), refl))))
+        inr (inr (l .0 .0, inr (l .0 .1, (1, go (λ l′. self-left y (t .1) p l′ ρ) (s .value (id x)) (l .2), refl))))
       where
         go : (Live s y → One y ρ) → (v : ℕ) → Chosen (Opened s y × Every (Idle s) z) (Opened s z × Every (Idle s) y) v
             → Chosen (One y ρ) (One z ρ) v
@@ -135,7 +135,7 @@ module _ (s : View) (n : ℕ) (es : Exprs) (at : s .status n ≡ 2) (ready : Fin
     self-left (cond m x y z) t (inr (inr (inr p))) (inl l) ρ = absurd (idle-not s U moves z (l .3) p)
     self-left (cond m x y z) t (inr (inr (inr p))) (inr (inl l)) ρ = absurd (idle-not s U moves z (l .3) p)
     self-left (cond m x y z) t (inr (inr (inr p))) (inr (inr l)) ρ =
-        inr (inr (inr (l .0, (1, go (λ l′. self-left z (t .2) p l′ ρ) (s .value (id x)) (l .2), refl))))
+        inr (inr (l .0 .0, inr (l .0 .1, (1, go (λ l′. self-left z (t .2) p l′ ρ) (s .value (id x)) (l .2), refl))))
       where
         go : (Live s z → One z ρ) → (v : ℕ) → Chosen (Opened s y × Every (Idle s) z) (Opened s z × Every (Idle s) y) v
             → Chosen (One y ρ) (One z ρ) v
@@ -146,13 +146,16 @@ module _ (s : View) (n : ℕ) (es : Exprs) (at : s .status n ≡ 2) (ready : Fin
     self-left (bind m ds b) t (inr (inr p)) (inl l) ρ = absurd (idle-not s U moves b (l .2) p)
     self-left (bind m ds b) t (inr (inr p)) (inr (inl l)) ρ = absurd (idle-not s U moves b (l .2) p)
     self-left (bind m ds b) t (inr (inr p)) (inr (inr l)) ρ =
-        inr (inr (inr (
-          l .0,
-          (
-            1,
-            left-opened b (extend ds (values (s .value) ds) ρ) (λ l′. self-left b (t .1) p l′ (extend ds (values (s .value) ds) ρ)) p
-                (l .2),
-            refl,
+        inr (inr (
+          l .0 .0,
+          inr (
+            l .0 .1,
+            (
+              1,
+              left-opened b (extend ds (values (s .value) ds) ρ) (λ l′. self-left b (t .1) p l′ (extend ds (values
+                  (s .value) ds) ρ)) p (l .2),
+              refl,
+            ),
           ),
-        )))
+        ))
     self-left (bound m d) t p l ρ = mine (bound m d) p ρ

@@ -1,5 +1,5 @@
 -- a start is a started circuit of the abstract proof
-use Prim.Native.Nat.{ℕ, zero, suc, _+_, _≤_}
+use Prim.Native.Nat.{ℕ, zero, suc, _≤_}
 use mathlib.Core.Bool.{false}
 use mathlib.Core.Path.{_≡_, refl, subst, sym, ap, _∙_}
 use mathlib.Core.Logic.{inl}
@@ -10,9 +10,7 @@ use lib.ListN.{length, getD, length-replicate}
 use Rattle.table.specs.Syntax.{Expr, id, Node}
 use Rattle.rules.proofs.Shape.{Still, Idle}
 use Rattle.table.proofs.SyntaxLaws.{node-id}
-use Rattle.rules.specs.Reading.{Readings, Reads, Outcome}
 use Rattle.rules.proofs.Invariant.{Fn}
-use Rattle.rules.proofs.Remaining.{Ends, nowhere}
 use Rattle.rules.proofs.Answers.{Started}
 use Rattle.rules.proofs.StateLaws.{length-write, length-fill, entry-same, entry-other, fill-mine}
 use Rattle.rules.specs.State.{Sized, entry, view, blank, circuitStart}
@@ -76,22 +74,19 @@ module _ (apply : ℕ → List ℕ → ℕ) {F N : ℕ} {body at : ℕ → Expr}
   unfolding circuitStart
   given h i = fill-mine F args (blank 256 0) i (laid .some-function) (laid .functions) (length-blank 256 0) h
 
-  module _ (K : Readings)
-      (reads : (f v : ℕ) (vs : List ℕ) (o : Outcome) (j i : ℕ) → Fn apply F body f
-      → Reads apply K (λ x. getD vs x 0) (body f) (nowhere apply F body K) o j → Ends apply F body K f o v i → K f vs v (j + i)) where
-    pub start-started : length args ≤ 8 → Started apply F body (laid .well) K reads (view (circuitStart F body args)) args
-    start-started h = record {
-      main = (
-        (open-root, no-second (id (body F))),
-        under-all (Idle (view (circuitStart F body args))) (body F) (laid .well .apart F (laid .some-function) (omega arith))
-            (λ m k d. others-idle m d),
-      );
-      others = λ f q d. every-all (Still (view (circuitStart F body args))) (body f)
-          (λ m k. let i = others-idle m (elsewhere f q d m k) in (inl (i .0), i .1));
-      free = all-free;
-      arguments = given h;
-    }
-      where
-        elsewhere : (f : ℕ) → Fn apply F body f → (f ≡ F → ⊥) → (m : ℕ) → Node m (body f) → m ≡ id (body F) → ⊥
-        elsewhere f q d m k e = d (laid .well .owner f F m (q .0) (q .1) (fn-main .0) (fn-main .1) k
-            (subst (λ x. Node x (body F)) (sym e) (node-id (body F))))
+  pub start-started : length args ≤ 8 → Started apply F body (laid .well) (view (circuitStart F body args)) args
+  start-started h = record {
+    main = (
+      (open-root, no-second (id (body F))),
+      under-all (Idle (view (circuitStart F body args))) (body F) (laid .well .apart F (laid .some-function) (omega arith))
+          (λ m k d. others-idle m d),
+    );
+    others = λ f q d. every-all (Still (view (circuitStart F body args))) (body f)
+        (λ m k. let i = others-idle m (elsewhere f q d m k) in (inl (i .0), i .1));
+    free = all-free;
+    arguments = given h;
+  }
+    where
+      elsewhere : (f : ℕ) → Fn apply F body f → (f ≡ F → ⊥) → (m : ℕ) → Node m (body f) → m ≡ id (body F) → ⊥
+      elsewhere f q d m k e = d (laid .well .owner f F m (q .0) (q .1) (fn-main .0) (fn-main .1) k
+          (subst (λ x. Node x (body F)) (sym e) (node-id (body F))))

@@ -10,6 +10,7 @@ use lib.Dec.{eqb, ltb}
 use lib.ListN.{length, getD, set, length-set, List·getD-eq-default}
 use lib.Seq.{getD-set-same, getD-set-other}
 use borrow.Author.Tests.{eq-eqb, ne-eqb, ltb-true, ltb-false, lt-ltb}
+use native.Mathlib.Nat.{add-suc, suc-add}
 use Rattle.table.specs.Pick.{pick}
 use Rattle.rules.specs.State.{entry, write, register, alter, fill, clear, opened, In}
 
@@ -65,21 +66,19 @@ module _ {A : Type 0} where
     plus-zero : (k : ℕ) → k ≡ k + 0
     plus-zero k = omega arith
 
-    plus-suc : (k i : ℕ) → suc k + i ≡ k + suc i
-    plus-suc k i = omega arith
-
     pub getD-alter : (k : ℕ) (l : List A) (i : ℕ) (d : A) → i < length l → getD (alter f k l) i d ≡ f (k + i) (getD l i d)
     unfolding alter
     getD-alter k [] i d h = absurd (omega arith)
     getD-alter k (x ∷ xs) zero d h = ap (λ j. f j x) (plus-zero k)
-    getD-alter k (x ∷ xs) (suc i) d h = getD-alter (suc k) xs i d (omega arith) ∙ ap (λ j. f j (getD xs i d)) (plus-suc k i)
+    getD-alter k (x ∷ xs) (suc i) d h = getD-alter (suc k) xs i d (omega arith)
+        ∙ ap (λ j. f j (getD xs i d)) (suc-add k i ∙ sym (add-suc k i))
 
     -- what f leaves as it is
     pub getD-altered : (k : ℕ) (l : List A) (i : ℕ) (d : A) → ((x : A) → f (k + i) x ≡ x) → getD (alter f k l) i d ≡ getD l i d
     unfolding alter
     getD-altered k [] i d h = refl
     getD-altered k (x ∷ xs) zero d h = ap (λ j. f j x) (plus-zero k) ∙ h x
-    getD-altered k (x ∷ xs) (suc i) d h = getD-altered (suc k) xs i d (λ y. ap (λ j. f j y) (plus-suc k i) ∙ h y)
+    getD-altered k (x ∷ xs) (suc i) d h = getD-altered (suc k) xs i d (λ y. ap (λ j. f j y) (suc-add k i ∙ sym (add-suc k i)) ∙ h y)
 
 one-plus : (n : ℕ) → suc n ≡ 1 + n
 one-plus n = omega arith

@@ -1,25 +1,23 @@
 -- what is left of the whole circuit falls by one with each step
-use Prim.Native.Nat.{ℕ, suc, _+_, _≤_, _<_}
+use Prim.Native.Nat.{ℕ, _+_, _≤_, _<_}
 use mathlib.Core.Path.{_≡_, refl, subst, sym, ap, _∙_, fun-ext}
-use mathlib.Core.Logic.{inl, inr, ⊎-elim}
+use mathlib.Core.Logic.{inl, inr}
 use mathlib.Core.List.{List}
 use native.Mathlib.Omega.{arith}
 use native.Mathlib.Decide.{ℕ-discrete}
-use lib.ListN.{getD}
 use Rattle.table.specs.Syntax.{Expr, Exprs, call, self, id, Node}
 use Rattle.rules.specs.State.{View}
 use Rattle.rules.proofs.Shape.{Live}
 use Rattle.table.specs.Environment.{values, put}
 use Rattle.rules.proofs.Left.{Left}
-use Rattle.rules.proofs.LeftFacts.{left-within}
 use Rattle.table.specs.Well.{CallIn, Well}
 use Rattle.table.proofs.CallPlaces.{call-node, sub-call, call-at}
 use Rattle.rules.proofs.SelfCalls.{self-left}
 use Rattle.rules.proofs.Invariant.{Step, inner, enter, leave, again, Fn, Active, LeaveStep, AgainStep, Sound, stepping}
 use Rattle.rules.specs.Reading.{Outcome, val, Readings, Reads}
-use Rattle.rules.proofs.Counts.{left-reads, over-left}
+use Rattle.rules.proofs.Counts.{left-reads, left-done, over-left}
 use Rattle.rules.proofs.SumLaws.{put-same, put-other, sum-put}
-use Rattle.rules.proofs.Remaining.{aside-rest′}
+use Rattle.rules.proofs.Remaining.{Closes, aside-rest′, own-rest}
 use Rattle.rules.proofs.TotalEnter.{inner-before, enter-before}
 use Rattle.rules.specs.Reading as Reading
 use Rattle.rules.proofs.Leave as Leave
@@ -42,10 +40,8 @@ module _ (apply : ℕ → List ℕ → ℕ) (F : ℕ) (body : ℕ → Expr) (K :
   abbrev Before : View → (ℕ → ℕ) → (ℕ → ℕ) → Type 0
   Before = Remaining.Before apply F body K
 
-  module _ (well : Well F body)
-      (reads : (f v : ℕ) (vs : List ℕ) (o : Outcome) (j i : ℕ) → Fn apply F body f → Reads apply K (λ x. getD vs x 0) (body f) nowhere o j
-      → Ends f o v i → K f vs v (j + i))
-      (s s′ : View) (sound : Sound apply F body s) (W′ R′ : ℕ → ℕ) (after : Expects s′ W′ R′) where
+  module _ (well : Well F body) (reads : Closes apply F body K) (s s′ : View) (sound : Sound apply F body s) (W′ R′ : ℕ
+      → ℕ) (after : Expects s′ W′ R′) where
     module _ (h : ℕ) (r : Fn apply F body h) (n g : ℕ) (es : Exprs) (st : LeaveStep apply F body s s′ h n g es) where
       g<h₃ : (1 ≤ g) × (g < h)
       g<h₃ = Leave.g<h apply F body well s s′ sound h r n g es st
@@ -72,7 +68,7 @@ module _ (apply : ℕ → List ℕ → ℕ) (F : ℕ) (body : ℕ → Expr) (K :
       W₃ = put W′ n got
 
       R₃ : ℕ → ℕ
-      R₃ = put R′ h (suc (R′ h))
+      R₃ = put R′ h (1 + R′ h)
 
       h≢g₃ : h ≡ g → ⊥
       h≢g₃ e = omega (arith, g<h₃ .1, e)
@@ -111,10 +107,9 @@ module _ (apply : ℕ → List ℕ → ℕ) (F : ℕ) (body : ℕ → Expr) (K :
       local₃ : (ρ : ℕ → ℕ) (o : Outcome) (k : ℕ) → Left apply K s′ W′ (s .register h) U₃ ρ o k
           → Left apply K s W₃ (s .register h) U₃ ρ o (1 + k)
       unfolding got
-      local₃ ρ o k (inl x) = inr (inr (inr (st .holds, x .1 ∙ ap val (st .becomes .2 ∙ sym W₃-n), omega (arith, x .2))))
-      local₃ ρ o k (inr (inl x)) = absurd (⊎-elim (λ y. omega (arith, y, st .becomes .0)) (λ y. omega (arith, y, st .becomes .0)) (x .0))
-      local₃ ρ o k (inr (inr (inl x))) = absurd (omega (arith, x .0 .0, st .becomes .0))
-      local₃ ρ o k (inr (inr (inr x))) = absurd (omega (arith, x .0 .0, st .becomes .0))
+      local₃ ρ o k x =
+          let y = left-done apply K s′ W′ (s .register h) U₃ (st .becomes .0) ρ o k x in
+          inr (inr (st .holds .0, inr (st .holds .1, y .1 ∙ ap val (st .becomes .2 ∙ sym W₃-n), omega (arith, y .2))))
 
       pub leave-before : Before s W′ R′
       unfolding R₃ got
@@ -125,25 +120,16 @@ module _ (apply : ℕ → List ℕ → ℕ) (F : ℕ) (body : ℕ → Expr) (K :
           active = λ f q a. act f q a (ℕ-discrete f h) (ℕ-discrete f g);
           rest = λ f q a. rst f q a (ℕ-discrete f g);
         },
-        omega (arith, sum-put F R′ h (suc (R′ h)) (r .0) (r .1)),
+        omega (arith, sum-put F R′ h (1 + R′ h) (r .0) (r .1)),
         sym (expects₃ 0 (λ e. n≢0₃ (sym e))),
       )
         where
-          own : Rest s W₃ h (W₃ (s .occupant h)) (suc (R′ h))
-          own =
-              let x = after .active h r (now₃ h h≢g₃ (lv₃ .0)) in
-              let y = subst (λ z. Left apply K s′ W′ z (body h) nowhere (x .0) (x .1)) (fun-ext (st .keepsFn h h≢g₃ .1)) (x .3) in (
-                x .0,
-                1 + x .1,
-                x .2,
-                left-within apply K s s′ W₃ W′ (s .register h) U₃ 1 (λ m k. st .keeps m (λ e. k (inl e)))
-                    (λ m k. expects₃ m (λ e. k (inl e)))
-                    (Leave.moving apply F body well s s′ sound h r n g es st) (λ ρ o k l f q. local₃ ρ o k q) (body h)
-                    (well .apart h (r .0) (r .1)) (st .place) nowhere (x .0) (x .1) (lv₃ .1) (well .fits h (s .value) (r .0) (r .1)) y,
-                subst (λ w. Ends h (x .0) w (x .2)) (expects₃ (s .occupant h) (other₃ h r h≢g₃)) (subst (λ w. Ends h (x .0) (W′ w) (x .2))
-                    (st .keepsFn h h≢g₃ .0) (x .4)),
-                omega (arith, x .5),
-              )
+          own : Rest s W₃ h (W₃ (s .occupant h)) (1 + R′ h)
+          own = own-rest apply F body K s s′ W′ W₃ h U₃ 1 (λ m k. st .keeps m (λ e. k (inl e))) (λ m k. expects₃ m (λ e. k (inl e)))
+              (Leave.moving apply F body well s s′ sound h r n g es st) (λ ρ o k l f q. local₃ ρ o k q) (well .apart h (r .0) (r .1))
+              (st .place) (lv₃ .1) (well .fits h (s .value) (r .0) (r .1)) (st .keepsFn h h≢g₃ .1) (W₃ (s .occupant h)) (R′ h)
+              (subst (λ w. Rest s′ W′ h w (R′ h)) (expects₃ (s .occupant h) (other₃ h r h≢g₃))
+              (subst (λ w. Rest s′ W′ h (W′ w) (R′ h)) (st .keepsFn h h≢g₃ .0) (after .active h r (now₃ h h≢g₃ (lv₃ .0)))))
 
           over : Rest s W₃ g (W₃ (s .occupant g)) 0
           over = (
@@ -157,13 +143,13 @@ module _ (apply : ℕ → List ℕ → ℕ) (F : ℕ) (body : ℕ → Expr) (K :
 
           act : (f : ℕ) → Fn apply F body f → Active apply F body s f → Dec (f ≡ h) → Dec (f ≡ g) → Rest s W₃ f (W₃ (s .occupant f)) (R₃ f)
           act f q a (yes e) d = subst (λ y. Rest s W₃ y (W₃ (s .occupant y)) (R₃ y)) (sym e) (subst (Rest s W₃ h (W₃ (s .occupant h)))
-              (sym (put-same R′ h (suc (R′ h)))) own)
+              (sym (put-same R′ h (1 + R′ h))) own)
           act f q a (no e) (yes d) =
               subst (λ y. Rest s W₃ y (W₃ (s .occupant y)) (R₃ y)) (sym d)
-              (subst (Rest s W₃ g (W₃ (s .occupant g))) (sym (put-other R′ h (suc (R′ h)) g (λ z. h≢g₃ (sym z))
+              (subst (Rest s W₃ g (W₃ (s .occupant g))) (sym (put-other R′ h (1 + R′ h) g (λ z. h≢g₃ (sym z))
               ∙ after .rest g fn-g₃ asleep₃)) over)
           act f q a (no e) (no d) =
-              subst (Rest s W₃ f (W₃ (s .occupant f))) (sym (put-other R′ h (suc (R′ h)) f e))
+              subst (Rest s W₃ f (W₃ (s .occupant f))) (sym (put-other R′ h (1 + R′ h) f e))
               (subst (λ y. Rest s W₃ f y (R′ f)) (expects₃ (s .occupant f) (other₃ f q d))
               (aside-rest′ apply F body K s s′ W′ (λ m. m ≡ n) (st .keeps) W₃ expects₃ f (W′ (s .occupant f)) (R′ f)
               (λ m k x. e (well .owner f h m (q .0) (q .1) (r .0) (r .1) k
@@ -172,7 +158,7 @@ module _ (apply : ℕ → List ℕ → ℕ) (F : ℕ) (body : ℕ → Expr) (K :
 
           rst : (f : ℕ) → Fn apply F body f → (Active apply F body s f → ⊥) → Dec (f ≡ g) → R₃ f ≡ 0
           rst f q a (yes e) = absurd (a (inr (λ z. n≢0₃ (sym mine₃ ∙ subst (λ y. s .occupant y ≡ 0) e z))))
-          rst f q a (no d) = put-other R′ h (suc (R′ h)) f (λ e. a (subst (Active apply F body s) (sym e) (lv₃ .0)))
+          rst f q a (no d) = put-other R′ h (1 + R′ h) f (λ e. a (subst (Active apply F body s) (sym e) (lv₃ .0)))
               ∙ after .rest f q (λ b. a (back b))
             where
               back : Active apply F body s′ f → Active apply F body s f
@@ -184,7 +170,7 @@ module _ (apply : ℕ → List ℕ → ℕ) (F : ℕ) (body : ℕ → Expr) (K :
       U₄ = self n es
 
       R₄ : ℕ → ℕ
-      R₄ = put R′ h (suc (R′ h))
+      R₄ = put R′ h (1 + R′ h)
 
       lv₄ : Active apply F body s h × Live s (body h)
       lv₄ = stepping apply F body well s s′ sound h r U₄ (st .place) (Again.moving apply F body well s s′ sound h r n es st)
@@ -199,11 +185,11 @@ module _ (apply : ℕ → List ℕ → ℕ) (F : ℕ) (body : ℕ → Expr) (K :
         W′,
         R₄,
         record { active = λ f q a. act f q a (ℕ-discrete f h); rest = λ f q a. rst f q a },
-        omega (arith, sum-put F R′ h (suc (R′ h)) (r .0) (r .1)),
+        omega (arith, sum-put F R′ h (1 + R′ h) (r .0) (r .1)),
         refl,
       )
         where
-          own : Rest s W′ h (W′ (s .occupant h)) (suc (R′ h))
+          own : Rest s W′ h (W′ (s .occupant h)) (1 + R′ h)
           own =
               let x = after .active h r (now₄ h (lv₄ .0)) in
               let p = left-reads apply K s′ W′ (s′ .register h) (body h) (inr (st .new .0 .0)) nowhere (x .0) (x .1) (x .3) in (
@@ -221,15 +207,15 @@ module _ (apply : ℕ → List ℕ → ℕ) (F : ℕ) (body : ℕ → Expr) (K :
 
           act : (f : ℕ) → Fn apply F body f → Active apply F body s f → Dec (f ≡ h) → Rest s W′ f (W′ (s .occupant f)) (R₄ f)
           act f q a (yes e) = subst (λ y. Rest s W′ y (W′ (s .occupant y)) (R₄ y)) (sym e) (subst (Rest s W′ h (W′ (s .occupant h)))
-              (sym (put-same R′ h (suc (R′ h)))) own)
+              (sym (put-same R′ h (1 + R′ h))) own)
           act f q a (no e) =
-              subst (Rest s W′ f (W′ (s .occupant f))) (sym (put-other R′ h (suc (R′ h)) f e))
+              subst (Rest s W′ f (W′ (s .occupant f))) (sym (put-other R′ h (1 + R′ h) f e))
               (aside-rest′ apply F body K s s′ W′ (λ m. Node m (body h)) (st .keeps) W′ (λ m y. refl) f (W′ (s .occupant f)) (R′ f)
               (λ m y z. e (well .owner f h m (q .0) (q .1) (r .0) (r .1) y z)) (st .keepsFn f e .1)
               (subst (λ y. Rest s′ W′ f (W′ y) (R′ f)) (st .keepsFn f e .0) (after .active f q (now₄ f a))))
 
           rst : (f : ℕ) → Fn apply F body f → (Active apply F body s f → ⊥) → R₄ f ≡ 0
-          rst f q a = put-other R′ h (suc (R′ h)) f (λ e. a (subst (Active apply F body s) (sym e) (lv₄ .0)))
+          rst f q a = put-other R′ h (1 + R′ h) f (λ e. a (subst (Active apply F body s) (sym e) (lv₄ .0)))
               ∙ after .rest f q (λ b. a (back b))
             where
               back : Active apply F body s′ f → Active apply F body s f

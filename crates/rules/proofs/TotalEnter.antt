@@ -6,7 +6,6 @@ use mathlib.Core.Logic.{_⊎_, inl, inr, ⊎-elim}
 use mathlib.Core.List.{List}
 use native.Mathlib.Omega.{arith}
 use native.Mathlib.Decide.{ℕ-discrete}
-use lib.ListN.{getD}
 use Rattle.table.specs.Syntax.{Expr, Exprs, call, id, Node}
 use Rattle.rules.specs.State.{View}
 use Rattle.rules.proofs.Shape.{Still, Live}
@@ -14,16 +13,15 @@ use Rattle.rules.proofs.Frame.{Same}
 use Rattle.table.proofs.SyntaxLaws.{sub-node}
 use Rattle.table.specs.Environment.{values, put}
 use Rattle.rules.proofs.Left.{Left}
-use Rattle.rules.proofs.LeftFacts.{left-over, left-within}
 use Rattle.rules.proofs.Mix.{mix, mix-out}
 use Rattle.table.proofs.CallPlaces.{call-node, sub-call}
 use Rattle.table.specs.Well.{Well}
 use Rattle.rules.proofs.Invariant.{InnerStep, Fn, Active, EnterStep, Sound, stepping, inner-moving}
 use Rattle.rules.specs.Reading.{Outcome, Readings, Reads}
-use Rattle.rules.proofs.Counts.{left-reads, over-left*, inner-left}
+use Rattle.rules.proofs.Counts.{left-reads, left-going, over-left*, inner-left}
 use Rattle.table.specs.Find.{total}
 use Rattle.rules.proofs.SumLaws.{put-same, put-other, sum-put}
-use Rattle.rules.proofs.Remaining.{aside-rest′}
+use Rattle.rules.proofs.Remaining.{Closes, aside-rest′, own-rest}
 use Rattle.rules.proofs.Enter as Enter
 use Rattle.rules.proofs.Remaining as Remaining
 
@@ -43,10 +41,8 @@ module _ (apply : ℕ → List ℕ → ℕ) (F : ℕ) (body : ℕ → Expr) (K :
   abbrev Before : View → (ℕ → ℕ) → (ℕ → ℕ) → Type 0
   Before = Remaining.Before apply F body K
 
-  module _ (well : Well F body)
-      (reads : (f v : ℕ) (vs : List ℕ) (o : Outcome) (j i : ℕ) → Fn apply F body f → Reads apply K (λ x. getD vs x 0) (body f) nowhere o j
-      → Ends f o v i → K f vs v (j + i))
-      (s s′ : View) (sound : Sound apply F body s) (W′ R′ : ℕ → ℕ) (after : Expects s′ W′ R′) where
+  module _ (well : Well F body) (reads : Closes apply F body K) (s s′ : View) (sound : Sound apply F body s) (W′ R′ : ℕ
+      → ℕ) (after : Expects s′ W′ R′) where
     module _ (h : ℕ) (r : Fn apply F body h) (u : Expr) (st : InnerStep apply F body s s′ h u) where
       mv : Still s (id u) → ⊥
       mv = inner-moving apply F body well s s′ sound (s .register h) u (st .rule)
@@ -55,7 +51,7 @@ module _ (apply : ℕ → List ℕ → ℕ) (F : ℕ) (body : ℕ → Expr) (K :
       lv = stepping apply F body well s s′ sound h r u (st .place) mv
 
       R₁ : ℕ → ℕ
-      R₁ = put R′ h (suc (R′ h))
+      R₁ = put R′ h (1 + R′ h)
 
       now : (f : ℕ) → Active apply F body s f → Active apply F body s′ f
       now f (inl e) = inl e
@@ -67,35 +63,27 @@ module _ (apply : ℕ → List ℕ → ℕ) (F : ℕ) (body : ℕ → Expr) (K :
         W′,
         R₁,
         record { active = λ f q a. act f q a (ℕ-discrete f h); rest = λ f q a. rst f q a },
-        omega (arith, sum-put F R′ h (suc (R′ h)) (r .0) (r .1)),
+        omega (arith, sum-put F R′ h (1 + R′ h) (r .0) (r .1)),
         refl,
       )
         where
-          own : Rest s W′ h (W′ (s .occupant h)) (suc (R′ h))
-          own =
-              let x = after .active h r (now h (lv .0)) in (
-                x .0,
-                1 + x .1,
-                x .2,
-                left-within apply K s s′ W′ W′ (s .register h) u 1 (st .keeps) (λ m y. refl) mv (λ ρ o k l f g. inner-left apply K s s′ W′
-                    (s .register h) u (st .rule) l ρ o k f g)
-                    (body h) (well .apart h (r .0) (r .1)) (st .place) nowhere (x .0) (x .1) (lv .1) (well .fits h (s .value) (r .0) (r .1))
-                    (subst (λ g. Left apply K s′ W′ g (body h) nowhere (x .0) (x .1)) (fun-ext (st .keepsFn h .1)) (x .3)),
-                subst (λ y. Ends h (x .0) (W′ y) (x .2)) (st .keepsFn h .0) (x .4),
-                omega (arith, x .5),
-              )
+          own : Rest s W′ h (W′ (s .occupant h)) (1 + R′ h)
+          own = own-rest apply F body K s s′ W′ W′ h u 1 (st .keeps) (λ m y. refl) mv
+              (λ ρ o k l f g. inner-left apply K s s′ W′ (s .register h) u (st .rule) l ρ o k f g) (well .apart h (r .0) (r .1)) (st .place)
+              (lv .1) (well .fits h (s .value) (r .0) (r .1)) (st .keepsFn h .1) (W′ (s .occupant h)) (R′ h)
+              (subst (λ y. Rest s′ W′ h (W′ y) (R′ h)) (st .keepsFn h .0) (after .active h r (now h (lv .0))))
 
           act : (f : ℕ) → Fn apply F body f → Active apply F body s f → Dec (f ≡ h) → Rest s W′ f (W′ (s .occupant f)) (R₁ f)
           act f q a (yes e) = subst (λ y. Rest s W′ y (W′ (s .occupant y)) (R₁ y)) (sym e) (subst (Rest s W′ h (W′ (s .occupant h)))
-              (sym (put-same R′ h (suc (R′ h)))) own)
+              (sym (put-same R′ h (1 + R′ h))) own)
           act f q a (no e) =
-              subst (Rest s W′ f (W′ (s .occupant f))) (sym (put-other R′ h (suc (R′ h)) f e))
+              subst (Rest s W′ f (W′ (s .occupant f))) (sym (put-other R′ h (1 + R′ h) f e))
               (aside-rest′ apply F body K s s′ W′ (λ m. Node m u) (st .keeps) W′ (λ m y. refl) f (W′ (s .occupant f)) (R′ f)
               (λ m y z. e (well .owner f h m (q .0) (q .1) (r .0) (r .1) y (sub-node u m (body h) (st .place) z))) (st .keepsFn f .1)
               (subst (λ y. Rest s′ W′ f (W′ y) (R′ f)) (st .keepsFn f .0) (after .active f q (now f a))))
 
           rst : (f : ℕ) → Fn apply F body f → (Active apply F body s f → ⊥) → R₁ f ≡ 0
-          rst f q a = put-other R′ h (suc (R′ h)) f (λ e. a (subst (Active apply F body s) (sym e) (lv .0)))
+          rst f q a = put-other R′ h (1 + R′ h) f (λ e. a (subst (Active apply F body s) (sym e) (lv .0)))
               ∙ after .rest f q (λ b. a (back b))
             where
               back : Active apply F body s′ f → Active apply F body s f
@@ -137,27 +125,26 @@ module _ (apply : ℕ → List ℕ → ℕ) (F : ℕ) (body : ℕ → Expr) (K :
 
       local₂ : (ρ : ℕ → ℕ) (o : Outcome) (k : ℕ) → Left apply K t₂ W′ (s .register h) U₂ ρ o k
           → Left apply K s W′ (s .register h) U₂ ρ o ((1 + R′ g) + k)
-      local₂ ρ o k (inl x) = absurd (omega (arith, x .0, at-t .0, st .enters .0))
-      local₂ ρ o k (inr (inl x)) = absurd (⊎-elim (λ y. omega (arith, y, at-t .0, st .enters .0))
-          (λ y. omega (arith, y, at-t .0, st .enters .0)) (x .0))
-      local₂ ρ o k (inr (inr (inl x))) = absurd (true≢false (sym (st .enters .1) ∙ sym (at-t .1) ∙ x .0 .1))
-      local₂ ρ o k (inr (inr (inr x))) =
-          inr (inr (inl (
-            st .waits,
-            (
-              values (s .value) es,
-              W′ n,
-              0,
-              R′ g,
-              over-left* apply K s W′ (s .register h) es ρ (st .ready),
-              called,
-              x .1,
-              omega (arith, x .2),
+      local₂ ρ o k x =
+          ⊎-elim (λ y. absurd (true≢false (sym (st .enters .1) ∙ sym (at-t .1) ∙ y .0))) (λ y. inr (inr (
+            st .waits .0,
+            inl (
+              st .waits .1,
+              (
+                values (s .value) es,
+                W′ n,
+                0,
+                R′ g,
+                over-left* apply K s W′ (s .register h) es ρ (st .ready),
+                called,
+                y .1,
+                omega (arith, y .2),
+              ),
             ),
-          )))
+          ))) (left-going apply K t₂ W′ (s .register h) U₂ (at-t .0 ∙ st .enters .0) ρ o k x)
 
       R₂ : ℕ → ℕ
-      R₂ = put (put R′ h (R′ h + suc (R′ g))) g 0
+      R₂ = put (put R′ h ((1 + R′ g) + R′ h)) g 0
 
       h≢g₂ : h ≡ g → ⊥
       h≢g₂ e = omega (arith, g<h₂ .1, e)
@@ -188,37 +175,30 @@ module _ (apply : ℕ → List ℕ → ℕ) (F : ℕ) (body : ℕ → Expr) (K :
           whole : total R₂ F ≡ suc (total R′ F)
           whole = omega (
             arith,
-            sum-put F (put R′ h (R′ h + suc (R′ g))) g 0 (fn-g₂ .0) (fn-g₂ .1),
-            sum-put F R′ h (R′ h + suc (R′ g)) (r .0) (r .1),
-            put-other R′ h (R′ h + suc (R′ g)) g (λ e. h≢g₂ (sym e)),
+            sum-put F (put R′ h ((1 + R′ g) + R′ h)) g 0 (fn-g₂ .0) (fn-g₂ .1),
+            sum-put F R′ h ((1 + R′ g) + R′ h) (r .0) (r .1),
+            put-other R′ h ((1 + R′ g) + R′ h) g (λ e. h≢g₂ (sym e)),
           )
 
-          own : Rest s W′ h (W′ (s .occupant h)) (R′ h + suc (R′ g))
+          own : Rest s W′ h (W′ (s .occupant h)) ((1 + R′ g) + R′ h)
           own =
-              let x = after .active h r (now₂ h h≢g₂ (lv₂ .0)) in
-              let y = subst (λ z. Left apply K s′ W′ z (body h) nowhere (x .0) (x .1)) (fun-ext (st .keepsFn h h≢g₂ .1)) (x .3) in
-              let z = left-over apply K t₂ s′ W′ W′ (s .register h) (λ m. Node m (body g)) (λ m k. mix-out (body g) s s′ m k) (λ m k. refl)
-              (body h) (Enter.apart-hg apply F body well s s′ sound h r n g es st) nowhere (x .0) (x .1) y in (
-                x .0,
-                (1 + R′ g) + x .1,
-                x .2,
-                left-within apply K s t₂ W′ W′ (s .register h) U₂ (1 + R′ g)
-                    (λ m k. Enter.keeps-t apply F body well s s′ sound h r n g es st m (λ e. k (inl e))) (λ m k. refl)
-                    (Enter.moving apply F body well s s′ sound h r n g es st) (λ ρ o k l f q. local₂ ρ o k q) (body h)
-                    (well .apart h (r .0) (r .1)) (st .place) nowhere (x .0) (x .1) (lv₂ .1) (well .fits h (s .value) (r .0) (r .1)) z,
-                subst (λ w. Ends h (x .0) (W′ w) (x .2)) (st .keepsFn h h≢g₂ .0) (x .4),
-                omega (arith, x .5),
-              )
+              let y = aside-rest′ apply F body K t₂ s′ W′ (λ m. Node m (body g)) (λ m k. mix-out (body g) s s′ m k) W′ (λ m k. refl) h
+              (W′ (s .occupant h)) (R′ h) (Enter.apart-hg apply F body well s s′ sound h r n g es st) (λ i. refl)
+              (subst (λ w. Rest s′ W′ h (W′ w) (R′ h)) (st .keepsFn h h≢g₂ .0) (after .active h r (now₂ h h≢g₂ (lv₂ .0)))) in
+              own-rest apply F body K s t₂ W′ W′ h U₂ (1 + R′ g)
+              (λ m k. Enter.keeps-t apply F body well s s′ sound h r n g es st m (λ e. k (inl e))) (λ m k. refl)
+              (Enter.moving apply F body well s s′ sound h r n g es st) (λ ρ o k l f q. local₂ ρ o k q) (well .apart h (r .0) (r .1))
+              (st .place) (lv₂ .1) (well .fits h (s .value) (r .0) (r .1)) (st .keepsFn h h≢g₂ .1) (W′ (s .occupant h)) (R′ h) y
 
           act : (f : ℕ) → Fn apply F body f → Active apply F body s f → Dec (f ≡ h) → Dec (f ≡ g) → Rest s W′ f (W′ (s .occupant f)) (R₂ f)
           act f q a d (yes e) = absurd (Enter.asleep apply F body well s s′ sound h r n g es st (subst (Active apply F body s) e a))
           act f q a (yes e) (no d) =
               subst (λ y. Rest s W′ y (W′ (s .occupant y)) (R₂ y)) (sym e)
-              (subst (Rest s W′ h (W′ (s .occupant h))) (sym (put-other (put R′ h (R′ h + suc (R′ g))) g 0 h h≢g₂
-              ∙ put-same R′ h (R′ h + suc (R′ g)))) own)
+              (subst (Rest s W′ h (W′ (s .occupant h))) (sym (put-other (put R′ h ((1 + R′ g) + R′ h)) g 0 h h≢g₂
+              ∙ put-same R′ h ((1 + R′ g) + R′ h))) own)
           act f q a (no e) (no d) =
-              subst (Rest s W′ f (W′ (s .occupant f))) (sym (put-other (put R′ h (R′ h + suc (R′ g))) g 0 f d
-              ∙ put-other R′ h (R′ h + suc (R′ g)) f e))
+              subst (Rest s W′ f (W′ (s .occupant f))) (sym (put-other (put R′ h ((1 + R′ g) + R′ h)) g 0 f d
+              ∙ put-other R′ h ((1 + R′ g) + R′ h) f e))
               (aside-rest′ apply F body K s s′ W′ X₂ (λ m x. st .keeps m (λ y. x (inl y)) (λ y. x (inr y))) W′ (λ m y. refl) f
               (W′ (s .occupant f)) (R′ f) clear
               (st .keepsFn f d .1)
@@ -230,9 +210,9 @@ module _ (apply : ℕ → List ℕ → ℕ) (F : ℕ) (body : ℕ → Expr) (K :
               clear m k (inr x) = d (well .owner f g m (q .0) (q .1) (fn-g₂ .0) (fn-g₂ .1) k x)
 
           rst : (f : ℕ) → Fn apply F body f → (Active apply F body s f → ⊥) → Dec (f ≡ g) → R₂ f ≡ 0
-          rst f q a (yes e) = subst (λ y. R₂ y ≡ 0) (sym e) (put-same (put R′ h (R′ h + suc (R′ g))) g 0)
+          rst f q a (yes e) = subst (λ y. R₂ y ≡ 0) (sym e) (put-same (put R′ h ((1 + R′ g) + R′ h)) g 0)
           rst f q a (no d) =
-              put-other (put R′ h (R′ h + suc (R′ g))) g 0 f d ∙ put-other R′ h (R′ h + suc (R′ g)) f
+              put-other (put R′ h ((1 + R′ g) + R′ h)) g 0 f d ∙ put-other R′ h ((1 + R′ g) + R′ h) f
               (λ e. a (subst (Active apply F body s) (sym e) (lv₂ .0))) ∙ after .rest f q (λ b. a (back b))
             where
               back : Active apply F body s′ f → Active apply F body s f

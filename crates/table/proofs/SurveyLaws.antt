@@ -1,11 +1,11 @@
 -- the survey of a table, from what its parts give
 use Prim.Native.Nat.{ℕ, zero, suc, _+_, _≤_, _<_}
-use mathlib.Core.Bool.{Bool, true, false, _&&_}
+use mathlib.Core.Bool.{Bool, true, false}
 use mathlib.Core.Path.{_≡_, refl, sym, ap, ap₂, _∙_}
-use mathlib.Core.List.{List, [], _∷_, map}
+use mathlib.Core.List.{List, map}
 use native.Mathlib.Omega.{arith}
-use native.Mathlib.Nat.{not-suc-le-zero, le-of-suc-le-suc}
-use lib.Dec.{T, leb, eqb→eq}
+use native.Mathlib.Nat.{not-suc-le-zero, le-of-suc-le-suc, add-suc, suc-add}
+use lib.Dec.{leb, eqb→eq}
 use lib.ListN.{length, getD, replicate, length-map, length-replicate, List·getD-map}
 use lib.Seq.{ext-getD}
 use borrow.Author.Tests.{le-leb, eq-eqb, ne-eqb}
@@ -20,7 +20,7 @@ use Rattle.table.specs.Pick.{pick}
 use Rattle.table.specs.Bytes.{functions, nodes, root}
 use Rattle.table.specs.Find.{all, lowest}
 use Rattle.table.specs.Naming.{owner, parent}
-use Rattle.table.specs.Check.{among, Verdict, accepted, refused, stage, sizes, whole, rootFits, linked, recordFits, formed, checkOf}
+use Rattle.table.specs.Check.{among, Verdict, accepted, refused, stage, sizes, whole, rootFits, linked, recordFits, checkOf}
 use Rattle.table.specs.Working.{Framed, Linked, Related, frameNumber, checkNodes, faultVerdict, asFunction, asNode}
 use Rattle.table.specs.Survey.{tabulate, ifAccepted, ofNode, ownersOf, parentsOf, blankOf, Surveyed, verdictOf}
 use Rattle.table.proofs.FindLaws.{both, all-passes, lowest-passes}
@@ -33,17 +33,14 @@ unfolding tabulate
 tabulate-length g zero n = refl
 tabulate-length g (suc k) n = ap suc (tabulate-length g k (suc n))
 
-tabulate-at : {A : Type 0} (g : ℕ → A) (d : A) (k n i : ℕ) → i < k → getD (tabulate g k n) i d ≡ g (n + i)
+pub tabulate-at : {A : Type 0} (g : ℕ → A) (d : A) (k n i : ℕ) → i < k → getD (tabulate g k n) i d ≡ g (n + i)
 unfolding tabulate
 tabulate-at g d zero n i h = absurd (not-suc-le-zero h)
 tabulate-at g d (suc k) n zero h = ap g (plus-zero n)
   where
     plus-zero : (n : ℕ) → n ≡ n + 0
     plus-zero n = omega arith
-tabulate-at g d (suc k) n (suc i) h = tabulate-at g d k (suc n) i (le-of-suc-le-suc h) ∙ ap g (plus-suc n i)
-  where
-    plus-suc : (n i : ℕ) → suc n + i ≡ n + suc i
-    plus-suc n i = omega arith
+tabulate-at g d (suc k) n (suc i) h = tabulate-at g d k (suc n) i (le-of-suc-le-suc h) ∙ ap g (suc-add n i ∙ sym (add-suc n i))
 
 pub by-elements : {A : Type 0} (g : ℕ → A) (d : A) (k : ℕ) (l : List A) → length l ≡ k → ((i : ℕ) → i < k → getD l i d ≡ g i)
     → l ≡ tabulate g k 0

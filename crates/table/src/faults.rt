@@ -6,13 +6,12 @@ use crate::kin::Kin;
 use crate::kinds;
 ghost use mathlib.Core.Path.{_≡_};
 ghost use mathlib.Core.Bool.{_&&_, _||_, not};
-ghost use Prim.Native.Nat.{ℕ, _+_, _*_, _<_, _≤_};
-ghost use lib.Dec.{eqb, ltb};
-ghost use lib.ListN.{length, getD};
-ghost use Rattle.table.specs.Pick.{pick};
-ghost use Rattle.table.specs.Bytes.{functions, nodes, params, kind, extra, word, first};
+ghost use Prim.Native.Nat.{_+_, _*_, _≤_};
+ghost use lib.Dec.{eqb};
+ghost use lib.ListN.{length};
+ghost use Rattle.table.specs.Bytes.{functions, nodes, params, kind, extra, word};
 ghost use Rattle.table.specs.Naming.{owner, tail as tailOf, underLast, inScope, chain};
-ghost use Rattle.table.specs.Check.{among, within, countsOf, counted, scoped, checkOf};
+ghost use Rattle.table.specs.Check.{among, counted, scoped};
 ghost use Rattle.table.specs.Working.{Framed, At, Linked, Related, Parents, NodeAt, better, faultAt, checkNodes, faultVerdict};
 
 // The lowest number met so far and the lowest node that meets it; 10, past the last number here, stands for none.

@@ -6,10 +6,10 @@ use crate::names::Names;
 ghost use mathlib.Core.Path.{_≡_};
 ghost use mathlib.Core.Bool.{true, _&&_};
 ghost use mathlib.Core.List.{map};
-ghost use Prim.Native.Nat.{ℕ, _+_, _*_, _<_, _≤_};
+ghost use Prim.Native.Nat.{_<_};
 ghost use lib.Dec.{eqb};
 ghost use Rattle.table.specs.Pick.{pick};
-ghost use Rattle.table.specs.Bytes.{first, nodes};
+ghost use Rattle.table.specs.Bytes.{first};
 ghost use Rattle.table.specs.Naming.{tailChild};
 ghost use Rattle.table.specs.Working.{Framed, At, Named, Related, asFunction, asNode};
 

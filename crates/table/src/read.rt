@@ -2,7 +2,7 @@
 use crate::Function;
 use crate::Node;
 ghost use mathlib.Core.Path.{_≡_};
-ghost use Prim.Native.Nat.{_+_, _-_, _*_, _<_, _≤_};
+ghost use Prim.Native.Nat.{_+_, _*_, _<_};
 ghost use Rattle.table.specs.Bytes.{byteAt, twoAt, fourAt, functions, nodes, functionAt, nodeAt};
 ghost use Rattle.table.specs.Bytes.{params, root, kind, extra, word, first, next};
 

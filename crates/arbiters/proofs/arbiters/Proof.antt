@@ -1,5 +1,5 @@
 -- `arbiters` meets its contract
-use Prim.Native.Nat.{ℕ, _-_, _≤_}
+use Prim.Native.Nat.{_-_, _≤_}
 use native.Mathlib.Omega.{arith}
 use Rattle.arbiters.proofs.arbiters.Statement.{statement}
 use Rattle.arbiters.proofs.arbiters.Tie as tie

@@ -1,5 +1,5 @@
 -- `show` meets its contract
-use mathlib.Core.Path.{_≡_, sym, ap, _∙_}
+use mathlib.Core.Path.{sym, ap, _∙_}
 use Rattle.table.specs.Survey.{verdictOf}
 use Rattle.list.proofs.RecordVerdicts.{few-arranged}
 use borrow.Author.Needs.{needs}
@@ -38,13 +38,17 @@ pair-requires-2 c κs = search needs
 
 arbiters-requires : tie.Need-arbiters-requires
 arbiters-requires c κs =
-    let a = c .before .before .before .before .before .before .list-records .ensures in
-    few-arranged _ _ _ _ a (sym (ap verdictOf (c .before .before .before .before .checked2 .given .1)) ∙ a .told) .0
+    let after-checked2 : tie.After-checked2 = search in
+    let after-list-records : tie.After-list-records = search in
+    let a = after-list-records .list-records .ensures in
+    few-arranged _ _ _ _ a (sym (ap verdictOf (after-checked2 .checked2 .given .1)) ∙ a .told) .0
 
 total-requires : tie.Need-total-requires
 total-requires c κs =
-    let a = c .before .before .before .before .before .before .before .list-records .ensures in
-    few-arranged _ _ _ _ a (sym (ap verdictOf (c .before .before .before .before .before .checked2 .given .1)) ∙ a .told) .1
+    let after-checked2 : tie.After-checked2 = search in
+    let after-list-records : tie.After-list-records = search in
+    let a = after-list-records .list-records .ensures in
+    few-arranged _ _ _ _ a (sym (ap verdictOf (after-checked2 .checked2 .given .1)) ∙ a .told) .1
 
 returns : tie.Need-returns
 returns c = search needs

@@ -1,6 +1,6 @@
 -- `total` meets its contract
 use mathlib.Core.Path.{sym}
-use Prim.Native.Nat.{ℕ, _+_, _/_, _≤_}
+use Prim.Native.Nat.{_+_, _/_}
 use native.Mathlib.Omega.{arith}
 use lib.Seq.{length-take-le}
 use borrow.Author.Needs.{needs}
@@ -17,7 +17,9 @@ array-borrow-prefix-tags : tie.Need-array-borrow-prefix-tags
 array-borrow-prefix-tags c = search needs
 
 slice-aggregate-counted : tie.Need-slice-aggregate-counted
-slice-aggregate-counted c = sym (length-take-le ((c .before .before .before .args .last .0 + 7) / 8) _ (omega arith))
+slice-aggregate-counted c =
+    let start : tie.Start = search in
+    sym (length-take-le ((start .args .last .0 + 7) / 8) _ (omega arith))
 
 counted-requires : tie.Need-counted-requires
 counted-requires c κs = search needs

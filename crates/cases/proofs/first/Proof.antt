@@ -5,30 +5,26 @@ use native.Mathlib.Omega.{arith}
 use borrow.Author.Needs.{needs}
 use Rattle.cases.proofs.first.Statement.{statement}
 use Rattle.cases.proofs.first.Tie as tie
-use Rattle.cases.proofs.first.Reads as reads
-use Rattle.cases.proofs.first.Lts as lts
-use Rattle.cases.proofs.say.Reads as say-reads
 
--- src/main.rt:88:19
 array-share-prefix-bytes : tie.Need-array-share-prefix-bytes
-array-share-prefix-bytes c = let n : length (c .before .before .before .args .table .at) ≡ 5260 = search needs in omega arith
+array-share-prefix-bytes c =
+    let start : tie.Start = search in
+    let n : length (start .args .table .at) ≡ 5260 = search needs in
+    omega arith
 
--- src/main.rt:88:19
 slice-aggregate-say : tie.Need-slice-aggregate-say
 slice-aggregate-say c =
-    let a = c .before .before .before .before .args in
+    let start : tie.Start = search in
+    let a = start .args in
     let n : length (a .table .at) ≡ 5260 = search needs in
     sym (length-take-le (a .len) (a .table .at) (omega arith))
 
--- src/main.rt:88:9
 say-requires : tie.Need-say-requires
 say-requires c κs = search needs
 
--- src/main.rt:85:1
 returns : tie.Need-returns
 returns c = search needs
 
--- src/main.rt:85:1
 returns-2 : tie.Need-returns-2
 returns-2 c = search needs
 

@@ -1,5 +1,5 @@
 -- `check_tags` meets its contract
-use mathlib.Core.Path.{_≡_, sym, ap, _∙_}
+use mathlib.Core.Path.{sym, ap, _∙_}
 use Rattle.table.specs.Survey.{verdictOf}
 use Rattle.list.proofs.TagVerdicts.{taken-by, at-check, after-check}
 use borrow.Author.Needs.{needs}
@@ -17,18 +17,23 @@ enum-known-checked-2 c = search needs
 
 held-requires : tie.Need-held-requires
 held-requires c κs =
-    let s = c .before .before .before .before .survey .ensures in
-    let k = taken-by _ _ _ (sym (ap verdictOf (c .before .checked2 .given .1)) ∙ s .checked) in
+    let after-checked2 : tie.After-checked2 = search in
+    let after-survey : tie.After-survey = search in
+    let s = after-survey .survey .ensures in
+    let k = taken-by _ _ _ (sym (ap verdictOf (after-checked2 .checked2 .given .1)) ∙ s .checked) in
     (k .0, s .owners, k .1, k .2)
 
 returns : tie.Need-returns
-returns c = at-check _ _ _ _ (sym (ap verdictOf (c .before .checked .given .1))
-    ∙ c .before .before .before .before .survey .ensures .checked)
+returns c =
+    let after-checked : tie.After-checked = search in
+    let after-survey : tie.After-survey = search in
+    at-check _ _ _ _ (sym (ap verdictOf (after-checked .checked .given .1)) ∙ after-survey .survey .ensures .checked)
 
 returns-2 : tie.Need-returns-2
 returns-2 c =
-    let k = taken-by _ _ _ (sym (ap verdictOf (c .before .before .checked2 .given .1))
-    ∙ c .before .before .before .before .before .survey .ensures .checked) in
+    let after-checked2 : tie.After-checked2 = search in
+    let after-survey : tie.After-survey = search in
+    let k = taken-by _ _ _ (sym (ap verdictOf (after-checked2 .checked2 .given .1)) ∙ after-survey .survey .ensures .checked) in
     after-check _ _ _ (k .0) (c .held .ensures)
 
 pub check-tags-spec : {M : Type 1} → statement M

@@ -1,11 +1,10 @@
 -- `fill_tags` meets its contract
-use mathlib.Core.Path.{_≡_, sym, ap, _∙_}
+use mathlib.Core.Path.{sym, ap, _∙_}
 use native.Mathlib.Omega.{arith}
 use borrow.Author.Needs.{needs}
 use Rattle.table.specs.Survey.{verdictOf}
 use Rattle.list.proofs.NodeLaws.{few}
 use Rattle.list.proofs.TagVerdicts.{taken-by, fill-refused, fill-wrong, fill-right}
-use borrow.Author.Needs.{needs}
 use Rattle.list.proofs.fill_tags.Statement.{statement}
 use Rattle.list.proofs.fill_tags.Tie as tie
 
@@ -26,25 +25,31 @@ add-if1 c = search needs
 
 returns : tie.Need-returns
 returns c =
-    let k = taken-by _ _ _ (sym (ap verdictOf (c .before .before .before .checked2 .given .1))
-    ∙ c .before .before .before .before .before .check .ensures) in
+    let after-checked2 : tie.After-checked2 = search in
+    let after-check : tie.After-check = search in
+    let k = taken-by _ _ _ (sym (ap verdictOf (after-checked2 .checked2 .given .1)) ∙ after-check .check .ensures) in
     let r = fill-wrong _ (k .0) _ _ (k .2) (c .if1 .taken) in
     (r .verdict, r .tags)
 
 arbiters-requires : tie.Need-arbiters-requires
-arbiters-requires c κs = taken-by _ _ _ (sym (ap verdictOf (c .before .before .before .checked2 .given .1))
-    ∙ c .before .before .before .before .before .check .ensures) .0
+arbiters-requires c κs =
+    let after-checked2 : tie.After-checked2 = search in
+    let after-check : tie.After-check = search in
+    taken-by _ _ _ (sym (ap verdictOf (after-checked2 .checked2 .given .1)) ∙ after-check .check .ensures) .0
 
 copy-requires : tie.Need-copy-requires
 copy-requires c κs =
-    let k = taken-by _ _ _ (sym (ap verdictOf (c .before .before .before .before .before .checked2 .given .1))
-    ∙ c .before .before .before .before .before .before .before .check .ensures) in
-    omega (arith, c .before .before .if1 .left, k .2, few _ (k .0) .1)
+    let else1 : tie.Else1 = search in
+    let after-checked2 : tie.After-checked2 = search in
+    let after-check : tie.After-check = search in
+    let k = taken-by _ _ _ (sym (ap verdictOf (after-checked2 .checked2 .given .1)) ∙ after-check .check .ensures) in
+    omega (arith, else1 .if1 .left, k .2, few _ (k .0) .1)
 
 returns-2 : tie.Need-returns-2
 returns-2 c =
-    let r = fill-refused _ (c .before .before .before .before .before .before .args .tags .now) _ _ (sym (ap verdictOf
-    (c .before .checked .given .1)) ∙ c .before .before .before .check .ensures) in
+    let after-checked : tie.After-checked = search in
+    let after-check : tie.After-check = search in
+    let r = fill-refused _ _ _ _ (sym (ap verdictOf (after-checked .checked .given .1)) ∙ after-check .check .ensures) in
     (r .verdict, r .tags)
 
 same-length : tie.Need-same-length
@@ -52,14 +57,16 @@ same-length c = search needs
 
 returns-3 : tie.Need-returns-3
 returns-3 c =
-    let k = taken-by _ _ _ (sym (ap verdictOf (c .before .before .before .before .before .before .before .before .checked2 .given .1))
-    ∙ c .before .before .before .before .before .before .before .before .before .before .check .ensures) in
-    let set = c .before .before .before .before .arbiters .result in
-    let found = c .before .before .before .before .arbiters .ensures in
-    let r = fill-right _ (k .0)
-    (c .before .before .before .before .before .before .before .before .before .before .before .before
-    .before .args .tags .now) _ set _ _ _ (k .2) (k .1) (k .2) (c .before .before .before .before .before .if1 .left) (found .0)
-    (λ i. c .slice-known2 .given i .fits) (found .1) (c .before .before .copy .ensures) in
+    let after-copy : tie.After-copy = search in
+    let after-arbiters : tie.After-arbiters = search in
+    let else1 : tie.Else1 = search in
+    let after-checked2 : tie.After-checked2 = search in
+    let after-check : tie.After-check = search in
+    let k = taken-by _ _ _ (sym (ap verdictOf (after-checked2 .checked2 .given .1)) ∙ after-check .check .ensures) in
+    let set = after-arbiters .arbiters .result in
+    let found = after-arbiters .arbiters .ensures in
+    let r = fill-right _ (k .0) _ _ set _ _ _ (k .2) (k .1) (k .2) (else1 .if1 .left) (found .0) (λ i. c .slice-known2 .given i .fits)
+    (found .1) (after-copy .copy .ensures) in
     (r .verdict, r .tags)
 
 pub fill-tags-spec : {M : Type 1} → statement M

@@ -1,5 +1,5 @@
 -- `list_records` meets its contract
-use mathlib.Core.Path.{_≡_, sym, ap, _∙_}
+use mathlib.Core.Path.{sym, ap, _∙_}
 use Rattle.table.specs.Survey.{verdictOf}
 use Rattle.list.proofs.TagVerdicts.{taken-by}
 use Rattle.list.proofs.RecordVerdicts.{arrange-none, arrange-all}
@@ -20,25 +20,32 @@ enum-known-checked-2 : tie.Need-enum-known-checked-2
 enum-known-checked-2 c = search needs
 
 arbiters-requires : tie.Need-arbiters-requires
-arbiters-requires c κs = taken-by _ _ _ (sym (ap verdictOf (c .before .checked2 .given .1))
-    ∙ c .before .before .before .before .survey .ensures .checked) .0
+arbiters-requires c κs =
+    let after-checked2 : tie.After-checked2 = search in
+    let after-survey : tie.After-survey = search in
+    taken-by _ _ _ (sym (ap verdictOf (after-checked2 .checked2 .given .1)) ∙ after-survey .survey .ensures .checked) .0
 
 collect-requires : tie.Need-collect-requires
 collect-requires c κs =
-    let s = c .before .before .before .before .before .survey .ensures in
-    let k = taken-by _ _ _ (sym (ap verdictOf (c .before .before .checked2 .given .1)) ∙ s .checked) in
+    let after-checked2 : tie.After-checked2 = search in
+    let after-survey : tie.After-survey = search in
+    let s = after-survey .survey .ensures in
+    let k = taken-by _ _ _ (sym (ap verdictOf (after-checked2 .checked2 .given .1)) ∙ s .checked) in
     ((k .0, s .owners, k .1, k .2), c .arbiters .ensures .1)
 
 returns : tie.Need-returns
 returns c =
+    let after-checked : tie.After-checked = search in
+    let after-survey : tie.After-survey = search in
     let r = c .blank .ensures in
-    arrange-none _ _ _ _ (r .0) (r .1) (ap verdictOf (r .2)) (sym (ap verdictOf (c .before .before .checked .given .1))
-    ∙ c .before .before .before .before .before .survey .ensures .checked)
+    arrange-none _ _ _ _ (r .0) (r .1) (ap verdictOf (r .2)) (sym (ap verdictOf (after-checked .checked .given .1)) ∙ after-survey .survey
+    .ensures .checked)
 
 returns-2 : tie.Need-returns-2
 returns-2 c =
-    let k = taken-by _ _ _ (sym (ap verdictOf (c .before .before .before .checked2 .given .1))
-    ∙ c .before .before .before .before .before .before .survey .ensures .checked) in
+    let after-checked2 : tie.After-checked2 = search in
+    let after-survey : tie.After-survey = search in
+    let k = taken-by _ _ _ (sym (ap verdictOf (after-checked2 .checked2 .given .1)) ∙ after-survey .survey .ensures .checked) in
     arrange-all _ (k .0) _ (c .collect .ensures)
 
 pub list-records-spec : {M : Type 1} → statement M

@@ -1,6 +1,6 @@
 -- `total` meets its contract
-use mathlib.Core.Path.{_≡_, refl, sym, ap, _∙_}
-use Prim.Native.Nat.{ℕ, _+_, _-_, _%_, _^_, _≤_}
+use mathlib.Core.Path.{_≡_, sym, ap, _∙_}
+use Prim.Native.Nat.{_+_, _-_, _%_, _^_, _≤_}
 use native.Mathlib.Omega.{arith}
 use lib.Count.{ones, ones-le}
 use lib.ListN.{length, take, getD}
@@ -17,15 +17,19 @@ abbrev μ-loop : tie.MeasureT-loop
 μ-loop tags sum₀ i₀ sum i = length tags - i
 
 loop-holds : tie.Need-loop-holds Inv-loop μ-loop
-loop-holds c = (omega arith, ap (λ k. k % 2 ^ 64) (sym (total-none (c .before .args .tags .now))))
+loop-holds c =
+    let start : tie.Start Inv-loop μ-loop = search in
+    (omega arith, ap (λ k. k % 2 ^ 64) (sym (total-none (start .args .tags .now))))
 
 shared-slice-read-ones : tie.Need-shared-slice-read-ones Inv-loop μ-loop
 shared-slice-read-ones c = omega arith
 
 cast-wrapping-add-u64 : tie.Need-cast-wrapping-add-u64 Inv-loop μ-loop
 cast-wrapping-add-u64 c =
-    let i = c .before .before .loop .i in
-    let s = c .before .before .before .before .args .tags .now in
+    let at-loop : tie.At-loop Inv-loop μ-loop = search in
+    let start : tie.Start Inv-loop μ-loop = search in
+    let i = at-loop .loop .i in
+    let s = start .args .tags .now in
     record { fits = omega (arith, ones-le 8 (getD s i 0) (c .shared-slice-known2 .given i .fits)) }
 
 wrapping-add-u64-requires : tie.Need-wrapping-add-u64-requires Inv-loop μ-loop
@@ -39,17 +43,21 @@ loop-less c = omega arith
 
 loop-again : tie.Need-loop-again Inv-loop μ-loop
 loop-again c =
-    let i = c .before .before .before .loop .i in
-    let s = c .before .before .before .before .before .args .tags .now in (
+    let at-loop : tie.At-loop Inv-loop μ-loop = search in
+    let start : tie.Start Inv-loop μ-loop = search in
+    let i = at-loop .loop .i in
+    let s = start .args .tags .now in (
       omega arith,
-      c .wrapping-add-u64 .ensures ∙ ap (λ k. (k + ones (getD s i 0)) % 2 ^ 64) (c .before .before .before .loop .inv .1)
-          ∙ wrap-more (bitsSet (take i s)) (ones (getD s i 0)) (2 ^ 64) ∙ ap (λ k. k % 2 ^ 64) (sym (total-more s i (omega arith))),
+      c .wrapping-add-u64 .ensures ∙ ap (λ k. (k + ones (getD s i 0)) % 2 ^ 64) (at-loop .loop .inv .1) ∙ wrap-more
+          (bitsSet (take i s)) (ones (getD s i 0)) (2 ^ 64) ∙ ap (λ k. k % 2 ^ 64) (sym (total-more s i (omega arith))),
     )
 
 returns : tie.Need-returns Inv-loop μ-loop
 returns c =
-    let s = c .before .before .before .args .tags .now in
-    c .before .loop .inv .1 ∙ ap (λ l. bitsSet l % 2 ^ 64) (take-all (c .before .loop .i) s (omega arith))
+    let at-loop : tie.At-loop Inv-loop μ-loop = search in
+    let start : tie.Start Inv-loop μ-loop = search in
+    let s = start .args .tags .now in
+    at-loop .loop .inv .1 ∙ ap (λ l. bitsSet l % 2 ^ 64) (take-all (at-loop .loop .i) s (omega arith))
 
 pub total-spec : {M : Type 1} → statement M
 total-spec =

@@ -1,55 +1,44 @@
 use native.Mathlib.Omega.{arith}
 use borrow.Author.Needs.{needs}
 use mathlib.Core.Path.{_≡_, sym}
-use Prim.Native.Nat.{_-_}
 use lib.ListN.{length}
 use lib.Seq.{length-take-le}
 use Rattle.replay.proofs.begin.Statement.{statement}
 use Rattle.replay.proofs.begin.Tie as tie
 
--- src/main.rt:57:5
 fill-tags-requires : tie.Need-fill-tags-requires
 fill-tags-requires c κs = search needs
 
--- src/main.rt:58:41
 array-share-prefix-values : tie.Need-array-share-prefix-values
 array-share-prefix-values c = search needs
 
--- src/main.rt:58:41
 slice-aggregate-start : tie.Need-slice-aggregate-start
-slice-aggregate-start c = let l : length (c .before .before .before .before .before .before .before .before .args .t3) ≡ 9 = search
-    needs in sym (length-take-le (c .before .before .before .before .before .before .before .before .args .count) _
-    (omega (arith, l, c .before .before .before .before .before .before .before .before .pre)))
+slice-aggregate-start c =
+    let start : tie.Start = search in
+    let l : length (start .args .t3) ≡ 9 = search needs in
+    sym (length-take-le (start .args .count) _ (omega (arith, l, start .pre)))
 
--- src/main.rt:58:9
 blank-requires : tie.Need-blank-requires
 blank-requires c κs = search needs
 
--- src/main.rt:58:9
 start-requires : tie.Need-start-requires
 start-requires c κs = search needs
 
--- src/main.rt:60:9
 drive-requires : tie.Need-drive-requires
 drive-requires c κs = search needs
 
--- src/main.rt:62:9
 log-requires : tie.Need-log-requires
 log-requires c κs = search needs
 
--- src/main.rt:54:1
 same-length : tie.Need-same-length
 same-length c = search needs
 
--- src/main.rt:54:1
 returns : tie.Need-returns
 returns c = search needs
 
--- src/main.rt:54:1
 same-length-2 : tie.Need-same-length-2
 same-length-2 c = search needs
 
--- src/main.rt:54:1
 returns-2 : tie.Need-returns-2
 returns-2 c = search needs
 

@@ -16,63 +16,60 @@ Inv-loop2 table s end n functions f₀ f = f ≤ functions
 abbrev μ-loop2 : tie.MeasureT-loop2
 μ-loop2 table s end n functions f₀ f = functions - f
 
--- src/main.rt:131:22
 nodes-requires : tie.Need-nodes-requires Inv-loop μ-loop Inv-loop2 μ-loop2
 nodes-requires c κs = search needs
 
--- src/main.rt:131:9
 capped-requires : tie.Need-capped-requires Inv-loop μ-loop Inv-loop2 μ-loop2
 capped-requires c κs = search needs
 
--- src/main.rt:133:5
 loop-holds : tie.Need-loop-holds Inv-loop μ-loop Inv-loop2 μ-loop2
 loop-holds c = omega arith
 
--- src/main.rt:134:13
 add-n : tie.Need-add-n Inv-loop μ-loop Inv-loop2 μ-loop2
-add-n c = omega (arith, c .loop-test .taken, c .before .before .capped .ensures)
+add-n c =
+    let after-capped : tie.After-capped Inv-loop μ-loop Inv-loop2 μ-loop2 = search in
+    omega (arith, c .loop-test .taken, after-capped .capped .ensures)
 
--- src/main.rt:135:9
 show-node-requires : tie.Need-show-node-requires Inv-loop μ-loop Inv-loop2 μ-loop2
 show-node-requires c κs = search needs
 
--- src/main.rt:133:5
 loop-less : tie.Need-loop-less Inv-loop μ-loop Inv-loop2 μ-loop2
-loop-less c = omega (arith, c .before .loop-test .taken)
+loop-less c =
+    let in-loop : tie.In-loop Inv-loop μ-loop Inv-loop2 μ-loop2 = search in
+    omega (arith, in-loop .loop-test .taken)
 
--- src/main.rt:133:5
 loop-again : tie.Need-loop-again Inv-loop μ-loop Inv-loop2 μ-loop2
-loop-again c = omega (arith, c .before .loop-test .taken)
+loop-again c =
+    let in-loop : tie.In-loop Inv-loop μ-loop Inv-loop2 μ-loop2 = search in
+    omega (arith, in-loop .loop-test .taken)
 
--- src/main.rt:137:28
 functions-requires : tie.Need-functions-requires Inv-loop μ-loop Inv-loop2 μ-loop2
 functions-requires c κs = search needs
 
--- src/main.rt:137:9
 capped-requires-2 : tie.Need-capped-requires-2 Inv-loop μ-loop Inv-loop2 μ-loop2
 capped-requires-2 c κs = search needs
 
--- src/main.rt:139:5
 loop2-holds : tie.Need-loop2-holds Inv-loop μ-loop Inv-loop2 μ-loop2
 loop2-holds c = omega arith
 
--- src/main.rt:140:13
 add-f : tie.Need-add-f Inv-loop μ-loop Inv-loop2 μ-loop2
-add-f c = omega (arith, c .loop2-test .taken, c .before .before .capped2 .ensures)
+add-f c =
+    let after-capped2 : tie.After-capped2 Inv-loop μ-loop Inv-loop2 μ-loop2 = search in
+    omega (arith, c .loop2-test .taken, after-capped2 .capped2 .ensures)
 
--- src/main.rt:141:9
 show-function-requires : tie.Need-show-function-requires Inv-loop μ-loop Inv-loop2 μ-loop2
 show-function-requires c κs = search needs
 
--- src/main.rt:139:5
 loop2-less : tie.Need-loop2-less Inv-loop μ-loop Inv-loop2 μ-loop2
-loop2-less c = omega (arith, c .before .loop2-test .taken)
+loop2-less c =
+    let in-loop2 : tie.In-loop2 Inv-loop μ-loop Inv-loop2 μ-loop2 = search in
+    omega (arith, in-loop2 .loop2-test .taken)
 
--- src/main.rt:139:5
 loop2-again : tie.Need-loop2-again Inv-loop μ-loop Inv-loop2 μ-loop2
-loop2-again c = omega (arith, c .before .loop2-test .taken)
+loop2-again c =
+    let in-loop2 : tie.In-loop2 Inv-loop μ-loop Inv-loop2 μ-loop2 = search in
+    omega (arith, in-loop2 .loop2-test .taken)
 
--- src/main.rt:130:1
 returns : tie.Need-returns Inv-loop μ-loop Inv-loop2 μ-loop2
 returns c = search needs
 

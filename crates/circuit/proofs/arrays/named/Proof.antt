@@ -1,7 +1,7 @@
 use native.Mathlib.Omega.{arith}
 use borrow.Author.Needs.{needs}
 use mathlib.Core.Path.{_≡_, refl, sym, ap, _∙_}
-use Prim.Native.Nat.{_+_, _-_, _≤_}
+use Prim.Native.Nat.{_-_, _≤_}
 use lib.ListN.{length}
 use mathlib.Core.List.{map, _++_}
 use lib.ListN.{take, drop, replicate, length-replicate, length-map, length-set, List·getD-map}
@@ -18,52 +18,53 @@ Inv-loop raw r₀ i₀ r i = (i ≤ 32) × ((length r ≡ 32) × (r ≡ take i (
 abbrev μ-loop : tie.MeasureT-loop
 μ-loop raw r₀ i₀ r i = 32 - i
 
--- src/arrays.rt:27:5
 loop-holds : tie.Need-loop-holds Inv-loop μ-loop
 loop-holds c = (omega arith, (length-replicate 32 (asNode 0), refl))
 
--- src/arrays.rt:28:21
 mul-t7 : tie.Need-mul-t7 Inv-loop μ-loop
 mul-t7 c = search needs
 
--- src/arrays.rt:28:21
 array-read-t10 : tie.Need-array-read-t10 Inv-loop μ-loop
 array-read-t10 c = omega arith
 
--- src/arrays.rt:28:9
 mul-r : tie.Need-mul-r Inv-loop μ-loop
 mul-r c = search needs
 
--- src/arrays.rt:28:9
 array-set-from-r : tie.Need-array-set-from-r Inv-loop μ-loop
 array-set-from-r c = omega arith
 
--- src/arrays.rt:29:9
 add-i : tie.Need-add-i Inv-loop μ-loop
 add-i c = omega arith
 
--- src/arrays.rt:27:5
 loop-less : tie.Need-loop-less Inv-loop μ-loop
 loop-less c = omega arith
 
--- src/arrays.rt:27:5
 loop-again : tie.Need-loop-again Inv-loop μ-loop
-loop-again c = let raw = c .before .before .args .t1 in let i = c .before .loop .i in let l : length raw ≡ 32 = search needs in let m =
-    length-map raw asNode in (
+loop-again c =
+    let at-loop : tie.At-loop Inv-loop μ-loop = search in
+    let start : tie.Start Inv-loop μ-loop = search in
+    let raw = start .args .t1 in
+    let i = at-loop .loop .i in
+    let l : length raw ≡ 32 = search needs in
+    let m = length-map raw asNode in (
       omega arith,
       (
-        simp length-set (c .before .loop .inv .1 .0),
-        copied-more (asNode 0) _ i (map asNode raw)
-            (replicate 32 (asNode 0)) _ (omega (arith, m)) (omega (arith, length-replicate 32 (asNode 0))) (c .before .loop .inv .1 .1)
-            (sym (List·getD-map asNode raw i 0)),
+        simp length-set (at-loop .loop .inv .1 .0),
+        copied-more (asNode 0) _ i (map asNode raw) (replicate 32 (asNode 0)) _
+            (omega (arith, m)) (omega (arith, length-replicate 32 (asNode 0))) (at-loop .loop .inv .1 .1) (sym
+            (List·getD-map asNode raw i 0)),
       ),
     )
 
--- src/arrays.rt:22:1
 returns : tie.Need-returns Inv-loop μ-loop
-returns c = let raw = c .before .before .args .t1 in let l : length raw ≡ 32 = search needs in let m = length-map raw asNode in ap
-    numbers (copied-all (map asNode raw) (replicate 32 (asNode 0)) _ (c .before .loop .i)
-    (length-replicate 32 (asNode 0) ∙ sym l ∙ sym m) (omega (arith, m)) (c .before .loop .inv .1 .1)) ∙ numbered raw
+returns c =
+    let at-loop : tie.At-loop Inv-loop μ-loop = search in
+    let start : tie.Start Inv-loop μ-loop = search in
+    let raw = start .args .t1 in
+    let l : length raw ≡ 32 = search needs in
+    let m = length-map raw asNode in
+    ap numbers (copied-all (map asNode raw) (replicate 32 (asNode 0)) _ (at-loop .loop .i) (length-replicate 32 (asNode 0) ∙ sym l ∙ sym
+    m) (omega (arith, m)) (at-loop .loop .inv .1 .1)) ∙ numbered raw
 
 pub named-spec : {M : Type 1} → statement M
 named-spec =

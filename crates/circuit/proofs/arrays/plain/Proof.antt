@@ -1,7 +1,7 @@
 use native.Mathlib.Omega.{arith}
 use borrow.Author.Needs.{needs}
 use mathlib.Core.Path.{_≡_, refl, sym, _∙_}
-use Prim.Native.Nat.{ℕ, _+_, _-_, _≤_}
+use Prim.Native.Nat.{ℕ, _-_, _≤_}
 use lib.ListN.{length}
 use mathlib.Core.List.{_++_}
 use lib.ListN.{take, drop, replicate, length-replicate, length-map, length-set, List·getD-map}
@@ -16,52 +16,53 @@ Inv-loop raw r₀ i₀ r i = (i ≤ 32) × ((length r ≡ 32) × (r ≡ take i (
 abbrev μ-loop : tie.MeasureT-loop
 μ-loop raw r₀ i₀ r i = 32 - i
 
--- src/arrays.rt:14:5
 loop-holds : tie.Need-loop-holds Inv-loop μ-loop
 loop-holds c = (omega arith, (length-replicate {A = ℕ} 32 0, refl))
 
--- src/arrays.rt:15:17
 mul-n : tie.Need-mul-n Inv-loop μ-loop
 mul-n c = search needs
 
--- src/arrays.rt:15:17
 array-copy-out-n : tie.Need-array-copy-out-n Inv-loop μ-loop
 array-copy-out-n c = omega arith
 
--- src/arrays.rt:16:9
 mul-r : tie.Need-mul-r Inv-loop μ-loop
 mul-r c = search needs
 
--- src/arrays.rt:16:9
 array-write-r : tie.Need-array-write-r Inv-loop μ-loop
 array-write-r c = omega arith
 
--- src/arrays.rt:17:9
 add-i : tie.Need-add-i Inv-loop μ-loop
 add-i c = omega arith
 
--- src/arrays.rt:14:5
 loop-less : tie.Need-loop-less Inv-loop μ-loop
 loop-less c = omega arith
 
--- src/arrays.rt:14:5
 loop-again : tie.Need-loop-again Inv-loop μ-loop
-loop-again c = let raw = c .before .before .before .args .t1 in let i = c .before .before .loop .i in let l : length raw ≡ 32 = search
-    needs in let m = length-map raw (λ n. n .0) in (
+loop-again c =
+    let at-loop : tie.At-loop Inv-loop μ-loop = search in
+    let start : tie.Start Inv-loop μ-loop = search in
+    let raw = start .args .t1 in
+    let i = at-loop .loop .i in
+    let l : length raw ≡ 32 = search needs in
+    let m = length-map raw (λ n. n .0) in (
       omega arith,
       (
-        simp length-set (c .before .before .loop .inv .1 .0),
-        copied-more 0 _
-            i (numbers raw) (replicate 32 0) _ (omega (arith, m)) (omega (arith, length-replicate {A = ℕ} 32 0))
-            (c .before .before .loop .inv .1 .1) (sym (List·getD-map (λ n. n .0) raw i (record { 0 = 0 }))),
+        simp length-set (at-loop .loop .inv .1 .0),
+        copied-more 0 _ i (numbers raw) (replicate 32 0) _ (omega (arith, m))
+            (omega (arith, length-replicate {A = ℕ} 32 0)) (at-loop .loop .inv .1 .1) (sym (List·getD-map (λ n. n .0) raw i
+            (record { 0 = 0 }))),
       ),
     )
 
--- src/arrays.rt:9:1
 returns : tie.Need-returns Inv-loop μ-loop
-returns c = let raw = c .before .before .args .t1 in let l : length raw ≡ 32 = search needs in let m = length-map raw (λ n. n .0) in
-    copied-all (numbers raw) (replicate 32 0) _ (c .before .loop .i) (length-replicate {A = ℕ} 32 0 ∙ sym l ∙ sym m) (omega (arith, m))
-    (c .before .loop .inv .1 .1)
+returns c =
+    let at-loop : tie.At-loop Inv-loop μ-loop = search in
+    let start : tie.Start Inv-loop μ-loop = search in
+    let raw = start .args .t1 in
+    let l : length raw ≡ 32 = search needs in
+    let m = length-map raw (λ n. n .0) in
+    copied-all (numbers raw) (replicate 32 0) _ (at-loop .loop .i) (length-replicate {A = ℕ} 32 0 ∙ sym l ∙ sym m) (omega (arith, m))
+    (at-loop .loop .inv .1 .1)
 
 pub plain-spec : {M : Type 1} → statement M
 plain-spec =

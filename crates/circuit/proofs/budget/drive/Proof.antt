@@ -1,192 +1,101 @@
+-- `budget::drive` meets its contract: steps are picked while the run is going (`Loop`, `Turns`), then its end is told.
 mod Loop
 mod Turns
 use native.Mathlib.Omega.{arith}
 use borrow.Author.Needs.{needs}
 use mathlib.Core.Path.{refl}
-use Prim.Native.Nat.{_-_}
-use Rattle.rules.specs.State.{entry}
 use Rattle.circuit.specs.Meaning.{listsOf, endedOf, stateAs}
 use Rattle.circuit.proofs.EntryLaws.{named-state}
-use Rattle.circuit.proofs.DriveLaws.{goes-on, says-from}
-use Rattle.circuit.proofs.DriveLaws.{picks-from}
+use Rattle.circuit.proofs.DriveLaws.{says-from, picks-from}
 use Rattle.circuit.proofs.budget.drive.Statement.{statement}
 use Rattle.circuit.proofs.budget.drive.Tie as tie
-use Rattle.circuit.proofs.budget.drive.Proof.Loop.{Inv-loop, μ-loop, loop-holds}
+use Rattle.circuit.proofs.budget.drive.Proof.Loop.{Inv-loop, μ-loop, loop-holds, Start, Top, Head, Turn, Pick}
+use Rattle.circuit.proofs.budget.drive.Proof.Loop.{start, top, plain, head, turn, first, state, going}
 use Rattle.circuit.proofs.budget.drive.Proof.Turns.{loop-less, loop-again, loop-less-2, loop-again-2}
 
--- src/budget.rt:75:15
+-- the owners and the groups, read before the loop
+abbrev grouped : Top → tie.After-group Inv-loop μ-loop
+grouped c = search
+
+abbrev owned : Top → tie.After-owners Inv-loop μ-loop
+owned c = search
+
 owners-requires : tie.Need-owners-requires Inv-loop μ-loop
-owners-requires c κs = c .before .before .pre .0 .fair
+owners-requires c κs =
+    let s : Start = search in
+    s .pre .0 .fair
 
--- src/budget.rt:76:9
 group-requires : tie.Need-group-requires Inv-loop μ-loop
-group-requires c κs = (c .before .before .before .before .pre .0 .fair, c .before .owners .ensures)
+group-requires c κs =
+    let own : tie.After-owners Inv-loop μ-loop = search in
+    let s : Start = search in
+    (s .pre .0 .fair, own .owners .ensures)
 
--- src/budget.rt:79:9
 top-requires : tie.Need-top-requires Inv-loop μ-loop
-top-requires c κs = c .before .before .before .before .before .before .before .pre .0 .fair
+top-requires c κs =
+    let s : Start = search in
+    s .pre .0 .fair
 
--- src/budget.rt:85:21
 plain-requires : tie.Need-plain-requires Inv-loop μ-loop
 plain-requires c κs = search needs
 
--- src/budget.rt:90:11
 going-requires : tie.Need-going-requires Inv-loop μ-loop
-going-requires c κs = c .before .before .before .before .before .before .before .before .top .ensures .1
+going-requires c κs =
+    let t : Top = search in
+    t .top .ensures .1
 
--- src/budget.rt:91:13
 candidate-requires : tie.Need-candidate-requires Inv-loop μ-loop
-candidate-requires c κs = (
-  c .before .before .before .before .before .before .before .before .before .before .before .before .before .before .before .before
-      .before .before .before .before .before .before .before .before .before .pre .0 .fair,
-  c .before .before .before .before .before .before .before .before .before .before .before .before .before .before .before .before
-      .before .before .before .before .before .before .owners .ensures,
-  c .before .before .before .before .before .before .before .before .before .before .loop .inv .0,
-)
+candidate-requires c κs =
+    let h : Head = search in
+    let t = top (plain h) in
+    (start t .pre .0 .fair, owned t .owners .ensures, h .loop .inv .0)
 
--- src/budget.rt:102:13
 attempt-requires : tie.Need-attempt-requires Inv-loop μ-loop
-attempt-requires c κs = (
-  c .before .before .before .before .before .before .before .before .before .before .before .before .before .before .before .before
-      .before .before .before .before .before .before .before .before .before .before .before .before .before .before .before .before
-      .before .before .pre .0 .fair,
-  c .before .before .before .before .before .before .before .before .before .before .before .before .before .before .before .before
-      .before .before .before .before .before .before .before .before .before .before .before .before .before .before .before .owners
-      .ensures,
-  c .before .before .before .before .before .before .before .before .before .before .before .before .before .before .before
-      .before .before .before .before .before .before .before .before .before .before .before .before .before .before .group .ensures,
-)
+attempt-requires c κs =
+    let p : Pick = search in
+    let t = top (plain (head (turn p))) in
+    (start t .pre .0 .fair, owned t .owners .ensures, grouped t .group .ensures)
 
--- src/budget.rt:115:13
 add-taken : tie.Need-add-taken Inv-loop μ-loop
-add-taken c = omega (
-  arith,
-  (goes-on (c .before .before .before .before .before .before .before .before .before .before .before .before .before .before .before
-      .before .before .before .before .before .before .loop .rest)
-      (c .before .before .before .before .before .before .before .before .before .before .before .before .before .before .before .before
-      .before .before .before .before .before .loop .taken)
-      (c .before .before .before .before .before .before .before .before .before .before .before .before .before .before .before .before
-      .before .before .before .before .before .before .before .before .before .before .before .before .before .before .before .before
-      .before .before .before .before .args .budget)
-      (entry (c .before .before .before .before .before .before .before .before .before .before .before .before .before .before .before
-      .before .before .before .before .before .before .loop .status) 0
-      (c .before .before .before .before .before .before .before .before .before .before .before .before .before .before .before .before
-      .before .before .before .before .before .before .before .before .before .before .before .before .top .result .0))
-      (c .before .before .before .before .before .before .before .before .before .before .before .before .before .before .before .before
-      .before .before .before .going .result)
-      (c .before .before .before .before .before .before .before .before .before .before .before .before .before .before .before .before
-      .before .before .before .going .ensures)
-      (c .before .before .before .before .before .before .before .before .before .before .before .before .before .before .before .before
-      .before .before .if1 .taken)) .room,
-  c .before .before .before .before .before .before .before .before .before .before .before .before .before .before .before .before
-      .before .before .before .before .before .loop .inv .1,
-  c .before .before .before .before .before .before .before .before .before .before .before .before .before .before .before .before
-      .before .before .before .before .before .loop .inv .4,
-)
+add-taken c =
+    let t : Turn = search in
+    let h = head t in
+    omega (arith, going t .room, h .loop .inv .1, h .loop .inv .4)
 
--- src/budget.rt:116:13
 follow-requires : tie.Need-follow-requires Inv-loop μ-loop
-follow-requires c κs = (
-  c .before .before .before .before .before .before .before .before .before .before .before .before .before .before .before .before
-      .before .before .before .before .before .before .before .before .before .before .before .before .before .before .before .before
-      .before .before .before .before .before .before .before .pre .0 .fair,
-  c .before .before .before .before .before .before .before .before .before .before .before .before .before .before .before .before
-      .before .before .before .before .before .before .before .before .before .before .before .before .before .before .before .before
-      .before .before .before .before .owners .ensures,
-  c .before .before .before .before .attempt .ensures .taken
-      (c .before .before .before .if2 .taken) .0,
-  c .before .before .before .before .before .before .before .before .before .before .before .before .before .before .before .before
-      .before .before .before .before .before .before .before .before .loop .inv .0,
-)
+follow-requires c κs =
+    let done : tie.Then2 Inv-loop μ-loop = search in
+    let tried : tie.After-attempt Inv-loop μ-loop = search in
+    let p : Pick = search in
+    let h = head (turn p) in
+    let t = top (plain h) in
+    (start t .pre .0 .fair, owned t .owners .ensures, tried .attempt .ensures .taken (done .if2 .taken) .0, h .loop .inv .0)
 
--- src/budget.rt:119:13
 less-requires : tie.Need-less-requires Inv-loop μ-loop
 less-requires c κs = search needs
 
--- src/budget.rt:122:9
 end-of-requires : tie.Need-end-of-requires Inv-loop μ-loop
-end-of-requires c κs = (
-  c .before .before .before .before .before .before .before .before .before .before .before .before .before .before .before .before
-      .before .before .before .before .before .before .before .before .pre .0,
-  c .before .before .before .before .before .before .before .before .before .before .before .before .before .before .before .before
-      .before .before .before .before .before .owners .ensures,
-  c .before .before .before .before .before .before .before .before .before .before .before .before .before .before .before .before
-      .top .ensures .0,
-  c .before .before .before .before .before .before .before .before .before .before .before .before .before .before
-      .before .before .top .ensures .1,
-  c .before .before .before .before .before .before .before .before .before .loop .inv .2 .stands,
-)
+end-of-requires c κs =
+    let h : Head = search in
+    let t = top (plain h) in
+    (start t .pre .0, owned t .owners .ensures, t .top .ensures .0, t .top .ensures .1, h .loop .inv .2 .stands)
 
--- src/budget.rt:133:9
 named-requires : tie.Need-named-requires Inv-loop μ-loop
 named-requires c κs = search needs
 
--- src/budget.rt:71:1
 returns : tie.Need-returns Inv-loop μ-loop
-returns c = picks-from
-    (c .before .before .before .before .before .before .before .before .before .before .before .before .before .before .before .before
-    .before .before .before .before .before .before .before .before .before .before .args .table .now)
-    (c .before .before .before .before .before .before .before .before .before .before .before .before .before .before .before .before
-    .before .before .before .before .before .before .before .before .before .before .args .tags .now)
-    (stateAs (c .before .before .before .before .before .before .before .before .before .before .before .before .before .before .before
-    .before .before .before .before .before .before .before .before .before .before .before .args .s .status)
-    (c .before .before .before .before .before .before .before .before .before .before .before .before .before .before .before .before
-    .before .before .before .before .before .before .before .before .before .before .args .s .second)
-    (c .before .before .before .before .before .before .before .before .before .before .before .before .before .before .before .before
-    .before .before .before .before .before .before .before .before .before .before .args .s .value)
-    (c .before .before .before .before .before .before .before .before .before .before .before .before .before .before .before .before
-    .before .before .before .before .before .before .before .before .before .before .args .s .registers)
-    (c .before .before .before .before .before .before .before .before .before .before .before .before .plain .result))
-    (listsOf (c .before .before .before .before .before .before .before .before .before .before .before .before .before .before .before
-    .before .before .before .before .before .before .before .before .before .before .before .args .s))
-    (stateAs (c .before .before .before .before .before .before .before .before .before .before .before .loop .status)
-    (c .before .before .before .before .before .before .before .before .before .before .before .loop .second)
-    (c .before .before .before .before .before .before .before .before .before .before .before .loop .value)
-    (c .before .before .before .before .before .before .before .before .before .before .before .loop .registers)
-    (c .before .before .before .before .before .before .before .before .before .before .before .loop .plain)) _
-    (c .before .before .before .before .before .before .before .before .before .before .before .loop .taken)
-    (c .before .before .before .before .before .before .before .before .before .before .before .before .before .before .before .before
-    .before .before .before .before .before .before .before .before .before .before .args .budget) (endedOf (c .before .end-of .result))
-    (λ i. stateAs (c .before .before .before .before .before .before .before .before .before .before .before .before .before .before
-    .before .before .before .before .before .before .before .before .before .before .before .before .args .s .status)
-    (c .before .before .before .before .before .before .before .before .before .before .before .before .before .before .before .before
-    .before .before .before .before .before .before .before .before .before .before .args .s .second)
-    (c .before .before .before .before .before .before .before .before .before .before .before .before .before .before .before .before
-    .before .before .before .before .before .before .before .before .before .before .args .s .value)
-    (c .before .before .before .before .before .before .before .before .before .before .before .before .before .before .before .before
-    .before .before .before .before .before .before .before .before .before .before .args .s .registers)
-    (c .before .before .before .before .before .before .before .before .before .before .before .before .plain .ensures i))
-    (c .before .before .before .before .before .before .before .before .before .before .before .loop .inv .2)
-    (c .before .before .before .before .before .before .before .before .before .before .before .loop .inv .1)
-    (says-from (c .before .before .before .before .before .before .before .before .before .before .before .before .before .before
-    .before .before .before .before .before .before .before .before .before .before .before .before .args .table .now)
-    (c .before .before .before .before .before .before .before .before .before .before .before .before .before .before .before .before
-    .before .before .before .before .before .before .before .before .before .before .args .tags .now)
-    (c .before .before .before .before .before .before .before .before .before .before .before .before .before .before .before .before
-    .before .before .before .before .before .before .before .before .before .before .pre .0)
-    (stateAs (c .before .before .before .before .before .before .before .before .before .before .before .loop .status)
-    (c .before .before .before .before .before .before .before .before .before .before .before .loop .second)
-    (c .before .before .before .before .before .before .before .before .before .before .before .loop .value)
-    (c .before .before .before .before .before .before .before .before .before .before .before .loop .registers)
-    (c .before .before .before .before .before .before .before .before .before .before .before .loop .plain))
-    (c .before .before .before .before .before .before .before .before .before .before .before .loop .inv .2 .stands)
-    (c .before .before .before .before .before .before .before .before .before .before .before .before .before .before .before .before
-    .before .before .top .result .0)
-    (entry (c .before .before .before .before .before .before .before .before .before .before .before .loop .status) 0
-    (c .before .before .before .before .before .before .before .before .before .before .before .before .before .before .before .before
-    .before .before .top .result .0))
-    (c .before .before .before .before .before .before .before .before .before .before .before .before .before .before .before .before
-    .before .before .top .ensures .0) refl
-    (c .before .before .before .before .before .before .before .before .before .before .before .loop .rest)
-    (c .before .before .before .before .before .before .before .before .before .before .before .loop .taken)
-    (c .before .before .before .before .before .before .before .before .before .before .before .before .before .before .before .before
-    .before .before .before .before .before .before .before .before .before .before .args .budget)
-    (c .before .before .before .before .before .before .before .before .before .going .result)
-    (c .before .before .before .before .before .before .before .before .before .going .ensures)
-    (c .before .before .before .before .before .before .before .before .if1 .left)
-    (c .before .before .before .before .before .before .before .before .before .before .before .loop .inv .3)
-    (c .before .before .before .before .before .before .before .before .before .before .before .loop .inv .1)
-    (endedOf (c .before .end-of .result)) (c .before .end-of .ensures)) (named-state _ _ _ _ (c .named .result) _ (c .named .ensures))
+returns c =
+    let ended : tie.After-end-of Inv-loop μ-loop = search in
+    let over : tie.Else1 Inv-loop μ-loop = search in
+    let asked : tie.After-going Inv-loop μ-loop = search in
+    let h : Head = search in
+    let s = first h in
+    let a = s .args .s in
+    let l = h .loop in
+    let says = says-from _ _ (s .pre .0) (state h) (l .inv .2 .stands) _ _ (top (plain h) .top .ensures .0) refl _ _ _ _
+    (asked .going .ensures) (over .if1 .left) (l .inv .3) (l .inv .1) (endedOf (ended .end-of .result)) (ended .end-of .ensures) in
+    picks-from _ _ _ (listsOf a) (state h) _ _ _ _ (λ i. stateAs (a .status) (a .second) (a .value) (a .registers)
+    (plain h .plain .ensures i)) (l .inv .2) (l .inv .1) says (named-state _ _ _ _ (c .named .result) _ (c .named .ensures))
 
 pub drive-spec : {M : Type 1} → statement M
 drive-spec =

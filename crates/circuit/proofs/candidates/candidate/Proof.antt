@@ -1,30 +1,27 @@
 use native.Mathlib.Omega.{arith}
 use borrow.Author.Needs.{needs}
-use Prim.Native.Nat.{_-_}
 use Rattle.circuit.proofs.candidates.candidate.Statement.{statement}
 use Rattle.circuit.proofs.candidates.candidate.Tie as tie
 
--- src/candidates.rt:156:22
 sub-n : tie.Need-sub-n
 sub-n c = search needs
 
--- src/candidates.rt:156:16
 mul-n : tie.Need-mul-n
 mul-n c = search needs
 
--- src/candidates.rt:156:16
 element-copy-out-n : tie.Need-element-copy-out-n
 element-copy-out-n c = search needs
 
--- src/candidates.rt:156:9
 returns : tie.Need-returns
-returns c = λ z. absurd (omega (arith, c .before .if1 .taken))
+returns c =
+    let then1 : tie.Then1 = search in
+    λ z. absurd (omega (arith, then1 .if1 .taken))
 
--- src/candidates.rt:158:5
 find-requires : tie.Need-find-requires
-find-requires c κs = (c .before .before .pre .0, c .before .before .pre .1)
+find-requires c κs =
+    let start : tie.Start = search in
+    (start .pre .0, start .pre .1)
 
--- src/candidates.rt:140:1
 returns-2 : tie.Need-returns-2
 returns-2 c = search needs
 

@@ -1,31 +1,25 @@
 use native.Mathlib.Omega.{arith}
 use mathlib.Core.Path.{sym}
-use Prim.Native.Nat.{_-_}
 use Rattle.circuit.proofs.CellLaws.{write-none}
 use Rattle.rules.proofs.StateLaws.{write-at}
 use borrow.Author.Needs.{needs}
 use Rattle.circuit.proofs.cells.set_second.Statement.{statement}
 use Rattle.circuit.proofs.cells.set_second.Tie as tie
 
--- src/cells.rt:92:13
 cast-k : tie.Need-cast-k
 cast-k c = search needs
 
--- src/cells.rt:94:9
 returns : tie.Need-returns
-returns c = write-none (c .before .before .args .second .now) _ _ (c .if1 .taken)
+returns c = write-none _ _ _ (c .if1 .taken)
 
--- src/cells.rt:96:12
 sub-second : tie.Need-sub-second
 sub-second c = search needs
 
--- src/cells.rt:96:5
 element-write-second : tie.Need-element-write-second
 element-write-second c = search needs
 
--- src/cells.rt:88:1
 returns-2 : tie.Need-returns-2
-returns-2 c = sym (write-at (c .before .before .args .second .now) _ _ (omega arith))
+returns-2 c = sym (write-at _ _ _ (omega arith))
 
 pub set-second-spec : {M : Type 1} → statement M
 set-second-spec = tie.close (tie.spec cast-k returns sub-second element-write-second returns-2)

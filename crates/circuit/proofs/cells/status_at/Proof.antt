@@ -1,31 +1,25 @@
 use native.Mathlib.Omega.{arith}
 use mathlib.Core.Path.{sym}
-use Prim.Native.Nat.{_-_}
 use Rattle.circuit.proofs.CellLaws.{entry-none}
 use Rattle.rules.proofs.StateLaws.{entry-at}
 use borrow.Author.Needs.{needs}
 use Rattle.circuit.proofs.cells.status_at.Statement.{statement}
 use Rattle.circuit.proofs.cells.status_at.Tie as tie
 
--- src/cells.rt:13:13
 cast-k : tie.Need-cast-k
 cast-k c = search needs
 
--- src/cells.rt:15:9
 returns : tie.Need-returns
-returns c = entry-none (c .before .before .args .status .now) _ _ (c .if1 .taken)
+returns c = entry-none _ _ _ (c .if1 .taken)
 
--- src/cells.rt:17:12
 sub-result : tie.Need-sub-result
 sub-result c = search needs
 
--- src/cells.rt:17:5
 element-copy-out-result : tie.Need-element-copy-out-result
 element-copy-out-result c = search needs
 
--- src/cells.rt:9:1
 returns-2 : tie.Need-returns-2
-returns-2 c = sym (entry-at (c .before .before .before .args .status .now) _ _ (omega arith))
+returns-2 c = sym (entry-at _ _ _ (omega arith))
 
 pub status-at-spec : {M : Type 1} → statement M
 status-at-spec = tie.close (tie.spec cast-k returns sub-result element-copy-out-result returns-2)

@@ -1,7 +1,7 @@
 use native.Mathlib.Omega.{arith}
 use borrow.Author.Needs.{needs}
 use mathlib.Core.Path.{_≡_, refl, sym, _∙_}
-use Prim.Native.Nat.{_-_, _≤_}
+use Prim.Native.Nat.{_≤_}
 use Rattle.table.specs.Bytes.{nodes, next}
 use Rattle.table.specs.Naming.{chain}
 use Rattle.rules.specs.State.{entry}
@@ -17,70 +17,62 @@ Inv-loop table status at₀ on₀ at on = (at ≤ nodes table) × (1 ≤ at) × 
 abbrev μ-loop : tie.MeasureT-loop
 μ-loop table status at₀ on₀ at on = rest table on
 
--- src/chain.rt:37:18
 next-requires : tie.Need-next-requires Inv-loop μ-loop
 next-requires c κs = search needs
 
--- src/chain.rt:38:5
 loop-holds : tie.Need-loop-holds Inv-loop μ-loop
-loop-holds c = (c .before .before .pre .2, c .before .before .pre .1, c .next .ensures, refl)
+loop-holds c =
+    let start : tie.Start Inv-loop μ-loop = search in
+    (start .pre .2, start .pre .1, c .next .ensures, refl)
 
--- src/chain.rt:39:12
 status-at-requires : tie.Need-status-at-requires Inv-loop μ-loop
-status-at-requires c κs = omega (
-  arith,
-  c .before .loop .inv .0,
-  ok (c .before .before .before .before .args .table .now)
-      (c .before .before .before .before .pre .0) .N-high,
-)
+status-at-requires c κs =
+    let at-loop : tie.At-loop Inv-loop μ-loop = search in
+    let start : tie.Start Inv-loop μ-loop = search in
+    omega (arith, at-loop .loop .inv .0, ok _ (start .pre .0) .N-high)
 
--- src/chain.rt:40:13
 returns : tie.Need-returns Inv-loop μ-loop
-returns c = sym (c .before .before .before .loop .inv .3 ∙ defs-stop
-    (c .before .before .before .before .before .before .args .table .now) (c .before .before .before .before .before .before .pre .0)
-    (c .before .before .before .loop .at) (λ z. omega (arith, z, c .before .before .before .loop .inv .1))
-    (c .before .before .before .loop .inv .0) (c .before .before .before .loop .on) (c .before .before .before .loop .inv .2)
-    (entry (c .before .before .before .before .before .before .args .status .now) 0) (c .before .status-at .result)
-    (c .before .status-at .ensures) (c .before .before .loop-test .taken) (c .if1 .taken))
+returns c =
+    let after-status-at : tie.After-status-at Inv-loop μ-loop = search in
+    let in-loop : tie.In-loop Inv-loop μ-loop = search in
+    let at-loop : tie.At-loop Inv-loop μ-loop = search in
+    let start : tie.Start Inv-loop μ-loop = search in
+    sym (at-loop .loop .inv .3 ∙ defs-stop _ (start .pre .0) _ (λ z. omega (arith, z, at-loop .loop .inv .1)) (at-loop .loop .inv .0) _
+    (at-loop .loop .inv .2) (entry _ 0) _ (after-status-at .status-at .ensures) (in-loop .loop-test .taken) (c .if1 .taken))
 
--- src/chain.rt:43:14
 next-requires-2 : tie.Need-next-requires-2 Inv-loop μ-loop
 next-requires-2 c κs = search needs
 
--- src/chain.rt:38:5
 loop-less : tie.Need-loop-less Inv-loop μ-loop
-loop-less c = falls (c .before .before .before .before .before .before .before .args .table .now)
-    (c .before .before .before .before .before .before .before .pre .0) (c .before .before .before .before .loop .on)
-    (c .before .before .before .loop-test .taken) (next-in (c .before .before .before .before .before .before .before .args .table .now)
-    (c .before .before .before .before .before .before .before .pre .0) (c .before .before .before .before .loop .at)
-    (λ z. omega (arith, z, c .before .before .before .before .loop .inv .1)) (c .before .before .before .before .loop .inv .0)
-    (c .before .before .before .before .loop .on) (c .before .before .before .before .loop .inv .2)) _ (c .next2 .ensures)
+loop-less c =
+    let in-loop : tie.In-loop Inv-loop μ-loop = search in
+    let at-loop : tie.At-loop Inv-loop μ-loop = search in
+    let start : tie.Start Inv-loop μ-loop = search in
+    falls _ (start .pre .0) _ (in-loop .loop-test .taken) (next-in _ (start .pre .0) _ (λ z. omega (arith, z, at-loop .loop .inv .1))
+    (at-loop .loop .inv .0) _ (at-loop .loop .inv .2)) _ (c .next2 .ensures)
 
--- src/chain.rt:38:5
 loop-again : tie.Need-loop-again Inv-loop μ-loop
-loop-again c = (
-  next-in (c .before .before .before .before .before .before .before .args .table .now)
-      (c .before .before .before .before .before .before .before .pre .0) (c .before .before .before .before .loop .at)
-      (λ z. omega (arith, z, c .before .before .before .before .loop .inv .1)) (c .before .before .before .before .loop .inv .0)
-      (c .before .before .before .before .loop .on) (c .before .before .before .before .loop .inv .2),
-  omega
-      (arith, c .before .before .before .loop-test .taken),
-  c .next2 .ensures,
-  c .before .before .before .before .loop .inv .3 ∙ defs-more
-      (c .before .before .before .before .before .before .before .args .table .now)
-      (c .before .before .before .before .before .before .before .pre .0) (c .before .before .before .before .loop .at)
-      (λ z. omega (arith, z, c .before .before .before .before .loop .inv .1)) (c .before .before .before .before .loop .inv .0)
-      (c .before .before .before .before .loop .on) (c .before .before .before .before .loop .inv .2)
-      (entry (c .before .before .before .before .before .before .before .args .status .now) 0) (c .before .before .status-at .result)
-      (c .before .before .status-at .ensures) (c .before .before .before .loop-test .taken) (c .before .if1 .left),
-)
+loop-again c =
+    let else1 : tie.Else1 Inv-loop μ-loop = search in
+    let after-status-at : tie.After-status-at Inv-loop μ-loop = search in
+    let in-loop : tie.In-loop Inv-loop μ-loop = search in
+    let at-loop : tie.At-loop Inv-loop μ-loop = search in
+    let start : tie.Start Inv-loop μ-loop = search in (
+      next-in _ (start .pre .0) _ (λ z. omega (arith, z, at-loop .loop .inv .1)) (at-loop .loop .inv .0) _ (at-loop .loop .inv .2),
+      omega
+          (arith, in-loop .loop-test .taken),
+      c .next2 .ensures,
+      at-loop .loop .inv .3 ∙ defs-more _ (start .pre .0) _ (λ z. omega
+          (arith, z, at-loop .loop .inv .1)) (at-loop .loop .inv .0) _ (at-loop .loop .inv .2) (entry _ 0) _
+          (after-status-at .status-at .ensures) (in-loop .loop-test .taken) (else1 .if1 .left),
+    )
 
--- src/chain.rt:32:1
 returns-2 : tie.Need-returns-2 Inv-loop μ-loop
-returns-2 c = sym (c .before .loop .inv .3 ∙ defs-end (c .before .before .before .before .args .table .now)
-    (c .before .before .before .before .pre .0) (c .before .loop .at) (λ z. omega (arith, z, c .before .loop .inv .1))
-    (c .before .loop .inv .0) (c .before .loop .on) (c .before .loop .inv .2)
-    (entry (c .before .before .before .before .args .status .now) 0) (c .loop-test .left))
+returns-2 c =
+    let at-loop : tie.At-loop Inv-loop μ-loop = search in
+    let start : tie.Start Inv-loop μ-loop = search in
+    sym (at-loop .loop .inv .3 ∙ defs-end _ (start .pre .0) _ (λ z. omega (arith, z, at-loop .loop .inv .1)) (at-loop .loop .inv .0) _
+    (at-loop .loop .inv .2) (entry _ 0) (c .loop-test .left))
 
 pub defs-done-spec : {M : Type 1} → statement M
 defs-done-spec =

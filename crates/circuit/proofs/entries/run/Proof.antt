@@ -22,104 +22,69 @@ Inv-loop table tags nodes own heads links status₀ second₀ value₀ registers
 abbrev μ-loop : tie.MeasureT-loop
 μ-loop table tags nodes own heads links status₀ second₀ value₀ registers₀ plain₀ i₀ status second value registers plain i = length nodes - i
 
--- src/entries.rt:115:15
 owners-requires : tie.Need-owners-requires Inv-loop μ-loop
-owners-requires c κs = c .before .before .before .pre .0 .fair
+owners-requires c κs =
+    let start : tie.Start Inv-loop μ-loop = search in
+    start .pre .0 .fair
 
--- src/entries.rt:116:9
 group-requires : tie.Need-group-requires Inv-loop μ-loop
-group-requires c κs = (c .before .before .before .before .before .pre .0 .fair, c .before .owners .ensures)
+group-requires c κs =
+    let after-owners : tie.After-owners Inv-loop μ-loop = search in
+    let start : tie.Start Inv-loop μ-loop = search in
+    (start .pre .0 .fair, after-owners .owners .ensures)
 
--- src/entries.rt:124:21
 plain-requires : tie.Need-plain-requires Inv-loop μ-loop
 plain-requires c κs = search needs
 
--- src/entries.rt:126:5
 loop-holds : tie.Need-loop-holds Inv-loop μ-loop
-loop-holds c = (
-  omega arith,
-  subst
-      (Stands (c .before .before .before .before .before .before .before .before .before .before .before .before .before .before .args
-      .table .now)) (sym (λ i. stateAs
-      (c .before .before .before .before .before .before .before .before .before .before .before .before .before .before .args .s .status)
-      (c .before .before .before .before .before .before .before .before .before .before .before .before .before .before .args .s .second)
-      (c .before .before .before .before .before .before .before .before .before .before .before .before .before .before .args .s .value)
-      (c .before .before .before .before .before .before .before .before .before .before .before .before .before .before .args .s
-      .registers) (c .plain .ensures i)))
-      (c .before .before .before .before .before .before .before .before .before .before .before .before .before .before .pre .1),
-  run-begins _,
-  omega arith,
-)
+loop-holds c =
+    let start : tie.Start Inv-loop μ-loop = search in (
+      omega arith,
+      subst (Stands _) (sym (λ i. stateAs (start .args .s .status) (start .args .s .second) (start .args .s .value)
+          (start .args .s .registers) (c .plain .ensures i))) (start .pre .1),
+      run-begins _,
+      omega arith,
+    )
 
--- src/entries.rt:127:17
 mul-n : tie.Need-mul-n Inv-loop μ-loop
 mul-n c = search needs
 
--- src/entries.rt:127:17
 shared-slice-read-n : tie.Need-shared-slice-read-n Inv-loop μ-loop
 shared-slice-read-n c = omega arith
 
--- src/entries.rt:128:13
 turn-requires : tie.Need-turn-requires Inv-loop μ-loop
-turn-requires c κs = (
-  c .before .before .before .before .before .before .before .before .before .before .before .before .before .before
-      .before .before .before .before .before .before .before .before .before .before .before .pre .0 .fair,
-  c .before .before .before .before .before .before .before .before .before .before .before .before .before .before .before .before
-      .before .before .before .before .before .owners .ensures,
-  c .before .before .before .before .before .before .before .before .before .before .before .before .before .before .before .before
-      .before .before .before .group .ensures,
-  c .before .before .before .before .before .before .before .before .before .before .loop .inv .1,
-)
+turn-requires c κs =
+    let at-loop : tie.At-loop Inv-loop μ-loop = search in
+    let after-group : tie.After-group Inv-loop μ-loop = search in
+    let after-owners : tie.After-owners Inv-loop μ-loop = search in
+    let start : tie.Start Inv-loop μ-loop = search in
+    (start .pre .0 .fair, after-owners .owners .ensures, after-group .group .ensures, at-loop .loop .inv .1)
 
--- src/entries.rt:142:29
 enum-known-answer : tie.Need-enum-known-answer Inv-loop μ-loop
 enum-known-answer c = search needs
 
--- src/entries.rt:143:21
 named-requires : tie.Need-named-requires Inv-loop μ-loop
 named-requires c κs = search needs
 
--- src/entries.rt:151:17
+abbrev in-loop-of-after-turn : tie.After-turn Inv-loop μ-loop → tie.In-loop Inv-loop μ-loop
+in-loop-of-after-turn c = search
+
+abbrev start-of-after-plain : tie.After-plain Inv-loop μ-loop → tie.Start Inv-loop μ-loop
+start-of-after-plain c = search
+
 returns : tie.Need-returns Inv-loop μ-loop
-returns c = run-stops
-    (c .before .before .before .before .before .before .before .before .before .before .before .before .before .before .before .before
-    .before .before .before .before .before .before .before .before .before .before .before .before .before .before .args .table .now)
-    (c .before .before .before .before .before .before .before .before .before .before .before .before .before .before .before .before
-    .before .before .before .before .before .before .before .before .before .before .before .before .before .before .args .tags .now)
-    (c .before .before .before .before .before .before .before .before .before .before .before .before .before .before .before .before
-    .before .before .before .before .before .before .before .before .before .before .before .before .before .before .pre .0)
-    (stateAs (c .before .before .before .before .before .before .before .before .before .before .before .before .before .before .before
-    .loop .status) (c .before .before .before .before .before .before .before .before .before .before .before .before .before .before
-    .before .loop .second)
-    (c .before .before .before .before .before .before .before .before .before .before .before .before .before .before .before .loop
-    .value) (c .before .before .before .before .before .before .before .before .before .before .before .before .before .before .before
-    .loop .registers) (c .before .before .before .before .before .before .before .before .before .before .before .before .before
-    .before .before .loop .plain))
-    (c .before .before .before .before .before .before .before .before .before .before .before .before .before .before .before .before
-    .before .before .before .before .before .before .before .before .before .before .before .before .before .before .args .nodes .now)
-    (c .before .before .before .before .before .before .before .before .before .before .before .before .before .before .before .loop .i)
-    (c .before .before .before .before .before .before .before .before .before .before .before .before .before .before .loop-test
-    .taken) (replyOf (c .before .before .before .before .turn .result)) _ (c .before .before .before .before .turn .ensures) _ _
-    (ap replyOf (c .before .before .answer .given .1)) _ (named-state _ _ _ _ (c .named .result) _ (c .named .ensures)) ∙ sym
-    (c .before .before .before .before .before .before .before .before .before .before .before .before .before .before .before .loop
-    .inv .2) ∙ ap (λ s. runFrom
-    (c .before .before .before .before .before .before .before .before .before .before .before .before .before .before .before .before
-    .before .before .before .before .before .before .before .before .before .before .before .before .before .before .args .table .now)
-    (c .before .before .before .before .before .before .before .before .before .before .before .before .before .before .before .before
-    .before .before .before .before .before .before .before .before .before .before .before .before .before .before .args .tags .now) s
-    (c .before .before .before .before .before .before .before .before .before .before .before .before .before .before .before .before
-    .before .before .before .before .before .before .before .before .before .before .before .before .before .before .args .nodes .now))
-    (λ i. stateAs (c .before .before .before .before .before .before .before .before .before .before .before .before .before .before
-    .before .before .before .before .before .before .before .before .before .before .before .before .before .before .before .before
-    .args .s .status) (c .before .before .before .before .before .before .before .before .before .before .before .before .before
-    .before .before .before .before .before .before .before .before .before .before .before .before .before .before .before .before
-    .before .args .s .second)
-    (c .before .before .before .before .before .before .before .before .before .before .before .before .before .before .before .before
-    .before .before .before .before .before .before .before .before .before .before .before .before .before .before .args .s .value)
-    (c .before .before .before .before .before .before .before .before .before .before .before .before .before .before .before .before
-    .before .before .before .before .before .before .before .before .before .before .before .before .before .before .args .s .registers)
-    (c .before .before .before .before .before .before .before .before .before .before .before .before .before .before .before .before
-    .plain .ensures i))
+returns c =
+    let after-answer : tie.After-answer Inv-loop μ-loop = search in
+    let after-turn : tie.After-turn Inv-loop μ-loop = search in
+    let in-loop = in-loop-of-after-turn after-turn in
+    let at-loop : tie.At-loop Inv-loop μ-loop = search in
+    let after-plain : tie.After-plain Inv-loop μ-loop = search in
+    let start = start-of-after-plain after-plain in
+    run-stops _ _ (start .pre .0) (stateAs _ _ _ _ _) _ _ (in-loop .loop-test .taken) (replyOf (after-turn .turn .result)) _
+    (after-turn .turn .ensures) _ _ (ap replyOf (after-answer .answer .given .1)) _ (named-state _ _ _ _ (c .named .result) _
+    (c .named .ensures)) ∙ sym (at-loop .loop .inv .2) ∙ ap (λ s. runFrom (start .args .table .now) (start .args .tags .now) s
+    (start .args .nodes .now)) (λ i. stateAs (start .args .s .status) (start .args .s .second) (start .args .s .value)
+    (start .args .s .registers) (after-plain .plain .ensures i))
 
 enum-told : tie.Need-enum-told Inv-loop μ-loop
 enum-told c = search needs
@@ -127,108 +92,50 @@ enum-told c = search needs
 enum-told-2 : tie.Need-enum-told-2 Inv-loop μ-loop
 enum-told-2 c = search needs
 
--- src/entries.rt:160:9
 add-i : tie.Need-add-i Inv-loop μ-loop
-add-i c = omega (
-  arith,
-  c .before .before .before .before .before .before .before .before .before .before .before .loop-test .taken,
-  c .before .before .before .before .before .before .before .before .before .before .before .before .loop .inv .3,
-)
+add-i c =
+    let in-loop : tie.In-loop Inv-loop μ-loop = search in
+    let at-loop : tie.At-loop Inv-loop μ-loop = search in
+    omega (arith, in-loop .loop-test .taken, at-loop .loop .inv .3)
 
--- src/entries.rt:126:5
 loop-less : tie.Need-loop-less Inv-loop μ-loop
-loop-less c = omega (arith, c .before .before .before .before .before .before .before .before .before .before .before .loop-test .taken)
+loop-less c =
+    let in-loop : tie.In-loop Inv-loop μ-loop = search in
+    omega (arith, in-loop .loop-test .taken)
 
--- src/entries.rt:126:5
+abbrev start-of-at-loop : tie.At-loop Inv-loop μ-loop → tie.Start Inv-loop μ-loop
+start-of-at-loop c = search
+
 loop-again : tie.Need-loop-again Inv-loop μ-loop
-loop-again c = (
-  omega
-      (arith, c .before .before .before .before .before .before .before .before .before .before .before .loop-test .taken),
-  run-stands
-      (c .before .before .before .before .before .before .before .before .before .before .before .before .before .before .before .before
-      .before .before .before .before .before .before .before .before .before .before .before .args .table .now)
-      (c .before .before .before .before .before .before .before .before .before .before .before .before .before .before .before .before
-      .before .before .before .before .before .before .before .before .before .before .before .args .tags .now)
-      (c .before .before .before .before .before .before .before .before .before .before .before .before .before .before .before .before
-      .before .before .before .before .before .before .before .before .before .before .before .pre .0)
-      (stateAs (c .before .before .before .before .before .before .before .before .before .before .before .before .loop .status)
-      (c .before .before .before .before .before .before .before .before .before .before .before .before .loop .second)
-      (c .before .before .before .before .before .before .before .before .before .before .before .before .loop .value)
-      (c .before .before .before .before .before .before .before .before .before .before .before .before .loop .registers)
-      (c .before .before .before .before .before .before .before .before .before .before .before .before .loop .plain))
-      (c .before .before .before .before .before .before .before .before .before .before .before .before .before .before .before .before
-      .before .before .before .before .before .before .before .before .before .before .before .args .nodes .now)
-      (c .before .before .before .before .before .before .before .before .before .before .before .before .loop .i)
-      (c .before .before .before .before .before .before .before .before .before .before .before .loop-test .taken)
-      (replyOf (c .before .turn .result)) _ (c .before .turn .ensures)
-      (c .before .before .before .before .before .before .before .before .before .before .before .before .loop .inv .1),
-  c .before .before .before .before .before .before .before .before .before .before .before .before .loop .inv .2 ∙ ⊎-elim
-      (λ w. run-takes (c .before .before .before .before .before .before .before .before .before .before .before .before .before .before
-      .before .before .before .before .before .before .before .before .before .before .before .before .before .args .table .now)
-      (c .before .before .before .before .before .before .before .before .before .before .before .before .before .before .before .before
-      .before .before .before .before .before .before .before .before .before .before .before .args .tags .now)
-      (c .before .before .before .before .before .before .before .before .before .before .before .before .before .before .before .before
-      .before .before .before .before .before .before .before .before .before .before .before .pre .0)
-      (stateAs (c .before .before .before .before .before .before .before .before .before .before .before .before .loop .status)
-      (c .before .before .before .before .before .before .before .before .before .before .before .before .loop .second)
-      (c .before .before .before .before .before .before .before .before .before .before .before .before .loop .value)
-      (c .before .before .before .before .before .before .before .before .before .before .before .before .loop .registers)
-      (c .before .before .before .before .before .before .before .before .before .before .before .before .loop .plain))
-      (c .before .before .before .before .before .before .before .before .before .before .before .before .before .before .before .before
-      .before .before .before .before .before .before .before .before .before .before .before .args .nodes .now)
-      (c .before .before .before .before .before .before .before .before .before .before .before .before .loop .i)
-      (c .before .before .before .before .before .before .before .before .before .before .before .loop-test .taken)
-      (replyOf (c .before .turn .result)) _ (c .before .turn .ensures) (ap replyOf (w .1 .given .1)))
-      (λ w. run-answers (c .before .before .before .before .before .before .before .before .before .before .before .before .before
-      .before .before .before .before .before .before .before .before .before .before .before .before .before .before .args .table .now)
-      (c .before .before .before .before .before .before .before .before .before .before .before .before .before .before .before .before
-      .before .before .before .before .before .before .before .before .before .before .before .args .tags .now)
-      (c .before .before .before .before .before .before .before .before .before .before .before .before .before .before .before .before
-      .before .before .before .before .before .before .before .before .before .before .before .pre .0)
-      (stateAs (c .before .before .before .before .before .before .before .before .before .before .before .before .loop .status)
-      (c .before .before .before .before .before .before .before .before .before .before .before .before .loop .second)
-      (c .before .before .before .before .before .before .before .before .before .before .before .before .loop .value)
-      (c .before .before .before .before .before .before .before .before .before .before .before .before .loop .registers)
-      (c .before .before .before .before .before .before .before .before .before .before .before .before .loop .plain))
-      (c .before .before .before .before .before .before .before .before .before .before .before .before .before .before .before .before
-      .before .before .before .before .before .before .before .before .before .before .before .args .nodes .now)
-      (c .before .before .before .before .before .before .before .before .before .before .before .before .loop .i)
-      (c .before .before .before .before .before .before .before .before .before .before .before .loop-test .taken)
-      (replyOf (c .before .turn .result)) _ (c .before .turn .ensures) (ap replyOf (w .1 .given .1))) (c .match .came),
-  c .before .before .before .before .before .before .before .before .before .before .before .before .loop .inv .3,
-)
+loop-again c =
+    let after-turn : tie.After-turn Inv-loop μ-loop = search in
+    let in-loop : tie.In-loop Inv-loop μ-loop = search in
+    let at-loop : tie.At-loop Inv-loop μ-loop = search in
+    let start = start-of-at-loop at-loop in (
+      omega (arith, in-loop .loop-test .taken),
+      run-stands _ _ (start .pre .0) (stateAs _ _ _ _ _) (start .args .nodes .now) _
+          (in-loop .loop-test .taken) (replyOf (after-turn .turn .result)) _ (after-turn .turn .ensures) (at-loop .loop .inv .1),
+      at-loop
+          .loop .inv .2 ∙ ⊎-elim (λ w. run-takes _ _ (start .pre .0) (stateAs _ _ _ _ _) _ _ (in-loop .loop-test .taken)
+          (replyOf (after-turn .turn .result)) _ (after-turn .turn .ensures) (ap replyOf (w .1 .given .1))) (λ w. run-answers _ _
+          (start .pre .0) (stateAs _ _ _ _ _) _ _ (in-loop .loop-test .taken) (replyOf (after-turn .turn .result)) _
+          (after-turn .turn .ensures) (ap replyOf (w .1 .given .1))) (c .match .came),
+      at-loop .loop .inv .3,
+    )
 
--- src/entries.rt:162:9
 named-requires-2 : tie.Need-named-requires-2 Inv-loop μ-loop
 named-requires-2 c κs = search needs
 
--- src/entries.rt:111:1
 returns-2 : tie.Need-returns-2 Inv-loop μ-loop
-returns-2 c = run-ends
-    (c .before .before .before .before .before .before .before .before .before .before .before .before .before .before .before .before
-    .before .args .table .now)
-    (c .before .before .before .before .before .before .before .before .before .before .before .before .before .before .before .before
-    .before .args .tags .now)
-    (c .before .before .before .before .before .before .before .before .before .before .before .before .before .before .before .before
-    .before .pre .0) (stateAs (c .before .before .loop .status) (c .before .before .loop .second) (c .before .before .loop .value)
-    (c .before .before .loop .registers) (c .before .before .loop .plain))
-    (c .before .before .before .before .before .before .before .before .before .before .before .before .before .before .before .before
-    .before .args .nodes .now) (c .before .before .loop .i) (c .before .loop-test .left) _
-    (named-state _ _ _ _ (c .named2 .result) _ (c .named2 .ensures)) ∙ sym (c .before .before .loop .inv .2) ∙ ap
-    (λ s. runFrom (c .before .before .before .before .before .before .before .before .before .before .before .before .before .before
-    .before .before .before .args .table .now)
-    (c .before .before .before .before .before .before .before .before .before .before .before .before .before .before .before .before
-    .before .args .tags .now) s
-    (c .before .before .before .before .before .before .before .before .before .before .before .before .before .before .before .before
-    .before .args .nodes .now))
-    (λ i. stateAs (c .before .before .before .before .before .before .before .before .before .before .before .before .before .before
-    .before .before .before .args .s .status)
-    (c .before .before .before .before .before .before .before .before .before .before .before .before .before .before .before .before
-    .before .args .s .second)
-    (c .before .before .before .before .before .before .before .before .before .before .before .before .before .before .before .before
-    .before .args .s .value)
-    (c .before .before .before .before .before .before .before .before .before .before .before .before .before .before .before .before
-    .before .args .s .registers) (c .before .before .before .plain .ensures i))
+returns-2 c =
+    let after-loop : tie.After-loop Inv-loop μ-loop = search in
+    let at-loop : tie.At-loop Inv-loop μ-loop = search in
+    let after-plain : tie.After-plain Inv-loop μ-loop = search in
+    let start = start-of-after-plain after-plain in
+    run-ends _ _ (start .pre .0) (stateAs _ _ _ _ _) _ _ (after-loop .loop-test .left) _ (named-state _ _ _ _ (c .named2 .result) _
+    (c .named2 .ensures)) ∙ sym (at-loop .loop .inv .2) ∙ ap (λ s. runFrom (start .args .table .now) (start .args .tags .now) s
+    (start .args .nodes .now)) (λ i. stateAs (start .args .s .status) (start .args .s .second) (start .args .s .value)
+    (start .args .s .registers) (after-plain .plain .ensures i))
 
 pub run-spec : {M : Type 1} → statement M
 run-spec =

@@ -1,6 +1,5 @@
 use borrow.Author.Needs.{needs}
 use mathlib.Core.Path.{sym, ap, subst, _∙_}
-use Prim.Native.Nat.{_-_}
 use Rattle.rules.specs.Circuit.{circuitOf}
 use Rattle.circuit.specs.Meaning.{replyOf, stateAs}
 use Rattle.circuit.specs.Plan.{Stands}
@@ -8,66 +7,49 @@ use Rattle.circuit.proofs.EntryLaws.{told-stepped}
 use Rattle.circuit.proofs.entries.step_standing.Statement.{statement}
 use Rattle.circuit.proofs.entries.step_standing.Tie as tie
 
--- src/entries.rt:66:15
 owners-requires : tie.Need-owners-requires
-owners-requires c κs = c .before .before .pre .0
+owners-requires c κs =
+    let start : tie.Start = search in
+    start .pre .0
 
--- src/entries.rt:67:9
 group-requires : tie.Need-group-requires
-group-requires c κs = (c .before .before .before .before .pre .0, c .before .owners .ensures)
+group-requires c κs =
+    let after-owners : tie.After-owners = search in
+    let start : tie.Start = search in
+    (start .pre .0, after-owners .owners .ensures)
 
--- src/entries.rt:75:21
 plain-requires : tie.Need-plain-requires
 plain-requires c κs = search needs
 
--- src/entries.rt:76:9
 turn-requires : tie.Need-turn-requires
-turn-requires c κs = (
-  c .before .before .before .before .before .before .before .before .before .before .before .before .before .before
-      .before .before .before .before .before .before .before .pre .0,
-  c .before .before .before .before .before .before .before .before .before .before .before .before .before .before .before .before
-      .before .before .owners .ensures,
-  c .before .before .before .before .before .before .before .before .before .before .before .before .before .before .before .before
-      .group .ensures,
-  subst
-      (Stands (c .before .before .before .before .before .before .before .before .before .before .before .before .before .before .before
-      .before .before .before .before .before .before .args .table .now))
-      (sym (λ i. stateAs (c .before .before .before .before .before .before .before .before .before .before .before .before .before
-      .before .before .before .before .before .before .before .before .args .s .status)
-      (c .before .before .before .before .before .before .before .before .before .before .before .before .before .before .before .before
-      .before .before .before .before .before .args .s .second)
-      (c .before .before .before .before .before .before .before .before .before .before .before .before .before .before .before .before
-      .before .before .before .before .before .args .s .value)
-      (c .before .before .before .before .before .before .before .before .before .before .before .before .before .before .before .before
-      .before .before .before .before .before .args .s .registers)
-      (c .before .before .before .before .before .before .before .before .plain .ensures i)))
-      (c .before .before .before .before .before .before .before .before .before .before .before .before .before .before .before .before
-      .before .before .before .before .before .pre .1),
-)
+turn-requires c κs =
+    let after-plain : tie.After-plain = search in
+    let after-group : tie.After-group = search in
+    let after-owners : tie.After-owners = search in
+    let start : tie.Start = search in (
+      start .pre .0,
+      after-owners .owners .ensures,
+      after-group .group .ensures,
+      subst (Stands _) (sym (λ i. stateAs
+          (start .args .s .status) (start .args .s .second) (start .args .s .value) (start .args .s .registers)
+          (after-plain .plain .ensures i))) (start .pre .1),
+    )
 
--- src/entries.rt:89:9
 named-requires : tie.Need-named-requires
 named-requires c κs = search needs
 
--- src/entries.rt:62:1
+abbrev start-of-after-plain : tie.After-plain → tie.Start
+start-of-after-plain c = search
+
 returns : tie.Need-returns
-returns c = told-stepped _ _ _ _ (c .named .result) _ (c .named .ensures) (replyOf (c .before .turn .result)) _
-    (c .before .turn .ensures ∙ ap
-    (λ s. circuitOf (c .before .before .before .before .before .before .before .before .before .before .before .before .before .before
-    .before .before .before .before .before .before .before .before .before .args .table .now)
-    (c .before .before .before .before .before .before .before .before .before .before .before .before .before .before .before .before
-    .before .before .before .before .before .before .before .args .tags .now) s
-    (c .before .before .before .before .before .before .before .before .before .before .before .before .before .before .before .before
-    .before .before .before .before .before .before .before .args .n .0))
-    (λ i. stateAs (c .before .before .before .before .before .before .before .before .before .before .before .before .before .before
-    .before .before .before .before .before .before .before .before .before .args .s .status)
-    (c .before .before .before .before .before .before .before .before .before .before .before .before .before .before .before .before
-    .before .before .before .before .before .before .before .args .s .second)
-    (c .before .before .before .before .before .before .before .before .before .before .before .before .before .before .before .before
-    .before .before .before .before .before .before .before .args .s .value)
-    (c .before .before .before .before .before .before .before .before .before .before .before .before .before .before .before .before
-    .before .before .before .before .before .before .before .args .s .registers)
-    (c .before .before .before .before .before .before .before .before .before .before .plain .ensures i)))
+returns c =
+    let after-turn : tie.After-turn = search in
+    let after-plain : tie.After-plain = search in
+    let start = start-of-after-plain after-plain in
+    told-stepped _ _ _ _ (c .named .result) _ (c .named .ensures) (replyOf (after-turn .turn .result)) _
+    (after-turn .turn .ensures ∙ ap (λ s. circuitOf (start .args .table .now) (start .args .tags .now) s (start .args .n .0))
+    (λ i. stateAs (start .args .s .status) (start .args .s .second) (start .args .s .value) (start .args .s .registers)
+    (after-plain .plain .ensures i)))
 
 pub step-standing-spec : {M : Type 1} → statement M
 step-standing-spec =

@@ -1,35 +1,31 @@
 use Rattle.circuit.proofs.PlanLaws.{branch-else, branch-then}
-use Prim.Native.Nat.{_-_}
-use Rattle.table.specs.Bytes.{next}
-use Rattle.circuit.proofs.PlanLaws.{branch-else, branch-then}
 use borrow.Author.Needs.{needs}
 use Rattle.circuit.proofs.plan.branch.Statement.{statement}
 use Rattle.circuit.proofs.plan.branch.Tie as tie
 
--- src/plan.rt:183:9
 next-requires : tie.Need-next-requires
 next-requires c κs = search needs
 
--- src/plan.rt:184:8
 value-at-requires : tie.Need-value-at-requires
-value-at-requires c κs = c .before .before .pre
+value-at-requires c κs =
+    let start : tie.Start = search in
+    start .pre
 
--- src/plan.rt:185:9
 next-requires-2 : tie.Need-next-requires-2
 next-requires-2 c κs = search needs
 
--- src/plan.rt:185:9
 returns : tie.Need-returns
-returns c = branch-else (c .before .before .before .before .before .args .table .now)
-    (c .before .before .before .before .before .args .value .now) (c .before .before .before .before .before .args .a .0)
-    (c .before .before .value-at .result) (c .before .before .before .next .result .0) (c .before .before .value-at .ensures)
-    (c .before .before .before .next .ensures) (c .before .if1 .taken) (c .next2 .result .0) (c .next2 .ensures)
+returns c =
+    let then1 : tie.Then1 = search in
+    let after-value-at : tie.After-value-at = search in
+    let after-next : tie.After-next = search in
+    branch-else _ _ _ _ _ (after-value-at .value-at .ensures) (after-next .next .ensures) (then1 .if1 .taken) _ (c .next2 .ensures)
 
--- src/plan.rt:178:1
 returns-2 : tie.Need-returns-2
-returns-2 c = branch-then (c .before .before .before .before .args .table .now) (c .before .before .before .before .args .value .now)
-    (c .before .before .before .before .args .a .0) (c .before .value-at .result) (c .before .before .next .result .0)
-    (c .before .value-at .ensures) (c .before .before .next .ensures) (c .if1 .left)
+returns-2 c =
+    let after-value-at : tie.After-value-at = search in
+    let after-next : tie.After-next = search in
+    branch-then _ _ _ _ _ (after-value-at .value-at .ensures) (after-next .next .ensures) (c .if1 .left)
 
 pub branch-spec : {M : Type 1} → statement M
 branch-spec =

@@ -1,6 +1,5 @@
 use native.Mathlib.Omega.{arith}
 use mathlib.Core.Path.{refl, sym, _∙_}
-use Prim.Native.Nat.{_-_}
 use borrow.Author.Tests.{eq-eqb, ne-eqb}
 use Rattle.table.specs.Bytes.{word}
 use Rattle.table.specs.Naming.{owner}
@@ -10,55 +9,50 @@ use borrow.Author.Needs.{needs}
 use Rattle.circuit.proofs.plan.busy_call.Statement.{statement}
 use Rattle.circuit.proofs.plan.busy_call.Tie as tie
 
--- src/plan.rt:125:9
 word-requires : tie.Need-word-requires
 word-requires c κs = search needs
 
--- src/plan.rt:126:19
 cast-if1 : tie.Need-cast-if1
 cast-if1 c = search needs
 
--- src/plan.rt:127:9
 again-requires : tie.Need-again-requires
-again-requires c κs = (c .before .before .before .before .pre .0, c .before .before .before .before .pre .1)
+again-requires c κs =
+    let start : tie.Start = search in
+    (start .pre .0, start .pre .1)
 
--- src/plan.rt:127:9
 returns : tie.Need-returns
-returns c = c .again .ensures (c .before .before .before .before .before .args .value .now) ∙ sym
-    (rw (eq-eqb (word (c .before .before .before .before .before .args .table .now)
-    (c .before .before .before .before .before .args .n .0))
-    (owner (c .before .before .before .before .before .args .table .now) (c .before .before .before .before .before .args .n .0))
-    (sym (c .before .before .before .word .ensures) ∙ c .before .if1 .taken ∙ c .before .before .before .before .before .pre .2)) refl)
+returns c =
+    let then1 : tie.Then1 = search in
+    let after-word : tie.After-word = search in
+    let start : tie.Start = search in
+    c .again .ensures _ ∙ sym (rw (eq-eqb (word _ _) (owner _ _) (sym (after-word .word .ensures) ∙ then1 .if1 .taken ∙ start .pre .2))
+    refl)
 
--- src/plan.rt:129:61
 cast-t11 : tie.Need-cast-t11
-cast-t11 c = omega (
-  arith,
-  c .before .before .word .ensures,
-  callee-in (c .before .before .before .before .args .table .now)
-      (c .before .before .before .before .pre .0) (c .before .before .before .before .args .n .0)
-      (c .before .before .before .before .pre .1) (c .before .before .before .before .pre .3) .1,
-  ok
-      (c .before .before .before .before .args .table .now) (c .before .before .before .before .pre .0) .F-high,
-)
+cast-t11 c =
+    let after-word : tie.After-word = search in
+    let start : tie.Start = search in
+    omega (
+      arith,
+      after-word .word .ensures,
+      callee-in _ (start .pre .0) _ (start .pre .1) (start .pre .3) .1,
+      ok _ (start .pre .0)
+          .F-high,
+    )
 
--- src/plan.rt:129:5
 across-requires : tie.Need-across-requires
-across-requires c κs = (
-  c .before .before .before .before .pre .0,
-  c .before .before .before .before .pre .1,
-  c .before .before .before .before .pre .3,
-  c .before .before .word .ensures,
-)
+across-requires c κs =
+    let after-word : tie.After-word = search in
+    let start : tie.Start = search in
+    (start .pre .0, start .pre .1, start .pre .3, after-word .word .ensures)
 
--- src/plan.rt:110:1
 returns-2 : tie.Need-returns-2
-returns-2 c = c .across .ensures ∙ sym
-    (rw (ne-eqb (word (c .before .before .before .before .before .args .table .now)
-    (c .before .before .before .before .before .args .n .0))
-    (owner (c .before .before .before .before .before .args .table .now) (c .before .before .before .before .before .args .n .0))
-    (λ z. c .before .if1 .left (c .before .before .before .word .ensures ∙ z ∙ sym
-    (c .before .before .before .before .before .pre .2)))) refl)
+returns-2 c =
+    let else1 : tie.Else1 = search in
+    let after-word : tie.After-word = search in
+    let start : tie.Start = search in
+    c .across .ensures ∙ sym (rw (ne-eqb (word _ _) (owner _ _) (λ z. else1 .if1 .left (after-word .word .ensures ∙ z ∙ sym
+    (start .pre .2)))) refl)
 
 pub busy-call-spec : {M : Type 1} → statement M
 busy-call-spec =

@@ -2,7 +2,6 @@ use native.Mathlib.Omega.{arith}
 use borrow.Author.Needs.{needs}
 use mathlib.Core.Path.{ap, _∙_}
 use Prim.Native.Nat.{_+_, _-_, _≤_}
-use Rattle.table.specs.Bytes.{nodes}
 use Rattle.circuit.specs.Meaning.{stateAs}
 use Rattle.circuit.specs.Plan.{goes}
 use Rattle.circuit.proofs.ChainLaws.{ok}
@@ -17,115 +16,88 @@ Inv-loop table own status second value registers occupant end n₀ n = (n ≤ en
 abbrev μ-loop : tie.MeasureT-loop
 μ-loop table own status second value registers occupant end n₀ n = end - n
 
--- src/search.rt:42:9
 nodes-requires : tie.Need-nodes-requires Inv-loop μ-loop
 nodes-requires c κs = search needs
 
--- src/search.rt:45:5
 loop-holds : tie.Need-loop-holds Inv-loop μ-loop
-loop-holds c = (
-  omega arith,
-  none-start (c .before .before .args .table .now)
-      (stateAs (c .before .before .args .status .now) (c .before .before .args .second .now) (c .before .before .args .value .now)
-      (c .before .before .args .registers .now) (c .before .before .args .occupant .now)),
-)
+loop-holds c =
+    let start : tie.Start Inv-loop μ-loop = search in
+    (omega arith, none-start _ (stateAs _ _ _ _ _))
 
--- src/search.rt:46:9
 add-n : tie.Need-add-n Inv-loop μ-loop
-add-n c = omega (
-  arith,
-  c .loop-test .taken,
-  c .before .loop .inv .0,
-  c .before .before .nodes .ensures,
-  ok
-      (c .before .before .before .before .args .table .now) (c .before .before .before .before .pre .0) .N-high,
-)
+add-n c =
+    let at-loop : tie.At-loop Inv-loop μ-loop = search in
+    let after-nodes : tie.After-nodes Inv-loop μ-loop = search in
+    let start : tie.Start Inv-loop μ-loop = search in
+    omega (arith, c .loop-test .taken, at-loop .loop .inv .0, after-nodes .nodes .ensures, ok _ (start .pre .0) .N-high)
 
--- src/search.rt:47:21
 cast-f : tie.Need-cast-f Inv-loop μ-loop
 cast-f c = search needs
 
--- src/search.rt:47:17
 mul-f : tie.Need-mul-f Inv-loop μ-loop
 mul-f c = search needs
 
--- src/search.rt:47:17
 element-copy-out-f : tie.Need-element-copy-out-f Inv-loop μ-loop
-element-copy-out-f c = omega (
-  arith,
-  c .loop-test .taken,
-  c .before .loop .inv .0,
-  c .before .before .nodes .ensures,
-  ok
-      (c .before .before .before .before .args .table .now) (c .before .before .before .before .pre .0) .N-high,
-)
+element-copy-out-f c =
+    let at-loop : tie.At-loop Inv-loop μ-loop = search in
+    let after-nodes : tie.After-nodes Inv-loop μ-loop = search in
+    let start : tie.Start Inv-loop μ-loop = search in
+    omega (arith, c .loop-test .taken, at-loop .loop .inv .0, after-nodes .nodes .ensures, ok _ (start .pre .0) .N-high)
 
--- src/search.rt:48:13
 plan-at-requires : tie.Need-plan-at-requires Inv-loop μ-loop
-plan-at-requires c κs = (
-  c .before .before .before .before .before .pre .0,
-  (
-    omega arith,
-    omega
-        (arith, c .before .loop-test .taken, c .before .before .before .nodes .ensures),
-  ),
-  c .before .before .before .before .before .pre .1
-      (c .before .before .loop .n + 1) (omega (arith, c .before .loop-test .taken, c .before .before .before .nodes .ensures)),
-)
+plan-at-requires c κs =
+    let in-loop : tie.In-loop Inv-loop μ-loop = search in
+    let at-loop : tie.At-loop Inv-loop μ-loop = search in
+    let after-nodes : tie.After-nodes Inv-loop μ-loop = search in
+    let start : tie.Start Inv-loop μ-loop = search in (
+      start .pre .0,
+      (omega arith, omega (arith, in-loop .loop-test .taken, after-nodes .nodes .ensures)),
+      start .pre .1
+          (at-loop .loop .n + 1) (omega (arith, in-loop .loop-test .taken, after-nodes .nodes .ensures)),
+    )
 
--- src/search.rt:58:12
 moves-requires : tie.Need-moves-requires Inv-loop μ-loop
 moves-requires c κs = search needs
 
--- src/search.rt:59:13
 returns : tie.Need-returns Inv-loop μ-loop
-returns c = found-here (c .before .before .before .before .before .before .before .before .args .table .now)
-    (stateAs (c .before .before .before .before .before .before .before .before .args .status .now)
-    (c .before .before .before .before .before .before .before .before .args .second .now)
-    (c .before .before .before .before .before .before .before .before .args .value .now)
-    (c .before .before .before .before .before .before .before .before .args .registers .now)
-    (c .before .before .before .before .before .before .before .before .args .occupant .now))
-    (c .before .before .before .before .before .loop .n + 1) (
+returns c =
+    let after-moves : tie.After-moves Inv-loop μ-loop = search in
+    let after-plan-at : tie.After-plan-at Inv-loop μ-loop = search in
+    let in-loop : tie.In-loop Inv-loop μ-loop = search in
+    let at-loop : tie.At-loop Inv-loop μ-loop = search in
+    let after-nodes : tie.After-nodes Inv-loop μ-loop = search in
+    found-here _ (stateAs _ _ _ _ _) (at-loop .loop .n + 1) (
       omega arith,
       omega (
         arith,
-        c .before .before .before .before .loop-test .taken,
-        c .before .before .before .before .before .before .nodes .ensures,
+        in-loop .loop-test .taken,
+        after-nodes .nodes
+            .ensures,
       ),
-    ) (c .before .moves .result)
-    (c .before .moves .ensures (c .before .before .before .before .before .before .before .before .args .table .now)
-    (c .before .before .before .before .before .before .before .before .args .value .now)
-    (c .before .before .before .before .before .loop .n + 1) ∙ ap goes (c .before .before .plan-at .ensures)) (c .if1 .taken)
+    ) _ (after-moves .moves .ensures _ _ (at-loop .loop .n + 1) ∙ ap goes (after-plan-at .plan-at .ensures)) (c .if1 .taken)
 
--- src/search.rt:45:5
 loop-less : tie.Need-loop-less Inv-loop μ-loop
-loop-less c = omega (arith, c .before .before .before .before .loop-test .taken)
+loop-less c =
+    let in-loop : tie.In-loop Inv-loop μ-loop = search in
+    omega (arith, in-loop .loop-test .taken)
 
--- src/search.rt:45:5
 loop-again : tie.Need-loop-again Inv-loop μ-loop
-loop-again c = (
-  omega (arith, c .before .before .before .before .loop-test .taken),
-  none-more
-      (c .before .before .before .before .before .before .before .before .args .table .now)
-      (stateAs (c .before .before .before .before .before .before .before .before .args .status .now)
-      (c .before .before .before .before .before .before .before .before .args .second .now)
-      (c .before .before .before .before .before .before .before .before .args .value .now)
-      (c .before .before .before .before .before .before .before .before .args .registers .now)
-      (c .before .before .before .before .before .before .before .before .args .occupant .now))
-      (c .before .before .before .before .before .loop .n) (c .before .before .before .before .before .loop .inv .1)
-      (c .before .moves .result)
-      (c .before .moves .ensures (c .before .before .before .before .before .before .before .before .args .table .now)
-      (c .before .before .before .before .before .before .before .before .args .value .now)
-      (c .before .before .before .before .before .loop .n + 1) ∙ ap goes (c .before .before .plan-at .ensures)) (c .if1 .left),
-)
+loop-again c =
+    let after-moves : tie.After-moves Inv-loop μ-loop = search in
+    let after-plan-at : tie.After-plan-at Inv-loop μ-loop = search in
+    let in-loop : tie.In-loop Inv-loop μ-loop = search in
+    let at-loop : tie.At-loop Inv-loop μ-loop = search in
+    let start : tie.Start Inv-loop μ-loop = search in (
+      omega (arith, in-loop .loop-test .taken),
+      none-more _ (stateAs _ _ _ _ _) _ (at-loop .loop .inv .1) _
+          (after-moves .moves .ensures _ _ (at-loop .loop .n + 1) ∙ ap goes (after-plan-at .plan-at .ensures)) (c .if1 .left),
+    )
 
--- src/search.rt:29:1
 returns-2 : tie.Need-returns-2 Inv-loop μ-loop
-returns-2 c = found-none (c .before .before .before .before .args .table .now)
-    (stateAs (c .before .before .before .before .args .status .now) (c .before .before .before .before .args .second .now)
-    (c .before .before .before .before .args .value .now) (c .before .before .before .before .args .registers .now)
-    (c .before .before .before .before .args .occupant .now)) (c .before .loop .n) (c .before .loop .inv .1)
-    (omega (arith, c .loop-test .left, c .before .before .nodes .ensures))
+returns-2 c =
+    let at-loop : tie.At-loop Inv-loop μ-loop = search in
+    let after-nodes : tie.After-nodes Inv-loop μ-loop = search in
+    found-none _ (stateAs _ _ _ _ _) _ (at-loop .loop .inv .1) (omega (arith, c .loop-test .left, after-nodes .nodes .ensures))
 
 pub find-spec : {M : Type 1} → statement M
 find-spec =

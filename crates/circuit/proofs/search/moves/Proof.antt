@@ -1,71 +1,54 @@
 use borrow.Author.Needs.{needs}
 use mathlib.Core.Path.{sym, ap}
-use Prim.Native.Nat.{_-_}
 use Rattle.circuit.specs.Plan.{planned, goes}
 use Rattle.circuit.proofs.search.moves.Statement.{statement}
 use Rattle.circuit.proofs.search.moves.Tie as tie
 
--- src/search.rt:17:24
 enum-told : tie.Need-enum-told
 enum-told c = search needs
 
--- src/search.rt:18:26
 enum-told-2 : tie.Need-enum-told-2
 enum-told-2 c = search needs
 
--- src/search.rt:19:25
 enum-told-3 : tie.Need-enum-told-3
 enum-told-3 c = search needs
 
--- src/search.rt:20:27
 enum-told-4 : tie.Need-enum-told-4
 enum-told-4 c = search needs
 
--- src/search.rt:21:30
 enum-told-5 : tie.Need-enum-told-5
 enum-told-5 c = search needs
 
--- src/search.rt:22:28
 enum-told-6 : tie.Need-enum-told-6
 enum-told-6 c = search needs
 
--- src/search.rt:23:31
 enum-told-7 : tie.Need-enum-told-7
 enum-told-7 c = search needs
 
--- src/search.rt:24:27
 enum-told-8 : tie.Need-enum-told-8
 enum-told-8 c = search needs
 
--- src/search.rt:13:1
 returns : tie.Need-returns
 returns c = λ t value n. sym (ap (λ q. goes (planned t value n q)) (c .enum-told .given .1))
 
--- src/search.rt:13:1
 returns-2 : tie.Need-returns-2
 returns-2 c = λ t value n. sym (ap (λ q. goes (planned t value n q)) (c .enum-told2 .given .1))
 
--- src/search.rt:13:1
 returns-3 : tie.Need-returns-3
 returns-3 c = λ t value n. sym (ap (λ q. goes (planned t value n q)) (c .enum-told3 .given .1))
 
--- src/search.rt:13:1
 returns-4 : tie.Need-returns-4
 returns-4 c = λ t value n. sym (ap (λ q. goes (planned t value n q)) (c .enum-told4 .given .1))
 
--- src/search.rt:13:1
 returns-5 : tie.Need-returns-5
 returns-5 c = λ t value n. sym (ap (λ q. goes (planned t value n q)) (c .enum-told5 .given .1))
 
--- src/search.rt:13:1
 returns-6 : tie.Need-returns-6
 returns-6 c = λ t value n. sym (ap (λ q. goes (planned t value n q)) (c .enum-told6 .given .1))
 
--- src/search.rt:13:1
 returns-7 : tie.Need-returns-7
 returns-7 c = λ t value n. sym (ap (λ q. goes (planned t value n q)) (c .enum-told7 .given .1))
 
--- src/search.rt:13:1
 returns-8 : tie.Need-returns-8
 returns-8 c = λ t value n. sym (ap (λ q. goes (planned t value n q)) (c .enum-told8 .given .1))
 

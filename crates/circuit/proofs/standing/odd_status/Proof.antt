@@ -1,9 +1,9 @@
 use native.Mathlib.Omega.{arith}
 use borrow.Author.Needs.{needs}
 use mathlib.Core.Path.{_≡_, sym, ap, _∙_}
-use Prim.Native.Nat.{_-_, _≤_}
+use Prim.Native.Nat.{_≤_}
 use Rattle.table.specs.Bytes.{nodes}
-use Rattle.rules.specs.Step.{over, taken}
+use Rattle.rules.specs.Step.{over}
 use Rattle.circuit.proofs.ChainLaws.{ok}
 use Rattle.circuit.proofs.StandsLaws.{over-here, over-less, over-end}
 use Rattle.circuit.proofs.standing.odd_status.Statement.{statement}
@@ -15,50 +15,48 @@ Inv-loop table status n₀ n = (n ≤ nodes table) × (over 3 (nodes table) stat
 abbrev μ-loop : tie.MeasureT-loop
 μ-loop table status n₀ n = n
 
--- src/standing.rt:17:9
 nodes-requires : tie.Need-nodes-requires Inv-loop μ-loop
 nodes-requires c κs = search needs
 
--- src/standing.rt:19:5
 loop-holds : tie.Need-loop-holds Inv-loop μ-loop
-loop-holds c = (omega (arith, c .nodes .ensures), ap (λ k. over 3 k (c .before .before .args .status .now)) (sym (c .nodes .ensures)))
+loop-holds c =
+    let start : tie.Start Inv-loop μ-loop = search in
+    (omega (arith, c .nodes .ensures), ap (λ k. over 3 k (start .args .status .now)) (sym (c .nodes .ensures)))
 
--- src/standing.rt:20:16
 status-at-requires : tie.Need-status-at-requires Inv-loop μ-loop
-status-at-requires c κs = omega (
-  arith,
-  c .before .loop .inv .0,
-  ok (c .before .before .before .before .args .table .now)
-      (c .before .before .before .before .pre) .N-high,
-)
+status-at-requires c κs =
+    let at-loop : tie.At-loop Inv-loop μ-loop = search in
+    let start : tie.Start Inv-loop μ-loop = search in
+    omega (arith, at-loop .loop .inv .0, ok _ (start .pre) .N-high)
 
--- src/standing.rt:21:13
 returns : tie.Need-returns Inv-loop μ-loop
-returns c = sym (c .before .before .before .loop .inv .1 ∙ over-here 3
-    (c .before .before .before .before .before .before .args .status .now) (c .before .before .before .loop .n)
-    (c .before .status-at .result) (c .before .before .loop-test .taken) (c .before .status-at .ensures) (c .if1 .taken))
+returns c =
+    let after-status-at : tie.After-status-at Inv-loop μ-loop = search in
+    let in-loop : tie.In-loop Inv-loop μ-loop = search in
+    let at-loop : tie.At-loop Inv-loop μ-loop = search in
+    sym (at-loop .loop .inv .1 ∙ over-here 3 _ _ _ (in-loop .loop-test .taken) (after-status-at .status-at .ensures) (c .if1 .taken))
 
--- src/standing.rt:23:9
 sub-n : tie.Need-sub-n Inv-loop μ-loop
 sub-n c = omega arith
 
--- src/standing.rt:19:5
 loop-less : tie.Need-loop-less Inv-loop μ-loop
 loop-less c = omega arith
 
--- src/standing.rt:19:5
 loop-again : tie.Need-loop-again Inv-loop μ-loop
-loop-again c = (
-  omega (arith, c .before .before .before .loop .inv .0),
-  c .before .before .before .loop .inv .1 ∙ over-less 3
-      (c .before .before .before .before .before .before .args .status .now) (c .before .before .before .loop .n)
-      (c .before .status-at .result) (c .before .before .loop-test .taken) (c .before .status-at .ensures) (c .if1 .left),
-)
+loop-again c =
+    let after-status-at : tie.After-status-at Inv-loop μ-loop = search in
+    let in-loop : tie.In-loop Inv-loop μ-loop = search in
+    let at-loop : tie.At-loop Inv-loop μ-loop = search in
+    let start : tie.Start Inv-loop μ-loop = search in (
+      omega (arith, at-loop .loop .inv .0),
+      at-loop .loop .inv .1 ∙ over-less 3 _ _ _ (in-loop .loop-test .taken)
+          (after-status-at .status-at .ensures) (c .if1 .left),
+    )
 
--- src/standing.rt:13:1
 returns-2 : tie.Need-returns-2 Inv-loop μ-loop
-returns-2 c = sym (c .before .loop .inv .1 ∙ over-end 3 (c .before .before .before .before .args .status .now) (c .before .loop .n)
-    (omega arith))
+returns-2 c =
+    let at-loop : tie.At-loop Inv-loop μ-loop = search in
+    sym (at-loop .loop .inv .1 ∙ over-end 3 _ _ (omega arith))
 
 pub odd-status-spec : {M : Type 1} → statement M
 odd-status-spec =

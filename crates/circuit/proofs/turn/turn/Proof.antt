@@ -1,346 +1,144 @@
+-- `turn::turn` meets its contract: each way out is one line of `circuitOf`, by a law of `TurnLaws`.
 use native.Mathlib.Omega.{arith}
-use mathlib.Core.Path.{sym, _∙_}
-use Prim.Native.Nat.{_-_, _≤_}
-use Rattle.table.specs.Bytes.{nodes}
-use Rattle.rules.specs.Step.{taken}
-use Rattle.rules.specs.Circuit.{actOf}
+use borrow.Author.Needs.{needs}
+use mathlib.Core.Path.{_≡_, sym, _∙_}
+use Rattle.table.specs.Working.{IsNode}
+use Rattle.rules.specs.State.{State512}
+use Rattle.rules.specs.Step.{Act, Stepped}
+use Rattle.rules.specs.Circuit.{actOf, circuitOf}
 use Rattle.circuit.specs.Meaning.{stateAs}
 use Rattle.circuit.proofs.ChainLaws.{ok}
-use Rattle.circuit.proofs.TurnLaws.{turn-zero, turn-past, turn-over, turn-on, out-stuck, out-held, out-moved}
-use borrow.Author.Needs.{needs}
+use Rattle.circuit.proofs.TurnLaws.{turn-zero, turn-past, turn-over, turn-on, Out, out-stuck, out-held, out-moved}
 use Rattle.circuit.proofs.turn.turn.Statement.{statement}
 use Rattle.circuit.proofs.turn.turn.Tie as tie
 
--- src/turn.rt:86:9
-returns : tie.Need-returns
-returns c = turn-zero (c .before .before .before .before .args .table .now) (c .before .before .before .before .args .tags .now)
-    (c .before .before .before .before .pre .0) (stateAs (c .before .before .before .before .args .status .now)
-    (c .before .before .before .before .args .second .now) (c .before .before .before .before .args .value .now)
-    (c .before .before .before .before .args .registers .now) (c .before .before .before .before .args .occupant .now))
-    (c .before .before .before .before .args .n .0) (c .if1 .taken)
+-- the state that comes in, what `circuitOf` says of it, and the step's act and outcome
+abbrev state : tie.Start → State512
+state s = stateAs (s .args .status .now) (s .args .second .now) (s .args .value .now) (s .args .registers .now) (s .args .occupant .now)
 
--- src/turn.rt:88:9
+abbrev said : tie.Start → Stepped
+said s = circuitOf (s .args .table .now) (s .args .tags .now) (state s) (s .args .n .0)
+
+abbrev act : tie.Start → Act
+act s = actOf (s .args .table .now) (state s) (s .args .n .0)
+
+abbrev outcome : tie.Start → Stepped
+outcome s = Out (s .args .table .now) (s .args .tags .now) (s .pre .0) (state s) (s .args .n .0) (act s)
+
+-- past the tests on n, it is a node
+abbrev start : tie.Else2 → tie.Start
+start c = search
+
+node : (c : tie.Else2) → IsNode (start c .args .table .now) (start c .args .n .0)
+node c =
+    let last : tie.After-nodes = search in
+    let some : tie.Else1 = search in
+    (omega (arith, some .if1 .left), omega (arith, c .if2 .left, last .nodes .ensures))
+
+-- past the test on main's root, what is said is the outcome
+abbrev there : tie.Else3 → tie.Else2
+there c = search
+
+on : (c : tie.Else3) → said (start (there c)) ≡ outcome (start (there c))
+on c =
+    let at : tie.After-status-at = search in
+    let top : tie.After-top = search in
+    let some : tie.Else1 = search in
+    let s = start (there c) in
+    turn-on _ _ (s .pre .0) (state s) _ (some .if1 .left) (node (there c) .1) (s .pre .3) _ _ (top .top .ensures .0)
+    (at .status-at .ensures) (c .if3 .left)
+
+returns : tie.Need-returns
+returns c =
+    let s : tie.Start = search in
+    turn-zero _ _ (s .pre .0) (state s) _ (c .if1 .taken)
+
 nodes-requires : tie.Need-nodes-requires
 nodes-requires c κs = search needs
 
--- src/turn.rt:90:9
 returns-2 : tie.Need-returns-2
-returns-2 c = turn-past (c .before .before .before .before .before .before .before .before .args .table .now)
-    (c .before .before .before .before .before .before .before .before .args .tags .now)
-    (c .before .before .before .before .before .before .before .before .pre .0)
-    (stateAs (c .before .before .before .before .before .before .before .before .args .status .now)
-    (c .before .before .before .before .before .before .before .before .args .second .now)
-    (c .before .before .before .before .before .before .before .before .args .value .now)
-    (c .before .before .before .before .before .before .before .before .args .registers .now)
-    (c .before .before .before .before .before .before .before .before .args .occupant .now))
-    (c .before .before .before .before .before .before .before .before .args .n .0) (c .before .before .before .before .if1 .left)
-    (omega (arith, c .if2 .taken, c .before .before .before .nodes .ensures))
+returns-2 c =
+    let last : tie.After-nodes = search in
+    let some : tie.Else1 = search in
+    let s : tie.Start = search in
+    turn-past _ _ (s .pre .0) (state s) _ (some .if1 .left) (omega (arith, c .if2 .taken, last .nodes .ensures))
 
--- src/turn.rt:92:9
 top-requires : tie.Need-top-requires
 top-requires c κs = search needs
 
--- src/turn.rt:93:8
 status-at-requires : tie.Need-status-at-requires
-status-at-requires c κs = c .before .top .ensures .1
+status-at-requires c κs =
+    let top : tie.After-top = search in
+    top .top .ensures .1
 
--- src/turn.rt:94:9
 returns-3 : tie.Need-returns-3
-returns-3 c = turn-over
-    (c .before .before .before .before .before .before .before .before .before .before .before .before .args .table .now)
-    (c .before .before .before .before .before .before .before .before .before .before .before .before .args .tags .now)
-    (c .before .before .before .before .before .before .before .before .before .before .before .before .pre .0)
-    (stateAs (c .before .before .before .before .before .before .before .before .before .before .before .before .args .status .now)
-    (c .before .before .before .before .before .before .before .before .before .before .before .before .args .second .now)
-    (c .before .before .before .before .before .before .before .before .before .before .before .before .args .value .now)
-    (c .before .before .before .before .before .before .before .before .before .before .before .before .args .registers .now)
-    (c .before .before .before .before .before .before .before .before .before .before .before .before .args .occupant .now))
-    (c .before .before .before .before .before .before .before .before .before .before .before .before .args .n .0)
-    (c .before .before .before .before .before .before .before .before .if1 .left)
-    (omega (
-      arith,
-      c .before .before .before .before .if2 .left,
-      c .before .before .before .before .before .before .before .nodes .ensures,
-    ))
-    (c .before .before .before .before .before .before .before .before .before .before .before .before .pre .3)
-    (c .before .before .before .top .result .0) (c .before .status-at .result) (c .before .before .before .top .ensures .0)
-    (c .before .status-at .ensures) (c .if3 .taken)
+returns-3 c =
+    let at : tie.After-status-at = search in
+    let top : tie.After-top = search in
+    let in-table : tie.Else2 = search in
+    let some : tie.Else1 = search in
+    let s : tie.Start = search in
+    turn-over _ _ (s .pre .0) (state s) _ (some .if1 .left) (node in-table .1) (s .pre .3) _ _ (top .top .ensures .0)
+    (at .status-at .ensures) (c .if3 .taken)
 
--- src/turn.rt:96:17
 cast-f : tie.Need-cast-f
 cast-f c = search needs
 
--- src/turn.rt:96:13
 mul-f : tie.Need-mul-f
 mul-f c = search needs
 
--- src/turn.rt:96:13
 element-copy-out-f : tie.Need-element-copy-out-f
-element-copy-out-f c = omega (
-  arith,
-  c .before .before .before .before .before .if2 .left,
-  c .before .before .before .before .before .before .before .before .nodes .ensures,
-  ok
-      (c .before .before .before .before .before .before .before .before .before .before .before .before .before .args .table .now)
-      (c .before .before .before .before .before .before .before .before .before .before .before .before .before .pre .0) .N-high,
-)
+element-copy-out-f c =
+    let in-table : tie.Else2 = search in
+    let s : tie.Start = search in
+    omega (arith, node in-table .1, ok _ (s .pre .0) .N-high)
 
--- src/turn.rt:97:9
 take-requires : tie.Need-take-requires
-take-requires c κs = let i :
-    c .before .before .before .before .before .before .before .before .before .before .before .before .before .before .before .before
-    .before .before .before .args .n .0 ≤ nodes
-    (c .before .before .before .before .before .before .before .before .before .before .before .before .before .before .before .before
-    .before .before .before .args .table .now) = omega (
-      arith,
-      c .before .before .before .before .before .before .before .before .before .before .before .if2 .left,
-      c .before .before .before .before .before .before .before .before .before .before .before .before .before .before .nodes .ensures,
-    )
-    in (
-      c .before .before .before .before .before .before .before .before .before .before .before .before .before .before .before
-          .before .before .before .before .pre .0,
-      (
-        omega (
-          arith,
-          c .before .before .before .before .before .before .before .before .before .before .before .before .before .before
-              .before .if1 .left,
-        ),
-        i,
-      ),
-      c .before .before .before .before .before .before .before .before .before .before .before .before .before .before .before .before
-          .before .before .before .pre .1
-          (c .before .before .before .before .before .before .before .before .before .before .before .before .before .before .before .before
-          .before .before .before .args .n .0) i,
-      c .before .before .before .before .before .before .before .before .before .before .before .before .before .before .before .before
-          .before .before .before .pre .2,
-    )
+take-requires c κs =
+    let going : tie.Else3 = search in
+    let in-table : tie.Else2 = search in
+    let s : tie.Start = search in
+    (s .pre .0, node in-table, s .pre .1 _ (node in-table .1), s .pre .2)
 
--- src/turn.rt:110:9
 returns-4 : tie.Need-returns-4
-returns-4 c = out-stuck
-    (c .before .before .before .before .before .before .before .before .before .before .before .before .before .before .before .before
-    .before .before .before .before .before .args .table .now)
-    (c .before .before .before .before .before .before .before .before .before .before .before .before .before .before .before .before
-    .before .before .before .before .before .args .tags .now)
-    (c .before .before .before .before .before .before .before .before .before .before .before .before .before .before .before .before
-    .before .before .before .before .before .pre .0) (stateAs
-    (c .before .before .before .before .before .before .before .before .before .before .before .before .before .before .before .before
-    .before .before .before .before .before .args .status .now)
-    (c .before .before .before .before .before .before .before .before .before .before .before .before .before .before .before .before
-    .before .before .before .before .before .args .second .now)
-    (c .before .before .before .before .before .before .before .before .before .before .before .before .before .before .before .before
-    .before .before .before .before .before .args .value .now)
-    (c .before .before .before .before .before .before .before .before .before .before .before .before .before .before .before .before
-    .before .before .before .before .before .args .registers .now)
-    (c .before .before .before .before .before .before .before .before .before .before .before .before .before .before .before .before
-    .before .before .before .before .before .args .occupant .now))
-    (c .before .before .before .before .before .before .before .before .before .before .before .before .before .before .before .before
-    .before .before .before .before .before .args .n .0) _ (c .before .take .result)
-    (actOf (c .before .before .before .before .before .before .before .before .before .before .before .before .before .before .before
-    .before .before .before .before .before .before .args .table .now)
-    (stateAs (c .before .before .before .before .before .before .before .before .before .before .before .before .before .before .before
-    .before .before .before .before .before .before .args .status .now)
-    (c .before .before .before .before .before .before .before .before .before .before .before .before .before .before .before .before
-    .before .before .before .before .before .args .second .now)
-    (c .before .before .before .before .before .before .before .before .before .before .before .before .before .before .before .before
-    .before .before .before .before .before .args .value .now)
-    (c .before .before .before .before .before .before .before .before .before .before .before .before .before .before .before .before
-    .before .before .before .before .before .args .registers .now)
-    (c .before .before .before .before .before .before .before .before .before .before .before .before .before .before .before .before
-    .before .before .before .before .before .args .occupant .now))
-    (c .before .before .before .before .before .before .before .before .before .before .before .before .before .before .before .before
-    .before .before .before .before .before .args .n .0)) (c .before .take .ensures) (c .if4 .taken) ∙ sym
-    (turn-on (c .before .before .before .before .before .before .before .before .before .before .before .before .before .before .before
-    .before .before .before .before .before .before .args .table .now)
-    (c .before .before .before .before .before .before .before .before .before .before .before .before .before .before .before .before
-    .before .before .before .before .before .args .tags .now)
-    (c .before .before .before .before .before .before .before .before .before .before .before .before .before .before .before .before
-    .before .before .before .before .before .pre .0) (stateAs
-    (c .before .before .before .before .before .before .before .before .before .before .before .before .before .before .before .before
-    .before .before .before .before .before .args .status .now)
-    (c .before .before .before .before .before .before .before .before .before .before .before .before .before .before .before .before
-    .before .before .before .before .before .args .second .now)
-    (c .before .before .before .before .before .before .before .before .before .before .before .before .before .before .before .before
-    .before .before .before .before .before .args .value .now)
-    (c .before .before .before .before .before .before .before .before .before .before .before .before .before .before .before .before
-    .before .before .before .before .before .args .registers .now)
-    (c .before .before .before .before .before .before .before .before .before .before .before .before .before .before .before .before
-    .before .before .before .before .before .args .occupant .now))
-    (c .before .before .before .before .before .before .before .before .before .before .before .before .before .before .before .before
-    .before .before .before .before .before .args .n .0)
-    (c .before .before .before .before .before .before .before .before .before .before .before .before .before .before .before .before
-    .before .if1 .left) (omega (
-      arith,
-      c .before .before .before .before .before .before .before .before .before .before .before .before .before .if2 .left,
-      c .before .before .before .before .before .before .before .before .before .before .before .before .before .before .before .before
-          .nodes .ensures,
-    )) (c .before .before .before .before .before .before .before .before .before .before .before .before .before
-    .before .before .before .before .before .before .before .before .pre .3)
-    (c .before .before .before .before .before .before .before .before .before .before .before .before .top .result .0)
-    (c .before .before .before .before .before .before .before .before .before .before .status-at .result)
-    (c .before .before .before .before .before .before .before .before .before .before .before .before .top .ensures .0)
-    (c .before .before .before .before .before .before .before .before .before .before .status-at .ensures)
-    (c .before .before .before .before .before .before .before .before .before .if3 .left))
+returns-4 c =
+    let took : tie.After-take = search in
+    let going : tie.Else3 = search in
+    let s = start (there going) in
+    out-stuck _ (s .args .tags .now) (s .pre .0) (state s) (s .args .n .0) _ _ (act s) (took .take .ensures) (c .if4 .taken)
+    ∙ sym (on going)
 
--- src/turn.rt:113:32
 held-requires : tie.Need-held-requires
-held-requires c κs = omega (
-  arith,
-  c .before .before .before .before .before .before .before .before .before .before .before .before .before .before .before
-      .before .before .before .if1 .left,
-)
+held-requires c κs =
+    let going : tie.Else3 = search in
+    let in-table : tie.Else2 = search in
+    node in-table .0
 
--- src/turn.rt:113:9
 returns-5 : tie.Need-returns-5
-returns-5 c = out-held
-    (c .before .before .before .before .before .before .before .before .before .before .before .before .before .before .before .before
-    .before .before .before .before .before .before .before .args .table .now)
-    (c .before .before .before .before .before .before .before .before .before .before .before .before .before .before .before .before
-    .before .before .before .before .before .before .before .args .tags .now)
-    (c .before .before .before .before .before .before .before .before .before .before .before .before .before .before .before .before
-    .before .before .before .before .before .before .before .pre .0)
-    (stateAs (c .before .before .before .before .before .before .before .before .before .before .before .before .before .before .before
-    .before .before .before .before .before .before .before .before .args .status .now)
-    (c .before .before .before .before .before .before .before .before .before .before .before .before .before .before .before .before
-    .before .before .before .before .before .before .before .args .second .now)
-    (c .before .before .before .before .before .before .before .before .before .before .before .before .before .before .before .before
-    .before .before .before .before .before .before .before .args .value .now)
-    (c .before .before .before .before .before .before .before .before .before .before .before .before .before .before .before .before
-    .before .before .before .before .before .before .before .args .registers .now)
-    (c .before .before .before .before .before .before .before .before .before .before .before .before .before .before .before .before
-    .before .before .before .before .before .before .before .args .occupant .now))
-    (c .before .before .before .before .before .before .before .before .before .before .before .before .before .before .before .before
-    .before .before .before .before .before .before .before .args .n .0) _ (c .before .before .before .take .result)
-    (actOf (c .before .before .before .before .before .before .before .before .before .before .before .before .before .before .before
-    .before .before .before .before .before .before .before .before .args .table .now)
-    (stateAs (c .before .before .before .before .before .before .before .before .before .before .before .before .before .before .before
-    .before .before .before .before .before .before .before .before .args .status .now)
-    (c .before .before .before .before .before .before .before .before .before .before .before .before .before .before .before .before
-    .before .before .before .before .before .before .before .args .second .now)
-    (c .before .before .before .before .before .before .before .before .before .before .before .before .before .before .before .before
-    .before .before .before .before .before .before .before .args .value .now)
-    (c .before .before .before .before .before .before .before .before .before .before .before .before .before .before .before .before
-    .before .before .before .before .before .before .before .args .registers .now)
-    (c .before .before .before .before .before .before .before .before .before .before .before .before .before .before .before .before
-    .before .before .before .before .before .before .before .args .occupant .now))
-    (c .before .before .before .before .before .before .before .before .before .before .before .before .before .before .before .before
-    .before .before .before .before .before .before .before .args .n .0)) (c .before .before .before .take .ensures)
-    (c .before .if5 .taken) (c .held .result) (c .held .ensures) ∙ sym
-    (turn-on (c .before .before .before .before .before .before .before .before .before .before .before .before .before .before .before
-    .before .before .before .before .before .before .before .before .args .table .now)
-    (c .before .before .before .before .before .before .before .before .before .before .before .before .before .before .before .before
-    .before .before .before .before .before .before .before .args .tags .now)
-    (c .before .before .before .before .before .before .before .before .before .before .before .before .before .before .before .before
-    .before .before .before .before .before .before .before .pre .0)
-    (stateAs (c .before .before .before .before .before .before .before .before .before .before .before .before .before .before .before
-    .before .before .before .before .before .before .before .before .args .status .now)
-    (c .before .before .before .before .before .before .before .before .before .before .before .before .before .before .before .before
-    .before .before .before .before .before .before .before .args .second .now)
-    (c .before .before .before .before .before .before .before .before .before .before .before .before .before .before .before .before
-    .before .before .before .before .before .before .before .args .value .now)
-    (c .before .before .before .before .before .before .before .before .before .before .before .before .before .before .before .before
-    .before .before .before .before .before .before .before .args .registers .now)
-    (c .before .before .before .before .before .before .before .before .before .before .before .before .before .before .before .before
-    .before .before .before .before .before .before .before .args .occupant .now))
-    (c .before .before .before .before .before .before .before .before .before .before .before .before .before .before .before .before
-    .before .before .before .before .before .before .before .args .n .0)
-    (c .before .before .before .before .before .before .before .before .before .before .before .before .before .before .before .before
-    .before .before .before .if1 .left)
-    (omega (
-      arith,
-      c .before .before .before .before .before .before .before .before .before .before .before .before .before .before
-          .before .if2 .left,
-      c .before .before .before .before .before .before .before .before .before .before .before .before .before
-          .before .before .before .before .before .nodes .ensures,
-    ))
-    (c .before .before .before .before .before .before .before .before .before .before .before .before .before .before .before .before
-    .before .before .before .before .before .before .before .pre .3)
-    (c .before .before .before .before .before .before .before .before .before .before .before .before .before .before .top .result .0)
-    (c .before .before .before .before .before .before .before .before .before .before .before .before .status-at .result)
-    (c .before .before .before .before .before .before .before .before .before .before .before .before .before .before .top .ensures .0)
-    (c .before .before .before .before .before .before .before .before .before .before .before .before .status-at .ensures)
-    (c .before .before .before .before .before .before .before .before .before .before .before .if3 .left))
+returns-5 c =
+    let took : tie.After-take = search in
+    let held : tie.Then5 = search in
+    let going : tie.Else3 = search in
+    let s = start (there going) in
+    out-held _ (s .args .tags .now) (s .pre .0) (state s) (s .args .n .0) _ _ (act s) (took .take .ensures) (held .if5 .taken) _
+    (c .held .ensures) ∙ sym (on going)
 
--- src/turn.rt:115:5
 told-requires : tie.Need-told-requires
-told-requires c κs = c .before .before .before .before .before .before .before .before .before .before .before .before .before .before
-    .before .top .ensures .1
+told-requires c κs =
+    let going : tie.Else3 = search in
+    let top : tie.After-top = search in
+    top .top .ensures .1
 
--- src/turn.rt:65:1
 returns-6 : tie.Need-returns-6
-returns-6 c = out-moved
-    (c .before .before .before .before .before .before .before .before .before .before .before .before .before .before .before .before
-    .before .before .before .before .before .before .before .before .before .args .table .now)
-    (c .before .before .before .before .before .before .before .before .before .before .before .before .before .before .before .before
-    .before .before .before .before .before .before .before .before .before .args .tags .now)
-    (c .before .before .before .before .before .before .before .before .before .before .before .before .before .before .before .before
-    .before .before .before .before .before .before .before .before .before .pre .0)
-    (stateAs (c .before .before .before .before .before .before .before .before .before .before .before .before .before .before .before
-    .before .before .before .before .before .before .before .before .before .before .args .status .now)
-    (c .before .before .before .before .before .before .before .before .before .before .before .before .before .before .before .before
-    .before .before .before .before .before .before .before .before .before .args .second .now)
-    (c .before .before .before .before .before .before .before .before .before .before .before .before .before .before .before .before
-    .before .before .before .before .before .before .before .before .before .args .value .now)
-    (c .before .before .before .before .before .before .before .before .before .before .before .before .before .before .before .before
-    .before .before .before .before .before .before .before .before .before .args .registers .now)
-    (c .before .before .before .before .before .before .before .before .before .before .before .before .before .before .before .before
-    .before .before .before .before .before .before .before .before .before .args .occupant .now))
-    (c .before .before .before .before .before .before .before .before .before .before .before .before .before .before .before .before
-    .before .before .before .before .before .before .before .before .before .args .n .0) _
-    (c .before .before .before .before .before .take .result)
-    (actOf (c .before .before .before .before .before .before .before .before .before .before .before .before .before .before .before
-    .before .before .before .before .before .before .before .before .before .before .args .table .now)
-    (stateAs (c .before .before .before .before .before .before .before .before .before .before .before .before .before .before .before
-    .before .before .before .before .before .before .before .before .before .before .args .status .now)
-    (c .before .before .before .before .before .before .before .before .before .before .before .before .before .before .before .before
-    .before .before .before .before .before .before .before .before .before .args .second .now)
-    (c .before .before .before .before .before .before .before .before .before .before .before .before .before .before .before .before
-    .before .before .before .before .before .before .before .before .before .args .value .now)
-    (c .before .before .before .before .before .before .before .before .before .before .before .before .before .before .before .before
-    .before .before .before .before .before .before .before .before .before .args .registers .now)
-    (c .before .before .before .before .before .before .before .before .before .before .before .before .before .before .before .before
-    .before .before .before .before .before .before .before .before .before .args .occupant .now))
-    (c .before .before .before .before .before .before .before .before .before .before .before .before .before .before .before .before
-    .before .before .before .before .before .before .before .before .before .args .n .0))
-    (c .before .before .before .before .before .take .ensures) (c .before .before .before .before .if4 .left)
-    (c .before .before .before .if5 .left)
-    (c .before .before .before .before .before .before .before .before .before .before .before .before .before .before .before .before
-    .top .result .0) (c .before .before .before .before .before .before .before .before .before .before .before .before .before .before
-    .before .before .top .ensures .0) _ (c .told .ensures) ∙ sym
-    (turn-on (c .before .before .before .before .before .before .before .before .before .before .before .before .before .before .before
-    .before .before .before .before .before .before .before .before .before .before .args .table .now)
-    (c .before .before .before .before .before .before .before .before .before .before .before .before .before .before .before .before
-    .before .before .before .before .before .before .before .before .before .args .tags .now)
-    (c .before .before .before .before .before .before .before .before .before .before .before .before .before .before .before .before
-    .before .before .before .before .before .before .before .before .before .pre .0)
-    (stateAs (c .before .before .before .before .before .before .before .before .before .before .before .before .before .before .before
-    .before .before .before .before .before .before .before .before .before .before .args .status .now)
-    (c .before .before .before .before .before .before .before .before .before .before .before .before .before .before .before .before
-    .before .before .before .before .before .before .before .before .before .args .second .now)
-    (c .before .before .before .before .before .before .before .before .before .before .before .before .before .before .before .before
-    .before .before .before .before .before .before .before .before .before .args .value .now)
-    (c .before .before .before .before .before .before .before .before .before .before .before .before .before .before .before .before
-    .before .before .before .before .before .before .before .before .before .args .registers .now)
-    (c .before .before .before .before .before .before .before .before .before .before .before .before .before .before .before .before
-    .before .before .before .before .before .before .before .before .before .args .occupant .now))
-    (c .before .before .before .before .before .before .before .before .before .before .before .before .before .before .before .before
-    .before .before .before .before .before .before .before .before .before .args .n .0)
-    (c .before .before .before .before .before .before .before .before .before .before .before .before .before .before .before .before
-    .before .before .before .before .before .if1 .left) (omega (
-      arith,
-      c .before .before .before .before .before .before .before .before .before .before .before .before .before .before .before .before
-          .before .if2 .left,
-      c .before .before .before .before .before .before .before .before .before .before .before .before .before
-          .before .before .before .before .before .before .before .nodes .ensures,
-    ))
-    (c .before .before .before .before .before .before .before .before .before .before .before .before .before .before .before .before
-    .before .before .before .before .before .before .before .before .before .pre .3)
-    (c .before .before .before .before .before .before .before .before .before .before .before .before .before .before .before .before
-    .top .result .0) (c .before .before .before .before .before .before .before .before .before .before .before .before .before .before
-    .status-at .result) (c .before .before .before .before .before .before .before .before .before .before .before .before .before
-    .before .before .before .top .ensures .0)
-    (c .before .before .before .before .before .before .before .before .before .before .before .before .before .before .status-at
-    .ensures) (c .before .before .before .before .before .before .before .before .before .before .before .before .before .if3 .left))
+returns-6 c =
+    let done : tie.Else4 = search in
+    let moved : tie.Else5 = search in
+    let took : tie.After-take = search in
+    let going : tie.Else3 = search in
+    let top : tie.After-top = search in
+    let s = start (there going) in
+    out-moved _ (s .args .tags .now) (s .pre .0) (state s) (s .args .n .0) _ _ (act s) (took .take .ensures) (done .if4 .left)
+    (moved .if5 .left) _ (top .top .ensures .0) _ (c .told .ensures) ∙ sym (on going)
 
 pub turn-spec : {M : Type 1} → statement M
 turn-spec =

@@ -1,43 +1,35 @@
-use mathlib.Core.Path.{ap, sym, _∙_}
+use mathlib.Core.Path.{ap, sym}
 use Rattle.circuit.specs.Meaning.{openingOf}
 use Rattle.exports.specs.Answers.{startCode}
 use borrow.Author.Needs.{needs}
 use Rattle.exports.proofs.codes.opening.Statement.{statement}
 use Rattle.exports.proofs.codes.opening.Tie as tie
-use Rattle.exports.proofs.codes.opening.Reads as reads
-use Rattle.exports.proofs.codes.opening.Lts as lts
 
--- src/codes.rt:29:28
 enum-told : tie.Need-enum-told
 enum-told c = search needs
 
--- src/codes.rt:30:26
 enum-known-a : tie.Need-enum-known-a
 enum-known-a c = search needs
 
--- src/codes.rt:30:45
 cast-result : tie.Need-cast-result
 cast-result c = search needs
 
--- src/codes.rt:30:44
 mul-result : tie.Need-mul-result
 mul-result c = search needs
 
--- src/codes.rt:30:71
 cast-result-2 : tie.Need-cast-result-2
 cast-result-2 c = search needs
 
--- src/codes.rt:30:44
 add-result : tie.Need-add-result
 add-result c = search needs
 
--- src/codes.rt:25:1
 returns : tie.Need-returns
 returns c = λ s. sym (ap (λ x. startCode (openingOf x s)) (c .enum-told .given .1))
 
--- src/codes.rt:25:1
 returns-2 : tie.Need-returns-2
-returns-2 c = λ s. sym (ap (λ x. startCode (openingOf x s)) (c .before .before .a .given .1))
+returns-2 c =
+    let after-a : tie.After-a = search in
+    λ s. sym (ap (λ x. startCode (openingOf x s)) (after-a .a .given .1))
 
 pub opening-spec : {M : Type 1} → statement M
 opening-spec =

@@ -3,15 +3,10 @@ use Rattle.circuit.specs.Meaning.{stateAs}
 use borrow.Author.Needs.{needs}
 use Rattle.exports.proofs.states.gathered.Statement.{statement}
 use Rattle.exports.proofs.states.gathered.Tie as tie
-use Rattle.exports.proofs.states.gathered.Reads as reads
-use Rattle.exports.proofs.states.gathered.Lts as lts
-use Rattle.circuit.proofs.arrays.named.Reads as named-reads
 
--- src/states.rt:22:9
 named-requires : tie.Need-named-requires
 named-requires c κs = search needs
 
--- src/states.rt:7:1
 returns : tie.Need-returns
 returns c = ap (stateAs _ _ _ _) (c .named .ensures)
 

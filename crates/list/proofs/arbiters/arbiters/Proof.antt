@@ -15,10 +15,15 @@ abbrev μ-loop : tie.MeasureT-loop
 μ-loop table lent cells row bodies₀ called₀ found₀ f₀ bodies called found f = f
 
 collect-requires : tie.Need-collect-requires Inv-loop μ-loop
-collect-requires c κs = c .before .pre
+collect-requires c κs =
+    let start : tie.Start Inv-loop μ-loop = search in
+    start .pre
 
 sites-requires : tie.Need-sites-requires Inv-loop μ-loop
-sites-requires c κs = (c .before .before .before .pre, c .before .collect .ensures)
+sites-requires c κs =
+    let after-collect : tie.After-collect Inv-loop μ-loop = search in
+    let start : tie.Start Inv-loop μ-loop = search in
+    (start .pre, after-collect .collect .ensures)
 
 functions-requires : tie.Need-functions-requires Inv-loop μ-loop
 functions-requires c κs = tt
@@ -30,19 +35,18 @@ loop-holds c =
 
 body-walk-requires : tie.Need-body-walk-requires Inv-loop μ-loop
 body-walk-requires c κs =
-    let inv = c .before .before .before .before .before .before .before .loop .inv in (
-      (
-        c .before .before .before .before .before .before .before .before .before .before .before .before .before .pre,
-        (
-          omega arith,
-          inv .0,
-        ),
-      ),
+    let in-loop : tie.In-loop Inv-loop μ-loop = search in
+    let at-loop : tie.At-loop Inv-loop μ-loop = search in
+    let after-sites : tie.After-sites Inv-loop μ-loop = search in
+    let after-collect : tie.After-collect Inv-loop μ-loop = search in
+    let start : tie.Start Inv-loop μ-loop = search in
+    let inv = at-loop .loop .inv in (
+      (start .pre, (omega (arith, in-loop .loop-test .taken), inv .0)),
       (
         record {
-          sited = c .before .before .before .before .before .before .before .before .before .sites .ensures;
-          read = c .before
-              .before .before .before .before .before .before .before .before .before .before .collect .ensures;
+          sited = after-sites .sites .ensures;
+          read = after-collect
+              .collect .ensures;
         },
         inv .1,
       ),
@@ -56,19 +60,16 @@ loop-less c = omega arith
 
 loop-again : tie.Need-loop-again Inv-loop μ-loop
 loop-again c =
-    let inv = c .before .before .before .before .before .before .before .before .loop .inv in
+    let at-loop : tie.At-loop Inv-loop μ-loop = search in
+    let inv = at-loop .loop .inv in
     let r = c .body-walk .ensures in
-    let F = functions (c .before .before .before .before .before .before .before .before .before .before .before .before .before
-    .before .args .t1 .now) in (
-      omega arith,
-      r .0,
-      all-seen F (c .before .before .before .before .before .before .before .before .loop .called) (c .body-walk .last .1 .1 .1 .1 .1
-          .0) (c .before .before .before .before .before .before .before .before .loop .f) (inv .2) (r .1 .seen) (r .2),
-    )
+    let F = functions _ in
+    (omega arith, r .0, all-seen F (at-loop .loop .called) (c .body-walk .last .1 .1 .1 .1 .1 .0) _ (inv .2) (r .1 .seen) (r .2))
 
 returns : tie.Need-returns Inv-loop μ-loop
 returns c =
-    let inv = c .before .loop .inv in
+    let at-loop : tie.At-loop Inv-loop μ-loop = search in
+    let inv = at-loop .loop .inv in
     (inv .1 .size-found, found-list _ _ _ _ (inv .1) (λ g i. inv .2 g (omega (arith, i .0)) (i .1)))
 
 pub arbiters-spec : {M : Type 1} → statement M

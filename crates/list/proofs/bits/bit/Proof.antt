@@ -18,7 +18,8 @@ shl-result c = search needs
 
 returns : tie.Need-returns
 returns c =
-    let n = c .before .args .n .0 in
+    let start : tie.Start = search in
+    let n = start .args .n .0 in
     let e : (1 * 2 ^ ((n - 1) % 8)) % 2 ^ 8 ≡ 2 ^ ((n - 1) % 8) = bit-is _ 8 (omega arith) in
     e
 

@@ -1,6 +1,6 @@
 -- `bits::join` meets its contract
 use mathlib.Core.Path.{_≡_, sym, ap}
-use Prim.Native.Nat.{ℕ, _-_, _≤_}
+use Prim.Native.Nat.{_-_, _≤_}
 use native.Mathlib.Omega.{arith}
 use borrow.Author.Needs.{needs}
 use lib.ListN.{length, getD, length-set}
@@ -36,20 +36,25 @@ loop-less c = omega arith
 
 loop-again : tie.Need-loop-again Inv-loop μ-loop
 loop-again c =
-    let a = c .before .before .before .before .args in
-    let i = c .before .before .before .loop .i in
-    let inv = c .before .before .before .loop .inv in
-    let l : length (c .before .before .before .loop .set) ≡ 64 = inv .1 in (
+    let at-loop : tie.At-loop Inv-loop μ-loop = search in
+    let start : tie.Start Inv-loop μ-loop = search in
+    let a = start .args in
+    let i = at-loop .loop .i in
+    let inv = at-loop .loop .inv in
+    let l : length (at-loop .loop .set) ≡ 64 = inv .1 in (
       omega arith,
       simp length-set l,
-      upto-more _ (a .set .now) _ i _ (omega arith) (inv .2) (ap (λ x. bitOr x (getD (a .other .now) i 0)) (inv .2 .left i (omega arith))),
+      upto-more _ _ _ i _ (omega arith) (inv .2) (ap (λ x. bitOr x (getD (a .other .now) i 0))
+          (inv .2 .left i (omega arith))),
     )
 
 returns : tie.Need-returns Inv-loop μ-loop
 returns c =
-    let a = c .before .before .args in
-    let inv = c .before .loop .inv in
-    adds-by (λ j. getD (a .other .now) j 0) _ _ _ (inv .1) (λ j h. inv .2 .done j (omega arith)) (λ m b. sym (tagged-bit (a .other .now) m))
+    let at-loop : tie.At-loop Inv-loop μ-loop = search in
+    let start : tie.Start Inv-loop μ-loop = search in
+    let a = start .args in
+    let inv = at-loop .loop .inv in
+    adds-by (λ j. getD (a .other .now) j 0) _ _ _ (inv .1) (λ j h. inv .2 .done j (omega arith)) (λ m b. sym (tagged-bit _ m))
 
 pub join-spec : {M : Type 1} → statement M
 join-spec =

@@ -1,6 +1,6 @@
 -- `bits::join_at` meets its contract
 use mathlib.Core.Path.{_≡_, sym, ap}
-use Prim.Native.Nat.{ℕ, _+_, _-_, _*_, _≤_}
+use Prim.Native.Nat.{_+_, _-_, _*_, _≤_}
 use native.Mathlib.Omega.{arith}
 use borrow.Author.Needs.{needs}
 use lib.ListN.{length, getD, length-set}
@@ -45,21 +45,25 @@ loop-less c = omega arith
 
 loop-again : tie.Need-loop-again Inv-loop μ-loop
 loop-again c =
-    let a = c .before .before .before .before .before .args in
-    let i = c .before .before .before .loop .i in
-    let inv = c .before .before .before .loop .inv in (
+    let at-loop : tie.At-loop Inv-loop μ-loop = search in
+    let start : tie.Start Inv-loop μ-loop = search in
+    let a = start .args in
+    let i = at-loop .loop .i in
+    let inv = at-loop .loop .inv in (
       omega arith,
       simp length-set (inv .1),
-      upto-more _ (a .set .now) _ i _ (omega (arith, inv .1)) (inv .2)
-          (ap (λ x. bitOr x (getD (a .row .now) (64 * a .g .0 + i) 0)) (inv .2 .left i (omega arith))),
+      upto-more _ _ _ i _ (omega (arith, inv .1)) (inv .2) (ap (λ x. bitOr x (getD (a .row .now)
+          (64 * a .g .0 + i) 0)) (inv .2 .left i (omega arith))),
     )
 
 returns : tie.Need-returns Inv-loop μ-loop
 returns c =
-    let a = c .before .before .before .args in
-    let inv = c .before .loop .inv in
-    adds-by (λ j. getD (a .row .now) (64 * a .g .0 + j) 0) _ _ _ (inv .1) (λ j h. inv .2 .done j (omega arith))
-    (λ m b. sym (tagged-row (a .row .now) (a .g .0) m (b .0)))
+    let at-loop : tie.At-loop Inv-loop μ-loop = search in
+    let start : tie.Start Inv-loop μ-loop = search in
+    let a = start .args in
+    let inv = at-loop .loop .inv in
+    adds-by (λ j. getD (a .row .now) (64 * a .g .0 + j) 0) _ _ _ (inv .1) (λ j h. inv .2 .done j (omega arith)) (λ m b. sym
+    (tagged-row _ (a .g .0) m (b .0)))
 
 pub join-at-spec : {M : Type 1} → statement M
 join-at-spec =

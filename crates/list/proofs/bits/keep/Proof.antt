@@ -1,9 +1,9 @@
 -- `bits::keep` meets its contract
 use mathlib.Core.Path.{_≡_, subst}
-use Prim.Native.Nat.{ℕ, _+_, _-_, _*_, _≤_}
+use Prim.Native.Nat.{_-_, _*_, _≤_}
 use native.Mathlib.Omega.{arith}
 use borrow.Author.Needs.{needs}
-use lib.ListN.{length, getD, length-set}
+use lib.ListN.{length, length-set}
 use Rattle.list.proofs.BitLaws.{kept-by}
 use Rattle.list.proofs.Bytewise.{Part, part-none, part-more}
 use Rattle.list.proofs.bits.keep.Statement.{statement}
@@ -41,20 +41,21 @@ loop-less c = omega arith
 
 loop-again : tie.Need-loop-again Inv-loop μ-loop
 loop-again c =
-    let a = c .before .before .before .before .args in
-    let i = c .before .before .loop .i in
-    let inv = c .before .before .loop .inv in (
-      omega arith,
-      simp length-set (inv .1),
-      part-more (64 * a .g .0) (a .set .now) (a .row .now) _ i (omega (arith, inv .1)) (inv .2),
-    )
+    let at-loop : tie.At-loop Inv-loop μ-loop = search in
+    let start : tie.Start Inv-loop μ-loop = search in
+    let a = start .args in
+    let i = at-loop .loop .i in
+    let inv = at-loop .loop .inv in
+    (omega arith, simp length-set (inv .1), part-more (64 * a .g .0) _ _ _ i (omega (arith, inv .1)) (inv .2))
 
 returns : tie.Need-returns Inv-loop μ-loop
 returns c =
-    let a = c .before .before .before .args in
-    let inv = c .before .loop .inv in
-    let e : c .before .loop .i ≡ 64 = omega arith in
-    kept-by (a .g .0) (a .set .now) (a .row .now) _ (inv .1) (subst (Part (64 * a .g .0) (a .set .now) (a .row .now) _) e (inv .2))
+    let at-loop : tie.At-loop Inv-loop μ-loop = search in
+    let start : tie.Start Inv-loop μ-loop = search in
+    let a = start .args in
+    let inv = at-loop .loop .inv in
+    let e : at-loop .loop .i ≡ 64 = omega arith in
+    kept-by (a .g .0) _ _ _ (inv .1) (subst (Part (64 * a .g .0) _ _ _) e (inv .2))
 
 pub keep-spec : {M : Type 1} → statement M
 keep-spec =

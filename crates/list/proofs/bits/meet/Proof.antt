@@ -17,7 +17,7 @@ abbrev μ-loop : tie.MeasureT-loop
 loop-holds : tie.Need-loop-holds Inv-loop μ-loop
 loop-holds c =
     let a = c .args in
-    (omega arith, adds-none _ (a .found .now) (c .pre) (λ m b. meet-zero (a .set .now) (a .row .now) (a .mask) m))
+    (omega arith, adds-none _ _ (c .pre) (λ m b. meet-zero _ _ (a .mask) m))
 
 cast-left : tie.Need-cast-left Inv-loop μ-loop
 cast-left c = search needs
@@ -27,11 +27,13 @@ shr-left c = omega arith
 
 returns : tie.Need-returns Inv-loop μ-loop
 returns c =
-    let a = c .before .before .before .args in
-    let l = c .before .before .loop in
+    let at-loop : tie.At-loop Inv-loop μ-loop = search in
+    let start : tie.Start Inv-loop μ-loop = search in
+    let a = start .args in
+    let l = at-loop .loop in
     let e : l .h + (31 - l .h) ≡ 31 = omega (arith, l .inv .0) in
-    subst (λ k. Adds (meetOf (a .set .now) (a .row .now) (a .mask) k) (a .found .now) (l .found)) e
-    (meet-rest (a .set .now) (a .row .now) (a .mask) (l .h) (31 - l .h) (a .found .now) (l .found) (c .if1 .taken) (l .inv .1))
+    subst (λ k. Adds (meetOf (a .set .now) (a .row .now) (a .mask) k) (a .found .now) (l .found)) e (meet-rest _ _ (a .mask) (l .h)
+    (31 - l .h) _ (l .found) (c .if1 .taken) (l .inv .1))
 
 add-h : tie.Need-add-h Inv-loop μ-loop
 add-h c = omega arith
@@ -40,18 +42,24 @@ has-requires : tie.Need-has-requires Inv-loop μ-loop
 has-requires c κs = omega arith
 
 meet-at-requires : tie.Need-meet-at-requires Inv-loop μ-loop
-meet-at-requires c κs = (c .before .before .before .before .before .loop .inv .1 .size, omega arith)
+meet-at-requires c κs =
+    let at-loop : tie.At-loop Inv-loop μ-loop = search in
+    (at-loop .loop .inv .1 .size, omega arith)
 
 loop-less : tie.Need-loop-less Inv-loop μ-loop
 loop-less c = omega arith
 
 loop-again : tie.Need-loop-again Inv-loop μ-loop
 loop-again c =
-    let a = c .before .before .before .before .before .before .before .args in
-    let l = c .before .before .before .before .before .before .loop in (
+    let then2 : tie.Then2 Inv-loop μ-loop = search in
+    let after-has : tie.After-has Inv-loop μ-loop = search in
+    let at-loop : tie.At-loop Inv-loop μ-loop = search in
+    let start : tie.Start Inv-loop μ-loop = search in
+    let a = start .args in
+    let l = at-loop .loop in (
       omega arith,
-      meet-more (a .set .now) (a .row .now) (a .mask) (l .h) (a .found .now) (l .found) _ (l .inv .1)
-          (sym (c .before .before .before .has .ensures) ∙ c .before .before .if2 .taken) (c .meet-at .ensures),
+      meet-more _ _ (a .mask) (l .h) _ (l .found) _ (l .inv .1) (sym (after-has .has .ensures) ∙ then2 .if2 .taken)
+          (c .meet-at .ensures),
     )
 
 loop-less-2 : tie.Need-loop-less-2 Inv-loop μ-loop
@@ -59,17 +67,19 @@ loop-less-2 c = omega arith
 
 loop-again-2 : tie.Need-loop-again-2 Inv-loop μ-loop
 loop-again-2 c =
-    let a = c .before .before .before .before .before .args in
-    let l = c .before .before .before .before .loop in (
-      omega arith,
-      meet-skip (a .set .now) (a .row .now) (a .mask) (l .h) (a .found .now) (l .found) (l .inv .1) (sym (c .before .has .ensures)
-          ∙ c .if2 .left),
-    )
+    let after-has : tie.After-has Inv-loop μ-loop = search in
+    let at-loop : tie.At-loop Inv-loop μ-loop = search in
+    let start : tie.Start Inv-loop μ-loop = search in
+    let a = start .args in
+    let l = at-loop .loop in
+    (omega arith, meet-skip _ _ (a .mask) (l .h) _ (l .found) (l .inv .1) (sym (after-has .has .ensures) ∙ c .if2 .left))
 
 returns-2 : tie.Need-returns-2 Inv-loop μ-loop
 returns-2 c =
-    let a = c .before .before .args in
-    let l = c .before .loop in
+    let at-loop : tie.At-loop Inv-loop μ-loop = search in
+    let start : tie.Start Inv-loop μ-loop = search in
+    let a = start .args in
+    let l = at-loop .loop in
     let e : l .h ≡ 31 = omega arith in
     subst (λ k. Adds (meetOf (a .set .now) (a .row .now) (a .mask) k) (a .found .now) (l .found)) e (l .inv .1)
 

@@ -1,6 +1,6 @@
 -- `bits::meet_at` meets its contract
 use mathlib.Core.Path.{_≡_, sym, ap, ap₂, _∙_}
-use Prim.Native.Nat.{ℕ, _+_, _-_, _*_, _≤_, _/_, _%_}
+use Prim.Native.Nat.{_+_, _-_, _*_, _≤_, _/_, _%_}
 use native.Mathlib.Omega.{arith}
 use borrow.Author.Needs.{needs}
 use lib.ListN.{length, getD, length-set}
@@ -50,23 +50,26 @@ loop-less c = omega arith
 
 loop-again : tie.Need-loop-again Inv-loop μ-loop
 loop-again c =
-    let a = c .before .before .before .before .before .before .args in
-    let i = c .before .before .before .before .loop .i in
-    let inv = c .before .before .before .before .loop .inv in (
+    let at-loop : tie.At-loop Inv-loop μ-loop = search in
+    let start : tie.Start Inv-loop μ-loop = search in
+    let a = start .args in
+    let i = at-loop .loop .i in
+    let inv = at-loop .loop .inv in (
       omega arith,
       simp length-set (inv .1),
-      upto-more _ (a .found .now) _ i _ (omega (arith, inv .1)) (inv .2)
-          (ap (λ x. bitOr x (bitAnd (getD (a .set .now) i 0) (getD (a .row .now) (64 * a .h .0 + i) 0))) (inv .2 .left i (omega arith))),
+      upto-more _ _ _ i _ (omega (arith, inv .1)) (inv .2) (ap (λ x. bitOr x (bitAnd (getD
+          (a .set .now) i 0) (getD (a .row .now) (64 * a .h .0 + i) 0))) (inv .2 .left i (omega arith))),
     )
 
 returns : tie.Need-returns Inv-loop μ-loop
 returns c =
-    let a = c .before .before .before .args in
-    let inv = c .before .loop .inv in
+    let at-loop : tie.At-loop Inv-loop μ-loop = search in
+    let start : tie.Start Inv-loop μ-loop = search in
+    let a = start .args in
+    let inv = at-loop .loop .inv in
     adds-by (λ j. bitAnd (getD (a .set .now) j 0) (getD (a .row .now) (64 * a .h .0 + j) 0)) _ _ _ (inv .1) (λ j h. inv .2 .done j
-    (omega arith))
-    (λ m b. and-bit (getD (a .set .now) ((m - 1) / 8) 0) (getD (a .row .now) (64 * a .h .0 + (m - 1) / 8) 0) ((m - 1) % 8)
-    ∙ ap₂ (λ p q. p && q) (sym (tagged-bit (a .set .now) m)) (sym (tagged-row (a .row .now) (a .h .0) m (b .0))))
+    (omega arith)) (λ m b. and-bit (getD (a .set .now) ((m - 1) / 8) 0) (getD (a .row .now) (64 * a .h .0 + (m - 1) / 8) 0)
+    ((m - 1) % 8) ∙ ap₂ (λ p q. p && q) (sym (tagged-bit _ m)) (sym (tagged-row _ (a .h .0) m (b .0))))
 
 pub meet-at-spec : {M : Type 1} → statement M
 meet-at-spec =

@@ -27,11 +27,12 @@ element-write-set c = search needs
 
 returns : tie.Need-returns
 returns c =
-    let a = c .before .before .args in
+    let start : tie.Start = search in
+    let a = start .args in
     let x = a .set .now in
     let n = a .n .0 in
-    subst (λ v. Adds (eqb n) x (set x ((n - 1) / 8) (bitOr (getD x ((n - 1) / 8) 0) v))) (sym (c .bit .ensures))
-    (adds-one x n (c .before .before .pre .0) (c .before .before .pre .1))
+    subst (λ v. Adds (eqb n) x (set x ((n - 1) / 8) (bitOr (getD x ((n - 1) / 8) 0) v))) (sym (c .bit .ensures)) (adds-one x n
+    (start .pre .0) (start .pre .1))
 
 pub put-spec : {M : Type 1} → statement M
 put-spec =

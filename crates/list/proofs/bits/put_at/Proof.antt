@@ -35,12 +35,14 @@ element-write-row c = search needs
 
 returns : tie.Need-returns
 returns c =
-    let a = c .before .before .before .args in
-    let p = c .before .before .before .pre in
+    let start : tie.Start = search in
+    let a = start .args in
+    let p = start .pre in
     let x = a .row .now in
     let n = a .n .0 in
     let at = 64 * a .g .0 + (n - 1) / 8 in
-    subst (λ v. PutAt (a .g .0) n x (set x at (bitOr (getD x at 0) v))) (sym (c .bit .ensures)) (put-row x (a .g .0) n (p .0) (p .1) (p .2))
+    subst (λ v. PutAt (a .g .0) n x (set x at (bitOr (getD x at 0) v))) (sym (c .bit .ensures)) (put-row x (a .g .0) n (p .0) (p .1)
+    (p .2))
 
 pub put-at-spec : {M : Type 1} → statement M
 put-at-spec =

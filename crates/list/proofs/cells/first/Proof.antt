@@ -19,7 +19,10 @@ element-copy-out-t10 : tie.Need-element-copy-out-t10
 element-copy-out-t10 c = search needs
 
 returns : tie.Need-returns
-returns c = let p = c .before .before .pre in p .read .firsts _ (p .node)
+returns c =
+    let start : tie.Start = search in
+    let p = start .pre in
+    p .read .firsts _ (p .node)
 
 pub first-spec : {M : Type 1} → statement M
 first-spec = tie.close (tie.spec cast-t4 mul-t5 add-t6 mul-t7 element-copy-out-t10 returns)

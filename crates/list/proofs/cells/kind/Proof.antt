@@ -16,7 +16,10 @@ element-copy-out-result : tie.Need-element-copy-out-result
 element-copy-out-result c = search needs
 
 returns : tie.Need-returns
-returns c = let p = c .before .before .pre in p .read .kinds _ (p .node)
+returns c =
+    let start : tie.Start = search in
+    let p = start .pre in
+    p .read .kinds _ (p .node)
 
 pub kind-spec : {M : Type 1} → statement M
 kind-spec =

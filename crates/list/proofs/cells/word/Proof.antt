@@ -19,7 +19,10 @@ element-copy-out-result : tie.Need-element-copy-out-result
 element-copy-out-result c = search needs
 
 returns : tie.Need-returns
-returns c = let p = c .before .before .pre in p .0 .read .words _ (p .0 .node) (p .1)
+returns c =
+    let start : tie.Start = search in
+    let p = start .pre in
+    p .0 .read .words _ (p .0 .node) (p .1)
 
 pub word-spec : {M : Type 1} → statement M
 word-spec =

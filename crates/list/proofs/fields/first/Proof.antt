@@ -27,12 +27,10 @@ two-at-requires c κs = search needs
 returns : tie.Need-returns
 unfolding first nodeAt
 returns c =
-    let a = c .before .before .before .before .args in
-    c .two-at .ensures ∙ ap (λ i. twoAt (a .table .now) i) (omega (
-      arith,
-      c .before .before .base .ensures,
-      c .before .before .before .before .pre .node .0,
-    ))
+    let after-base : tie.After-base = search in
+    let start : tie.Start = search in
+    let a = start .args in
+    c .two-at .ensures ∙ ap (λ i. twoAt (a .table .now) i) (omega (arith, after-base .base .ensures, start .pre .node .0))
 
 pub first-spec : {M : Type 1} → statement M
 first-spec =

@@ -1,6 +1,5 @@
 -- `fields::kind` meets its contract
 use mathlib.Core.Path.{ap}
-use Prim.Native.Nat.{_+_, _*_, _-_}
 use native.Mathlib.Omega.{arith}
 use Rattle.table.specs.Bytes.{byteAt, nodeAt, kind}
 use borrow.Author.Needs.{needs}
@@ -28,8 +27,10 @@ shared-slice-read-result c = search needs
 returns : tie.Need-returns
 unfolding kind nodeAt
 returns c =
-    let a = c .before .before .before .before .args in
-    ap (λ i. byteAt (a .table .now) i) (omega (arith, c .before .before .base .ensures, c .before .before .before .before .pre .node .0))
+    let after-base : tie.After-base = search in
+    let start : tie.Start = search in
+    let a = start .args in
+    ap (λ i. byteAt (a .table .now) i) (omega (arith, after-base .base .ensures, start .pre .node .0))
 
 pub kind-spec : {M : Type 1} → statement M
 kind-spec =

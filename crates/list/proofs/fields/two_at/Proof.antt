@@ -1,5 +1,4 @@
 -- `fields::two_at` meets its contract
-use native.Mathlib.Omega.{arith}
 use Rattle.table.specs.Bytes.{twoAt}
 use borrow.Author.Needs.{needs}
 use Rattle.list.proofs.fields.two_at.Statement.{statement}

@@ -1,7 +1,7 @@
 -- `tags::copy` meets its contract
 use mathlib.Core.Path.{_≡_, refl}
 use mathlib.Core.List.{_++_}
-use Prim.Native.Nat.{ℕ, _-_, _≤_}
+use Prim.Native.Nat.{_-_, _≤_}
 use native.Mathlib.Omega.{arith}
 use borrow.Author.Needs.{needs}
 use lib.ListN.{length, take, drop, length-set}
@@ -19,7 +19,10 @@ loop-holds : tie.Need-loop-holds Inv-loop μ-loop
 loop-holds c = (omega arith, refl, refl)
 
 array-read-tags : tie.Need-array-read-tags Inv-loop μ-loop
-array-read-tags c = omega (arith, c .before .before .pre, c .before .loop .inv .1)
+array-read-tags c =
+    let at-loop : tie.At-loop Inv-loop μ-loop = search in
+    let start : tie.Start Inv-loop μ-loop = search in
+    omega (arith, start .pre, at-loop .loop .inv .1)
 
 slice-write-tags : tie.Need-slice-write-tags Inv-loop μ-loop
 slice-write-tags c = omega arith
@@ -32,23 +35,28 @@ loop-less c = simp length-set (omega arith)
 
 loop-again : tie.Need-loop-again Inv-loop μ-loop
 loop-again c =
-    let a = c .before .before .args in
-    let inv = c .before .loop .inv in
+    let at-loop : tie.At-loop Inv-loop μ-loop = search in
+    let start : tie.Start Inv-loop μ-loop = search in
+    let a = start .args in
+    let inv = at-loop .loop .inv in
     let n : length (a .t2) ≡ 64 = search needs in (
       simp length-set (omega arith),
       simp length-set (inv .1),
-      copied-more (c .before .loop .i) (a .t2) (a .tags .now) _ (omega (arith, n, inv .1, c .before .before .pre)) (omega
-          (arith, inv .1)) (inv .2),
+      copied-more _ (a .t2) _ _ (omega (arith, n, inv .1, start .pre))
+          (omega (arith, inv .1)) (inv .2),
     )
 
 same-length : tie.Need-same-length Inv-loop μ-loop
-same-length c = c .before .loop .inv .1
+same-length c =
+    let at-loop : tie.At-loop Inv-loop μ-loop = search in
+    at-loop .loop .inv .1
 
 returns : tie.Need-returns Inv-loop μ-loop
 returns c =
-    let inv = c .before .loop .inv in
-    copied-all (c .before .before .args .t2) (c .before .before .args .tags .now) _ (c .before .loop .i) (omega (arith, inv .0, inv .1))
-    (inv .2)
+    let at-loop : tie.At-loop Inv-loop μ-loop = search in
+    let start : tie.Start Inv-loop μ-loop = search in
+    let inv = at-loop .loop .inv in
+    copied-all (start .args .t2) (start .args .tags .now) _ (at-loop .loop .i) (omega (arith, inv .0, inv .1)) (inv .2)
 
 pub copy-spec : {M : Type 1} → statement M
 copy-spec =

@@ -1,9 +1,10 @@
 -- `tags::held` meets its contract
-use mathlib.Core.Path.{_≡_, sym, ap₂, _∙_}
+use mathlib.Core.Path.{sym, ap₂, _∙_}
 use native.Mathlib.Omega.{arith}
+use borrow.Author.Tests.{not-true, not-false}
 use Rattle.table.specs.Check.{accepted}
 use Rattle.list.proofs.NodeLaws.{few}
-use Rattle.list.proofs.TagVerdicts.{not-yes, not-no, wrong-length, past-is, past-last, unfit, held-fit}
+use Rattle.list.proofs.TagVerdicts.{wrong-length, past-is, past-last, unfit, held-fit}
 use borrow.Author.Needs.{needs}
 use Rattle.list.proofs.tags.held.Statement.{statement}
 use Rattle.list.proofs.tags.held.Tie as tie
@@ -15,37 +16,53 @@ add-if1 : tie.Need-add-if1
 add-if1 c = search needs
 
 returns : tie.Need-returns
-returns c = wrong-length _ _ _ (c .before .before .before .before .pre .3) (c .if1 .taken)
+returns c =
+    let start : tie.Start = search in
+    wrong-length _ _ _ (start .pre .3) (c .if1 .taken)
 
 none-past-requires : tie.Need-none-past-requires
 none-past-requires c κs =
-    let p = c .before .before .before .before .pre in
+    let start : tie.Start = search in
+    let p = start .pre in
     let n = few _ (p .0) .1 in
     (omega (arith, n, p .3), omega (arith, n, p .3, c .if1 .left))
 
 returns-2 : tie.Need-returns-2
 returns-2 c =
-    let e = c .before .before .before .before .before .before .pre .3 in
-    past-last _ _ _ e (c .before .before .if1 .left) (sym (past-is _ _ _ e) ∙ sym (c .before .none-past .ensures)
-    ∙ not-yes _ (c .if2 .taken))
+    let after-none-past : tie.After-none-past = search in
+    let else1 : tie.Else1 = search in
+    let start : tie.Start = search in
+    let e = start .pre .3 in
+    past-last _ _ _ e (else1 .if1 .left) (sym (past-is _ _ _ e) ∙ sym (after-none-past .none-past .ensures) ∙ not-true _ (c .if2 .taken))
 
 lowest-unfit-requires : tie.Need-lowest-unfit-requires
-lowest-unfit-requires c κs = let p = c .before .before .before .before .before .before .pre in (p .0, p .1, p .3)
+lowest-unfit-requires c κs =
+    let start : tie.Start = search in
+    let p = start .pre in
+    (p .0, p .1, p .3)
 
 returns-3 : tie.Need-returns-3
 returns-3 c =
-    let e = c .before .before .before .before .before .before .before .before .before .pre .3 in
-    unfit _ _ _ _ e (c .before .before .before .before .before .if1 .left) (sym (past-is _ _ _ e)
-    ∙ sym (c .before .before .before .before .none-past .ensures)
-    ∙ not-no _ (c .before .before .before .if2 .left)) (c .before .before .lowest-unfit .ensures)
-    (c .if3 .taken)
+    let after-lowest-unfit : tie.After-lowest-unfit = search in
+    let else2 : tie.Else2 = search in
+    let after-none-past : tie.After-none-past = search in
+    let else1 : tie.Else1 = search in
+    let start : tie.Start = search in
+    let e = start .pre .3 in
+    unfit _ _ _ _ e (else1 .if1 .left) (sym (past-is _ _ _ e) ∙ sym (after-none-past .none-past .ensures) ∙ not-false _
+    (else2 .if2 .left)) (after-lowest-unfit .lowest-unfit .ensures) (c .if3 .taken)
 
 returns-4 : tie.Need-returns-4
 returns-4 c =
-    let p = c .before .before .before .before .before .before .before .before .before .pre in
-    ap₂ accepted (p .2) (p .3) ∙ held-fit _ _ _ (p .3) (c .before .before .before .before .before .if1 .left)
-    (sym (past-is _ _ _ (p .3)) ∙ sym (c .before .before .before .before .none-past .ensures)
-    ∙ not-no _ (c .before .before .before .if2 .left)) (sym (c .before .before .lowest-unfit .ensures) ∙ c .if3 .left)
+    let after-lowest-unfit : tie.After-lowest-unfit = search in
+    let else2 : tie.Else2 = search in
+    let after-none-past : tie.After-none-past = search in
+    let else1 : tie.Else1 = search in
+    let start : tie.Start = search in
+    let p = start .pre in
+    ap₂ accepted (p .2) (p .3) ∙ held-fit _ _ _ (p .3) (else1 .if1 .left) (sym (past-is _ _ _ (p .3)) ∙ sym
+    (after-none-past .none-past .ensures) ∙ not-false _ (else2 .if2 .left)) (sym (after-lowest-unfit .lowest-unfit .ensures) ∙ c .if3
+    .left)
 
 pub held-spec : {M : Type 1} → statement M
 held-spec =

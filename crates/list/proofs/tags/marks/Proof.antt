@@ -1,6 +1,5 @@
 -- `tags::marks` meets its contract
 use native.Mathlib.Nat.{zero-div}
-use mathlib.Core.Path.{sym, ap, _∙_}
 use lib.ListN.{List·getD-eq-default}
 use Rattle.list.specs.Tags.{tagged}
 use Rattle.list.proofs.BitLaws.{low-bit}
@@ -32,7 +31,9 @@ returns c = simp low-bit
 
 returns-2 : tie.Need-returns-2
 unfolding tagged
-returns-2 c = rw (List·getD-eq-default (c .before .before .args .tags .now) 0 (c .if1 .left), zero-div)
+returns-2 c =
+    let start : tie.Start = search in
+    rw (List·getD-eq-default (start .args .tags .now) 0 (c .if1 .left), zero-div)
 
 pub marks-spec : {M : Type 1} → statement M
 marks-spec =

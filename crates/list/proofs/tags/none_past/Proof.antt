@@ -1,13 +1,14 @@
 -- `tags::none_past` meets its contract
-use mathlib.Core.Path.{_≡_, refl, sym, ap, _∙_}
+use mathlib.Core.Path.{_≡_, sym, ap, _∙_}
 use mathlib.Core.Bool.{true, not}
-use Prim.Native.Nat.{ℕ, _+_, _-_, _*_, _≤_}
+use Prim.Native.Nat.{_+_, _-_, _*_, _≤_}
 use native.Mathlib.Omega.{arith}
 use borrow.Author.Needs.{needs}
 use lib.ListN.{length}
 use Rattle.table.specs.Find.{all}
 use Rattle.list.specs.Tags.{tagged}
-use Rattle.list.proofs.TagLoops.{all-none, all-next, all-fails}
+use Rattle.table.proofs.Loops.{all-more, all-fails}
+use Rattle.list.proofs.TagLoops.{all-none}
 use Rattle.list.proofs.tags.none_past.Statement.{statement}
 use Rattle.list.proofs.tags.none_past.Tie as tie
 
@@ -18,7 +19,9 @@ abbrev μ-loop : tie.MeasureT-loop
 μ-loop tags end count i₀ i = 8 * length tags - count - i
 
 mul-end : tie.Need-mul-end Inv-loop μ-loop
-mul-end c = omega (arith, c .before .pre .1)
+mul-end c =
+    let start : tie.Start Inv-loop μ-loop = search in
+    omega (arith, start .pre .1)
 
 cast-count : tie.Need-cast-count Inv-loop μ-loop
 cast-count c = search needs
@@ -27,43 +30,61 @@ loop-holds : tie.Need-loop-holds Inv-loop μ-loop
 loop-holds c = (omega arith, all-none _)
 
 add-loop : tie.Need-add-loop Inv-loop μ-loop
-add-loop c = omega (arith, c .loop .inv .0, c .before .before .before .pre .0, c .before .before .before .pre .1)
+add-loop c =
+    let start : tie.Start Inv-loop μ-loop = search in
+    omega (arith, c .loop .inv .0, start .pre .0, start .pre .1)
 
 add-i : tie.Need-add-i Inv-loop μ-loop
-add-i c = omega (arith, c .before .loop .inv .0, c .before .before .before .before .pre .1)
+add-i c =
+    let at-loop : tie.At-loop Inv-loop μ-loop = search in
+    let start : tie.Start Inv-loop μ-loop = search in
+    omega (arith, at-loop .loop .inv .0, start .pre .1)
 
 add-n : tie.Need-add-n Inv-loop μ-loop
-add-n c = omega (arith, c .before .loop .inv .0, c .before .before .before .before .pre .0, c .before .before .before .before .pre .1)
+add-n c =
+    let at-loop : tie.At-loop Inv-loop μ-loop = search in
+    let start : tie.Start Inv-loop μ-loop = search in
+    omega (arith, at-loop .loop .inv .0, start .pre .0, start .pre .1)
 
 cast-n : tie.Need-cast-n Inv-loop μ-loop
-cast-n c = omega (arith, c .before .loop .inv .0, c .before .before .before .before .pre .0, c .before .before .before .before .pre .1)
+cast-n c =
+    let at-loop : tie.At-loop Inv-loop μ-loop = search in
+    let start : tie.Start Inv-loop μ-loop = search in
+    omega (arith, at-loop .loop .inv .0, start .pre .0, start .pre .1)
 
 marks-requires : tie.Need-marks-requires Inv-loop μ-loop
 marks-requires c κs = omega arith
 
 returns : tie.Need-returns Inv-loop μ-loop
 returns c =
-    let a = c .before .before .before .before .before .before .args in
-    sym (all-fails (λ j. not (tagged (a .tags .now) (a .last .0 + j))) _ (c .before .before .before .loop .i + 1) (omega arith)
-    (omega arith)
-    (ap not (sym (c .before .marks .ensures) ∙ c .if1 .taken)))
+    let after-marks : tie.After-marks Inv-loop μ-loop = search in
+    let at-loop : tie.At-loop Inv-loop μ-loop = search in
+    let start : tie.Start Inv-loop μ-loop = search in
+    let a = start .args in
+    sym (all-fails (λ j. not (tagged _ (a .last .0 + j))) _ (at-loop .loop .i + 1) (omega arith) (omega arith) (ap not (sym
+    (after-marks .marks .ensures) ∙ c .if1 .taken)))
 
 loop-less : tie.Need-loop-less Inv-loop μ-loop
 loop-less c = omega arith
 
 loop-again : tie.Need-loop-again Inv-loop μ-loop
 loop-again c =
-    let a = c .before .before .before .before .before .before .args in (
+    let after-marks : tie.After-marks Inv-loop μ-loop = search in
+    let at-loop : tie.At-loop Inv-loop μ-loop = search in
+    let start : tie.Start Inv-loop μ-loop = search in
+    let a = start .args in (
       omega arith,
-      all-next (λ j. not (tagged (a .tags .now) (a .last .0 + j))) (c .before .before .before .loop .i)
-          (c .before .before .before .loop .inv .1) (ap not (sym (c .before .marks .ensures) ∙ c .if1 .left)),
+      all-more (λ j. not (tagged _ (a .last .0 + j))) _ (at-loop .loop .inv .1) (ap not (sym (after-marks .marks .ensures) ∙ c
+          .if1 .left)),
     )
 
 returns-2 : tie.Need-returns-2 Inv-loop μ-loop
 returns-2 c =
-    let a = c .before .before .before .before .args in
-    let e : c .before .loop .i ≡ 8 * length (a .tags .now) - a .last .0 = omega (arith, c .before .loop .inv .0) in
-    sym (sym (ap (all (λ j. not (tagged (a .tags .now) (a .last .0 + j)))) e) ∙ c .before .loop .inv .1)
+    let at-loop : tie.At-loop Inv-loop μ-loop = search in
+    let start : tie.Start Inv-loop μ-loop = search in
+    let a = start .args in
+    let e : at-loop .loop .i ≡ 8 * length (a .tags .now) - a .last .0 = omega (arith, at-loop .loop .inv .0) in
+    sym (sym (ap (all (λ j. not (tagged (a .tags .now) (a .last .0 + j)))) e) ∙ at-loop .loop .inv .1)
 
 pub none-past-spec : {M : Type 1} → statement M
 none-past-spec =

@@ -11,53 +11,43 @@ Inv-loop first values₀ count k₀ i₀ values k i = k ≤ 9
 abbrev μ-loop : tie.MeasureT-loop
 μ-loop first values₀ count k₀ i₀ values k i = count - i
 
--- src/input.rt:69:9
 arg-count-requires : tie.Need-arg-count-requires Inv-loop μ-loop
 arg-count-requires c κs = search needs
 
--- src/input.rt:72:5
 loop-holds : tie.Need-loop-holds Inv-loop μ-loop
 loop-holds c = omega arith
 
--- src/input.rt:73:13
 parsed-requires : tie.Need-parsed-requires Inv-loop μ-loop
 parsed-requires c κs = search needs
 
--- src/input.rt:75:13
 returns : tie.Need-returns Inv-loop μ-loop
 returns c = omega arith
 
--- src/input.rt:78:25
 low-requires : tie.Need-low-requires Inv-loop μ-loop
 low-requires c κs = search needs
 
--- src/input.rt:78:13
 mul-values : tie.Need-mul-values Inv-loop μ-loop
 mul-values c = search needs
 
--- src/input.rt:78:13
 array-write-values : tie.Need-array-write-values Inv-loop μ-loop
 array-write-values c = omega arith
 
--- src/input.rt:79:13
 add-k : tie.Need-add-k Inv-loop μ-loop
 add-k c = omega arith
 
--- src/input.rt:81:9
 add-i : tie.Need-add-i Inv-loop μ-loop
 add-i c = omega arith
 
--- src/input.rt:72:5
 loop-less : tie.Need-loop-less Inv-loop μ-loop
 loop-less c = omega arith
 
--- src/input.rt:72:5
 loop-again : tie.Need-loop-again Inv-loop μ-loop
 loop-again c = ⊎-elim (λ w. omega arith) (λ w. omega arith) (c .if2 .came)
 
--- src/input.rt:64:1
 returns-2 : tie.Need-returns-2 Inv-loop μ-loop
-returns-2 c = omega (arith, c .before .loop .inv)
+returns-2 c =
+    let at-loop : tie.At-loop Inv-loop μ-loop = search in
+    omega (arith, at-loop .loop .inv)
 
 pub arguments-spec : {M : Type 1} → statement M
 arguments-spec =

@@ -10,109 +10,92 @@ Inv-loop registers base i₀ t8 t9 i = i ≤ 8
 abbrev μ-loop : tie.MeasureT-loop
 μ-loop registers base i₀ t8 t9 i = 8 - i
 
--- src/output.rt:95:10
 slice-aggregate-text : tie.Need-slice-aggregate-text Inv-loop μ-loop
 slice-aggregate-text c = search needs
 
--- src/output.rt:95:5
 text-requires : tie.Need-text-requires Inv-loop μ-loop
 text-requires c κs = search needs
 
--- src/output.rt:96:5
 number-requires : tie.Need-number-requires Inv-loop μ-loop
 number-requires c κs = search needs
 
--- src/output.rt:97:10
 slice-aggregate-text-2 : tie.Need-slice-aggregate-text-2 Inv-loop μ-loop
 slice-aggregate-text-2 c = search needs
 
--- src/output.rt:97:5
 text-requires-2 : tie.Need-text-requires-2 Inv-loop μ-loop
 text-requires-2 c κs = search needs
 
 cast-number-2 : tie.Need-cast-number-2 Inv-loop μ-loop
 cast-number-2 c = search needs
 
--- src/output.rt:98:12
 cast-number : tie.Need-cast-number Inv-loop μ-loop
 cast-number c = search needs
 
--- src/output.rt:98:5
 number-requires-2 : tie.Need-number-requires-2 Inv-loop μ-loop
 number-requires-2 c κs = search needs
 
 cast-base : tie.Need-cast-base Inv-loop μ-loop
 cast-base c = search needs
 
--- src/output.rt:99:21
 sub-base : tie.Need-sub-base Inv-loop μ-loop
 sub-base c = omega arith
 
--- src/output.rt:99:16
 mul-base : tie.Need-mul-base Inv-loop μ-loop
-mul-base c = omega (arith, c .before .before .before .before .before .before .before .before .before .pre .1)
+mul-base c =
+    let start : tie.Start Inv-loop μ-loop = search in
+    omega (arith, start .pre .1)
 
--- src/output.rt:101:5
 loop-holds : tie.Need-loop-holds Inv-loop μ-loop
 loop-holds c = omega arith
 
--- src/output.rt:102:14
 slice-aggregate-text-3 : tie.Need-slice-aggregate-text-3 Inv-loop μ-loop
 slice-aggregate-text-3 c = search needs
 
--- src/output.rt:102:9
 text-requires-3 : tie.Need-text-requires-3 Inv-loop μ-loop
 text-requires-3 c κs = search needs
 
--- src/output.rt:103:24
 add-word : tie.Need-add-word Inv-loop μ-loop
-add-word c = omega (
-  arith,
-  c .before .before .loop-test .taken,
-  c .before .before .before .before .before .before .before .before .before .before .before .before .before .pre .1,
-)
+add-word c =
+    let in-loop : tie.In-loop Inv-loop μ-loop = search in
+    let start : tie.Start Inv-loop μ-loop = search in
+    omega (arith, in-loop .loop-test .taken, start .pre .1)
 
--- src/output.rt:103:14
 mul-word : tie.Need-mul-word Inv-loop μ-loop
-mul-word c = omega (
-  arith,
-  c .before .before .loop-test .taken,
-  c .before .before .before .before .before .before .before .before .before .before .before .before .before .pre .1,
-)
+mul-word c =
+    let in-loop : tie.In-loop Inv-loop μ-loop = search in
+    let start : tie.Start Inv-loop μ-loop = search in
+    omega (arith, in-loop .loop-test .taken, start .pre .1)
 
--- src/output.rt:103:14
 element-copy-out-word : tie.Need-element-copy-out-word Inv-loop μ-loop
-element-copy-out-word c = omega (
-  arith,
-  c .before .before .loop-test .taken,
-  c .before .before .before .before .before .before .before .before .before .before .before .before .before .pre .1,
-)
+element-copy-out-word c =
+    let in-loop : tie.In-loop Inv-loop μ-loop = search in
+    let start : tie.Start Inv-loop μ-loop = search in
+    omega (arith, in-loop .loop-test .taken, start .pre .1)
 
--- src/output.rt:103:9
 word-requires : tie.Need-word-requires Inv-loop μ-loop
 word-requires c κs = search needs
 
--- src/output.rt:104:9
 add-i : tie.Need-add-i Inv-loop μ-loop
-add-i c = omega (arith, c .before .before .before .before .loop-test .taken)
+add-i c =
+    let in-loop : tie.In-loop Inv-loop μ-loop = search in
+    omega (arith, in-loop .loop-test .taken)
 
--- src/output.rt:101:5
 loop-less : tie.Need-loop-less Inv-loop μ-loop
-loop-less c = omega (arith, c .before .before .before .before .loop-test .taken)
+loop-less c =
+    let in-loop : tie.In-loop Inv-loop μ-loop = search in
+    omega (arith, in-loop .loop-test .taken)
 
--- src/output.rt:101:5
 loop-again : tie.Need-loop-again Inv-loop μ-loop
-loop-again c = omega (arith, c .before .before .before .before .loop-test .taken)
+loop-again c =
+    let in-loop : tie.In-loop Inv-loop μ-loop = search in
+    omega (arith, in-loop .loop-test .taken)
 
--- src/output.rt:106:10
 slice-aggregate-text-4 : tie.Need-slice-aggregate-text-4 Inv-loop μ-loop
 slice-aggregate-text-4 c = search needs
 
--- src/output.rt:106:5
 text-requires-4 : tie.Need-text-requires-4 Inv-loop μ-loop
 text-requires-4 c κs = search needs
 
--- src/output.rt:92:1
 returns : tie.Need-returns Inv-loop μ-loop
 returns c = search needs
 

@@ -1,32 +1,17 @@
-use borrow.Author.Tests.{eq-eqb, ne-eqb, le-leb, lt-leb, lt-ltb, le-ltb, not-true, not-false}
+-- `kin::collect` meets its contract: a turn reads node n's owner, parent and tail off those of lower nodes.
+-- The invariant: the three rows are right up to n (`KinTo`). The measure is the nodes left.
 use native.Mathlib.Omega.{arith}
-use Rattle.table.proofs.Tests.{told-yes, told-no}
 use borrow.Author.Needs.{needs}
-use mathlib.Core.Path.{_≡_, refl, sym, ap, _∙_}
-use mathlib.Core.Logic.{inl, inr}
-use Rattle.table.specs.Bytes.{byteAt, twoAt, fourAt, functions, nodes, nodeAt, functionAt, kind, first, next, params, spare, root}
-use Prim.Native.Nat.{_+_, _*_, _-_, _≤_}
-use Rattle.table.specs.Find.{all, lowest}
-use Rattle.table.specs.Check.{among, rootFits, recordFits, linked, forward}
-use Rattle.table.proofs.Loops.{all-more, all-fails, lowest-more, lowest-found}
-use mathlib.Core.Bool.{true, false, _&&_}
-use lib.Dec.{leb, eqb}
-use mathlib.Core.Path.{ap₂}
-use Rattle.table.proofs.NameLoops.{RootsTo, LinksTo, roots-none, roots-more, roots-all, links-none, links-more, links-all}
-use Rattle.table.specs.Working.{Rooted, Named, linkedBy}
-use Rattle.table.specs.Naming.{mentions, rootOf, namer}
-use lib.ListN.{length}
-use Rattle.table.proofs.KinLoops.{KinTo, kin-none, kin-more, kin-all, new-parent, parent-below}
+use mathlib.Core.Path.{_≡_}
+use Prim.Native.Nat.{_+_, _-_, _≤_, _<_}
+use lib.ListN.{getD}
+use Rattle.table.specs.Bytes.{nodes}
+use Rattle.table.specs.Naming.{namer}
+use Rattle.table.specs.Working.{IsNode, At}
+use Rattle.table.proofs.KinLoops.{KinTo, kin-none, kin-more, kin-all, parent-below}
 use Rattle.table.proofs.Links.{namer-lower}
 use Rattle.table.proofs.kin.collect.Statement.{statement}
 use Rattle.table.proofs.kin.collect.Tie as tie
-use Rattle.table.proofs.kin.collect.Reads as reads
-use Rattle.table.proofs.kin.collect.Lts as lts
-use Rattle.table.proofs.frame.base.Reads as base-reads
-use Rattle.table.proofs.frame.last_node.Reads as last-node-reads
-use Rattle.table.proofs.kin.owner_of.Reads as owner-of-reads
-use Rattle.table.proofs.kin.parent_of.Reads as parent-of-reads
-use Rattle.table.proofs.kin.tail_of.Reads as tail-of-reads
 
 abbrev Inv-loop : tie.InvT-loop
 Inv-loop table names base last owner₀ parent₀ tail₀ n₀ owner parent tail n = (n ≤ last) × KinTo table owner parent tail n
@@ -34,21 +19,76 @@ Inv-loop table names base last owner₀ parent₀ tail₀ n₀ owner parent tail
 abbrev μ-loop : tie.MeasureT-loop
 μ-loop table names base last owner₀ parent₀ tail₀ n₀ owner parent tail n = last - n
 
--- src/kin.rt:68:9
+-- places: the start, what was read before the loop, the loop's head, a turn
+abbrev Start : Type 0
+Start = tie.Start Inv-loop μ-loop
+
+abbrev Read : Type 0
+Read = tie.After-last-node Inv-loop μ-loop
+
+abbrev Head : Type 0
+Head = tie.At-loop Inv-loop μ-loop
+
+abbrev Turn : Type 0
+Turn = tie.In-loop Inv-loop μ-loop
+
+abbrev Up : Type 0
+Up = tie.After-parent-of Inv-loop μ-loop
+
+-- a turn: n + 1 is a node, and what names it is lower
+module _ (c : Turn) where
+  abbrev s : Start
+  s = search
+
+  abbrev read : Read
+  read = search
+
+  abbrev l : Head
+  l = search
+
+  room : l .loop .n < 512
+  room = omega (arith, read .last-node .ensures, s .pre .0 .N-high, c .loop-test .taken)
+
+  node : IsNode (s .args .table .now) (l .loop .n + 1)
+  node = (omega arith, omega (arith, read .last-node .ensures, c .loop-test .taken))
+
+  abbrev base : tie.After-base Inv-loop μ-loop
+  base = search
+
+  place : At (s .args .table .now) (base .base .result) (l .loop .n + 1)
+  place = record { framed = s .pre .0; start = base .base .ensures; low = node .0; high = node .1 }
+
+  named : getD (s .args .t2 .namers) (l .loop .n + 1) 0 ≡ namer (s .args .table .now) (l .loop .n + 1)
+  named = s .pre .1 .holders _ node
+
+  lower : getD (s .args .t2 .namers) (l .loop .n + 1) 0 ≤ l .loop .n
+  lower = omega (arith, named, namer-lower (s .args .table .now) (l .loop .n + 1) (omega arith))
+
+abbrev turn : Up → Turn
+turn c = search
+
+up-lower : (c : Up) → c .parent-of .result .0 ≤ l (turn c) .loop .n
+up-lower c =
+    let own : tie.After-owner-of Inv-loop μ-loop = search in
+    let t = turn c in
+    parent-below _ _ _ _ _ (l t .loop .inv .1) (room t) _ _ _ _ (named t) (s t .pre .1 .tops _ (node t)) (own .owner-of .ensures)
+    (c .parent-of .ensures)
+
 base-requires : tie.Need-base-requires Inv-loop μ-loop
-base-requires c κs = c .before .pre .0
+base-requires c κs =
+    let s : Start = search in
+    s .pre .0
 
--- src/kin.rt:69:9
 last-node-requires : tie.Need-last-node-requires Inv-loop μ-loop
-last-node-requires c κs = c .before .before .pre .0
+last-node-requires c κs =
+    let s : Start = search in
+    s .pre .0
 
--- src/kin.rt:74:5
 loop-holds : tie.Need-loop-holds Inv-loop μ-loop
-loop-holds c = (omega arith, kin-none (c .before .before .before .args .table .now))
+loop-holds c = (omega arith, kin-none _)
 
--- src/kin.rt:75:9
 add-n : tie.Need-add-n Inv-loop μ-loop
-add-n c = omega arith
+add-n c = omega (arith, room c)
 
 cast-at : tie.Need-cast-at Inv-loop μ-loop
 cast-at c = search needs
@@ -57,13 +97,8 @@ mul-namer : tie.Need-mul-namer Inv-loop μ-loop
 mul-namer c = search needs
 
 element-copy-out-namer : tie.Need-element-copy-out-namer Inv-loop μ-loop
-element-copy-out-namer c = omega (
-  arith,
-  c .before .before .last-node .ensures,
-  c .before .before .before .before .before .pre .0 .N-high,
-)
+element-copy-out-namer c = omega (arith, room c)
 
--- src/kin.rt:76:17
 cast-m : tie.Need-cast-m Inv-loop μ-loop
 cast-m c = search needs
 
@@ -71,224 +106,70 @@ mul-root : tie.Need-mul-root Inv-loop μ-loop
 mul-root c = search needs
 
 element-copy-out-root : tie.Need-element-copy-out-root Inv-loop μ-loop
-element-copy-out-root c = omega (
-  arith,
-  c .before .before .before .last-node .ensures,
-  c .before .before .before .before .before .before .pre .0 .N-high,
-)
+element-copy-out-root c = omega (arith, room (search))
 
 mul-mine : tie.Need-mul-mine Inv-loop μ-loop
-mul-mine c = let t = c .before .before .before .before .before .before .before .args .table .now in let n = c .before .before .before
-    .loop .n + 1 in let q = c .before .before .before .before .before .before .before .pre .1 .holders n
-    (omega arith, omega (arith, c .before .before .before .before .last-node .ensures)) in let w = namer-lower t n (omega arith) in
-    omega (
-      arith,
-      q,
-      w,
-      c .before .before .before .before .last-node .ensures,
-      c .before .before .before .before .before .before .before
-          .pre .0 .N-high,
-    )
+mul-mine c = omega (arith, room (search), lower (search))
 
 array-read-mine : tie.Need-array-read-mine Inv-loop μ-loop
-array-read-mine c = let t = c .before .before .before .before .before .before .before .args .table .now in let n = c .before .before
-    .before .loop .n + 1 in let q = c .before .before .before .before .before .before .before .pre .1 .holders n
-    (omega arith, omega (arith, c .before .before .before .before .last-node .ensures)) in let w = namer-lower t n (omega arith) in
-    omega (
-      arith,
-      q,
-      w,
-      c .before .before .before .before .last-node .ensures,
-      c .before .before .before .before .before .before .before
-          .pre .0 .N-high,
-    )
+array-read-mine c = omega (arith, room (search), lower (search))
 
--- src/kin.rt:77:20
 owner-of-requires : tie.Need-owner-of-requires Inv-loop μ-loop
 owner-of-requires c κs = search needs
 
--- src/kin.rt:77:9
 mul-owner : tie.Need-mul-owner Inv-loop μ-loop
 mul-owner c = search needs
 
--- src/kin.rt:77:9
 array-write-owner : tie.Need-array-write-owner Inv-loop μ-loop
-array-write-owner c = omega (
-  arith,
-  c .before .before .before .before .before .last-node .ensures,
-  c .before .before .before .before .before .before .before .before .pre .0 .N-high,
-)
+array-write-owner c = omega (arith, room (search))
 
 mul-above : tie.Need-mul-above Inv-loop μ-loop
-mul-above c = let t = c .before .before .before .before .before .before .before .before .args .table .now in let n = c .before .before
-    .before .before .loop .n + 1 in let q = c .before .before .before .before .before .before .before .before .pre .1 .holders n
-    (omega arith, omega (arith, c .before .before .before .before .before .last-node .ensures)) in let w = namer-lower t n
-    (omega arith) in
-    omega (
-      arith,
-      q,
-      w,
-      c .before .before .before .before .before .last-node .ensures,
-      c .before .before .before .before .before .before
-          .before .before .pre .0 .N-high,
-    )
+mul-above c = omega (arith, room (search), lower (search))
 
 array-read-above : tie.Need-array-read-above Inv-loop μ-loop
-array-read-above c = let t = c .before .before .before .before .before .before .before .before .args .table .now in let n = c .before
-    .before .before .before .loop .n + 1 in let q = c .before .before .before .before .before .before .before .before .pre .1 .holders n
-    (omega arith, omega (arith, c .before .before .before .before .before .last-node .ensures)) in let w = namer-lower t n
-    (omega arith) in
-    omega (
-      arith,
-      q,
-      w,
-      c .before .before .before .before .before .last-node .ensures,
-      c .before .before .before .before .before .before
-          .before .before .pre .0 .N-high,
-    )
+array-read-above c = omega (arith, room (search), lower (search))
 
--- src/kin.rt:78:13
 parent-of-requires : tie.Need-parent-of-requires Inv-loop μ-loop
-parent-of-requires c κs = let t = c .before .before .before .before .before .before .before .before .args .table .now in let n =
-    c .before .before .before .before .loop .n + 1 in let q =
-    c .before .before .before .before .before .before .before .before .pre .1 .holders n
-    (omega arith, omega (arith, c .before .before .before .before .before .last-node .ensures)) in let w = namer-lower t n (omega arith)
-    in (
-      record {
-        framed = c .before .before .before .before .before .before .before .before .pre .0;
-        start =
-            c .before .before .before .before .before .before .base .ensures;
-        low = omega arith;
-        high = omega
-            (arith, c .before .before .before .before .before .last-node .ensures);
-      },
-      omega (arith, q, w),
-    )
+parent-of-requires c κs = (place (search), omega (arith, lower (search)))
 
--- src/kin.rt:79:9
 mul-parent : tie.Need-mul-parent Inv-loop μ-loop
 mul-parent c = search needs
 
--- src/kin.rt:79:9
 array-write-parent : tie.Need-array-write-parent Inv-loop μ-loop
-array-write-parent c = omega (
-  arith,
-  c .before .before .before .before .before .before .last-node .ensures,
-  c .before .before .before .before .before .before .before .before .before .pre .0 .N-high,
-)
+array-write-parent c = omega (arith, room (search))
 
--- src/kin.rt:80:17
 cast-p : tie.Need-cast-p Inv-loop μ-loop
 cast-p c = search needs
 
--- src/kin.rt:81:46
 array-read-tail-of : tie.Need-array-read-tail-of Inv-loop μ-loop
-array-read-tail-of c = let t = c .before .before .before .before .before .before .before .before .before .before .args .table .now in let
-    n =
-    c .before .before .before .before .before .before .loop .n + 1 in let q =
-    c .before .before .before .before .before .before .before .before .before .before .pre .1 .holders n
-    (omega arith, omega (arith, c .before .before .before .before .before .before .before .last-node .ensures)) in let w = namer-lower t n
-    (omega arith) in omega (
-      arith,
-      parent-below t (c .before .before .before .before .before .before .loop .owner)
-          (c .before .before .before .before .before .before .loop .parent) (c .before .before .before .before .before .before .loop
-          .tail)
-          (c .before .before .before .before .before .before .loop .n) (c .before .before .before .before .before .before .loop .inv .1)
-          (omega (
-            arith,
-            c .before .before .before .before .before .before .before .last-node .ensures,
-            c .before .before .before .before .before .before .before .before .before .before .pre .0 .N-high,
-          )) _ _ (c .before .before .owner-of .result .0)
-          (c .before .parent-of .result .0) q (c .before .before .before .before .before .before .before .before .before .before .pre .1
-          .tops n (
-            omega arith,
-            omega (arith, c .before .before .before .before .before .before .before .last-node .ensures),
-          )) (c .before .before .owner-of .ensures)
-          (c .before .parent-of .ensures),
-      c .before .before .before .before .before .before .before .last-node .ensures,
-      c .before .before .before .before .before .before .before .before .before .before .pre .0 .N-high,
-    )
+array-read-tail-of c = omega (arith, room (search), up-lower (search))
 
--- src/kin.rt:81:19
 tail-of-requires : tie.Need-tail-of-requires Inv-loop μ-loop
-tail-of-requires c κs = let t = c .before .before .before .before .before .before .before .before .before .before .args .table .now in let
-    n =
-    c .before .before .before .before .before .before .loop .n + 1 in let q =
-    c .before .before .before .before .before .before .before .before .before .before .pre .1 .holders n
-    (omega arith, omega (arith, c .before .before .before .before .before .before .before .last-node .ensures)) in let w = namer-lower t n
-    (omega arith) in (
-      record {
-        framed = c .before .before .before .before .before .before .before .before .before .before .pre .0;
-        start =
-            c .before .before .before .before .before .before .before .before .base .ensures;
-        low = omega arith;
-        high = omega
-            (arith, c .before .before .before .before .before .before .before .last-node .ensures);
-      },
-      omega (
-        arith,
-        parent-below t (c .before .before .before .before .before .before .loop .owner)
-            (c .before .before .before .before .before .before .loop .parent) (c .before .before .before .before .before .before .loop
-            .tail)
-            (c .before .before .before .before .before .before .loop .n) (c .before .before .before .before .before .before .loop .inv .1)
-            (omega (
-              arith,
-              c .before .before .before .before .before .before .before .last-node .ensures,
-              c .before .before .before .before .before .before .before .before .before .before .pre .0 .N-high,
-            )) _ _ (c .before .before .owner-of .result .0)
-            (c .before .parent-of .result .0) q (c .before .before .before .before .before .before .before .before .before .before .pre .1
-            .tops n (
-              omega arith,
-              omega (arith, c .before .before .before .before .before .before .before .last-node .ensures),
-            )) (c .before .before .owner-of .ensures)
-            (c .before .parent-of .ensures),
-      ),
-    )
+tail-of-requires c κs = (place (search), omega (arith, up-lower (search)))
 
--- src/kin.rt:81:9
 array-write-tail : tie.Need-array-write-tail Inv-loop μ-loop
-array-write-tail c = omega (
-  arith,
-  c .before .before .before .before .before .before .before .before .last-node .ensures,
-  c .before .before .before .before .before .before .before .before .before .before .before .pre .0 .N-high,
-)
+array-write-tail c = omega (arith, room (search))
 
--- src/kin.rt:74:5
 loop-less : tie.Need-loop-less Inv-loop μ-loop
 loop-less c = omega arith
 
--- src/kin.rt:74:5
 loop-again : tie.Need-loop-again Inv-loop μ-loop
-loop-again c = let t = c .before .before .before .before .before .before .before .before .before .before .before .args .table .now in let
-    n =
-    c .before .before .before .before .before .before .before .loop .n + 1 in let q =
-    c .before .before .before .before .before .before .before .before .before .before .before .pre .1 .holders n
-    (omega arith, omega (arith, c .before .before .before .before .before .before .before .before .last-node .ensures)) in let w =
-    namer-lower t
-    n (omega arith) in (
-      omega arith,
-      kin-more t (c .before .before .before .before .before .before .before .loop .owner)
-          (c .before .before .before .before .before .before .before .loop .parent)
-          (c .before .before .before .before .before .before .before .loop .tail)
-          (c .before .before .before .before .before .before .before .loop .n) (c .before .before .before .before .before .before .before
-          .loop .inv .1)
-          (omega (
-            arith,
-            c .before .before .before .before .before .before .before .before .last-node .ensures,
-            c .before .before .before .before .before .before .before .before .before .before .before .pre .0 .N-high,
-          )) _ _
-          (c .before .before .before .owner-of .result .0) (c .before .before .parent-of .result .0) q
-          (c .before .before .before .before .before .before .before .before .before .before .before .pre .1 .tops n
-          (omega arith, omega (arith, c .before .before .before .before .before .before .before .before .last-node .ensures)))
-          (c .before .before .before .owner-of .ensures) (c .before .before .parent-of .ensures) (c .tail-of .result)
-          (c .tail-of .ensures),
+loop-again c =
+    let up : Up = search in
+    let own : tie.After-owner-of Inv-loop μ-loop = search in
+    let t = turn up in (
+      omega (arith, t .loop-test .taken),
+      kin-more _ _ _ _ _ (l t .loop .inv .1) (room t) _ _ _ _ (named t) (s t .pre .1 .tops _ (node t)) (own .owner-of .ensures)
+          (up .parent-of .ensures) _ (c .tail-of .ensures),
     )
 
--- src/kin.rt:64:1
 returns : tie.Need-returns Inv-loop μ-loop
-returns c = let t = c .before .before .before .before .before .args .table .now in let e : c .before .loop .n ≡ nodes t = omega
-    (arith, c .before .before .last-node .ensures) in kin-all t (c .before .loop .owner) (c .before .loop .parent)
-    (c .before .loop .tail) (c .before .before .before .before .before .pre .0) (rw e at (c .before .loop .inv .1))
+returns c =
+    let l : Head = search in
+    let read : Read = search in
+    let s : Start = search in
+    let e : l .loop .n ≡ nodes (s .args .table .now) = omega (arith, read .last-node .ensures) in
+    kin-all _ _ _ _ (s .pre .0) (rw e at (l .loop .inv .1))
 
 pub collect-spec : {M : Type 1} → statement M
 collect-spec =

@@ -1,44 +1,49 @@
-use borrow.Author.Tests.{eq-eqb, ne-eqb, le-leb, lt-leb, lt-ltb, le-ltb}
+use borrow.Author.Tests.{ne-eqb, le-leb, lt-leb}
 use native.Mathlib.Omega.{arith}
-use Rattle.table.specs.Check.{operationCounts, countsOf, fields}
+use Rattle.table.specs.Check.{operationCounts}
 use Rattle.table.proofs.kinds.operation_counts.Statement.{statement}
 use Rattle.table.proofs.kinds.operation_counts.Tie as tie
-use Rattle.table.proofs.kinds.operation_counts.Reads as reads
-use Rattle.table.proofs.kinds.operation_counts.Lts as lts
 
--- src/kinds.rt:12:1
 returns : tie.Need-returns
 unfolding operationCounts
 returns c = rw (c .match .keys1)
 
--- src/kinds.rt:12:1
 returns-2 : tie.Need-returns-2
 unfolding operationCounts
-returns-2 c = let o = c .before .before .before .args .op in simp
-    (lt-leb o 4 (omega arith), lt-leb 8 o (omega arith), le-leb 5 o (omega arith), le-leb o 7 (omega arith))
+returns-2 c =
+    let start : tie.Start = search in
+    let o = start .args .op in
+    simp (lt-leb o 4 (omega arith), lt-leb 8 o (omega arith), le-leb 5 o (omega arith), le-leb o 7 (omega arith))
 
--- src/kinds.rt:12:1
 returns-3 : tie.Need-returns-3
 unfolding operationCounts
-returns-3 c = let o = c .before .before .before .before .args .op in simp (
-  lt-leb o 4 (omega arith),
-  le-leb 8 o (omega arith),
-  lt-leb o 9 (omega arith),
-  le-leb 5 o (omega arith),
-  lt-leb o 7 (omega arith),
-  ne-eqb o 10 (c .before .before .before .match .rest .1),
-)
+returns-3 c =
+    let at-match-rest : tie.At-match-rest = search in
+    let start : tie.Start = search in
+    let o = start .args .op in
+    simp (
+      lt-leb o 4 (omega arith),
+      le-leb 8 o (omega arith),
+      lt-leb o 9 (omega arith),
+      le-leb 5 o (omega arith),
+      lt-leb o 7
+          (omega arith),
+      ne-eqb o 10 (at-match-rest .match .rest .1),
+    )
 
--- src/kinds.rt:12:1
 returns-4 : tie.Need-returns-4
 unfolding operationCounts
-returns-4 c = let o = c .before .before .args .op in simp (le-leb o 4 (omega arith))
+returns-4 c =
+    let start : tie.Start = search in
+    let o = start .args .op in
+    simp (le-leb o 4 (omega arith))
 
--- src/kinds.rt:12:1
 returns-5 : tie.Need-returns-5
 unfolding operationCounts
-returns-5 c = let o = c .before .before .before .before .args .op in simp
-    (lt-leb o 4 (omega arith), le-leb 8 o (omega arith), le-leb o 9 (omega arith))
+returns-5 c =
+    let start : tie.Start = search in
+    let o = start .args .op in
+    simp (lt-leb o 4 (omega arith), le-leb 8 o (omega arith), le-leb o 9 (omega arith))
 
 pub operation-counts-spec : {M : Type 1} → statement M
 operation-counts-spec = tie.close (tie.spec returns returns-2 returns-3 returns-4 returns-5)

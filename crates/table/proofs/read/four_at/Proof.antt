@@ -3,39 +3,28 @@ use Rattle.table.specs.Bytes.{fourAt}
 use borrow.Author.Needs.{needs}
 use Rattle.table.proofs.read.four_at.Statement.{statement}
 use Rattle.table.proofs.read.four_at.Tie as tie
-use Rattle.table.proofs.read.four_at.Reads as reads
-use Rattle.table.proofs.read.four_at.Lts as lts
-use Rattle.table.proofs.read.two_at.Reads as two-at-reads
 
--- src/read.rt:33:9
 two-at-requires : tie.Need-two-at-requires
 two-at-requires c κs = search needs
 
--- src/read.rt:34:30
 add-two-at : tie.Need-add-two-at
 add-two-at c = search needs
 
--- src/read.rt:34:9
 two-at-requires-2 : tie.Need-two-at-requires-2
 two-at-requires-2 c κs = search needs
 
--- src/read.rt:35:6
 cast-result : tie.Need-cast-result
 cast-result c = search needs
 
--- src/read.rt:35:29
 cast-result-2 : tie.Need-cast-result-2
 cast-result-2 c = search needs
 
--- src/read.rt:35:20
 mul-result : tie.Need-mul-result
 mul-result c = search needs
 
--- src/read.rt:35:5
 add-result : tie.Need-add-result
 add-result c = search needs
 
--- src/read.rt:29:1
 returns : tie.Need-returns
 unfolding fourAt
 returns c = omega arith

@@ -3,31 +3,23 @@ use Rattle.table.specs.Bytes.{functionAt}
 use borrow.Author.Needs.{needs}
 use Rattle.table.proofs.read.function_at.Statement.{statement}
 use Rattle.table.proofs.read.function_at.Tie as tie
-use Rattle.table.proofs.read.function_at.Reads as reads
-use Rattle.table.proofs.read.function_at.Lts as lts
 
--- src/read.rt:56:13
 cast-k : tie.Need-cast-k
 cast-k c = search needs
 
--- src/read.rt:57:37
 sub-result : tie.Need-sub-result
 sub-result c = search needs
 
--- src/read.rt:57:32
 mul-result : tie.Need-mul-result
 mul-result c = search needs
 
--- src/read.rt:57:28
 add-result : tie.Need-add-result
 add-result c = search needs
 
--- src/read.rt:53:1
 returns : tie.Need-returns
 unfolding functionAt
 returns c = (omega arith, omega arith)
 
--- src/read.rt:53:1
 returns-2 : tie.Need-returns-2
 unfolding functionAt
 returns-2 c = (omega arith, omega arith)

@@ -3,56 +3,41 @@ use Rattle.table.specs.Bytes.{nodeAt, functions}
 use borrow.Author.Needs.{needs}
 use Rattle.table.proofs.read.node_at.Statement.{statement}
 use Rattle.table.proofs.read.node_at.Tie as tie
-use Rattle.table.proofs.read.node_at.Reads as reads
-use Rattle.table.proofs.read.node_at.Lts as lts
-use Rattle.table.proofs.read.two_at.Reads as two-at-reads
 
--- src/read.rt:64:17
 two-at-requires : tie.Need-two-at-requires
 two-at-requires c κs = search needs
 
--- src/read.rt:64:17
 cast-count : tie.Need-cast-count
 cast-count c = search needs
 
--- src/read.rt:65:13
 cast-k : tie.Need-cast-k
 cast-k c = search needs
 
--- src/read.rt:66:21
 mul-result : tie.Need-mul-result
 mul-result c = search needs
 
--- src/read.rt:66:17
 add-result : tie.Need-add-result
 add-result c = search needs
 
--- src/read.rt:66:44
 mul-result-2 : tie.Need-mul-result-2
 mul-result-2 c = search needs
 
--- src/read.rt:66:40
 add-result-2 : tie.Need-add-result-2
 add-result-2 c = search needs
 
--- src/read.rt:66:62
 sub-result : tie.Need-sub-result
 sub-result c = search needs
 
--- src/read.rt:66:56
 mul-result-3 : tie.Need-mul-result-3
 mul-result-3 c = search needs
 
--- src/read.rt:66:40
 add-result-3 : tie.Need-add-result-3
 add-result-3 c = search needs
 
--- src/read.rt:61:1
 returns : tie.Need-returns
 unfolding nodeAt functions
 returns c = (omega arith, omega arith)
 
--- src/read.rt:61:1
 returns-2 : tie.Need-returns-2
 unfolding nodeAt functions
 returns-2 c = (omega arith, omega arith)

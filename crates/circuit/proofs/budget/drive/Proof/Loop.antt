@@ -1,14 +1,15 @@
--- the invariant and the measure of the run, and where its loop begins
+-- the invariant and the measure of the run, the places that its answers name and what holds there, and where its loop begins
 use native.Mathlib.Omega.{arith}
 use mathlib.Core.Path.{_≡_, sym, subst}
 use Prim.Native.Nat.{ℕ, _+_, _-_, _*_, _≤_, _<_}
 use mathlib.Core.Bool.{true}
 use Rattle.table.specs.Pick.{pick}
 use Rattle.table.specs.Working.{IsNode}
+use Rattle.rules.specs.State.{State512, entry}
 use Rattle.rules.specs.Circuit.{actOf}
 use Rattle.circuit.specs.Meaning.{stateAs}
 use Rattle.circuit.specs.Plan.{goes, Stands}
-use Rattle.circuit.proofs.DriveLaws.{DroveTo, drove-start}
+use Rattle.circuit.proofs.DriveLaws.{DroveTo, drove-start, Going, goes-on}
 use Rattle.circuit.proofs.budget.drive.Tie as tie
 
 abbrev pub Inv-loop : tie.InvT-loop
@@ -22,30 +23,63 @@ abbrev pub μ-loop : tie.MeasureT-loop
 μ-loop table tags budget own heads links top status₀ second₀ value₀ registers₀ plain₀ stack₀ height₀ taken₀ rest₀ status second value
     registers plain stack height taken rest = 2048 * (budget - taken) + height + pick rest 0 1
 
--- src/budget.rt:90:5
+-- the start, main's root read, the occupants made plain, the loop's head, a turn and its candidate
+abbrev pub Start : Type 0
+Start = tie.Start Inv-loop μ-loop
+
+abbrev pub Top : Type 0
+Top = tie.After-top Inv-loop μ-loop
+
+abbrev pub Plain : Type 0
+Plain = tie.After-plain Inv-loop μ-loop
+
+abbrev pub Head : Type 0
+Head = tie.At-loop Inv-loop μ-loop
+
+abbrev pub Turn : Type 0
+Turn = tie.Then1 Inv-loop μ-loop
+
+abbrev pub Pick : Type 0
+Pick = tie.After-candidate Inv-loop μ-loop
+
+-- the way back, from each to the one before
+abbrev pub start : Top → Start
+start c = search
+
+abbrev pub top : Plain → Top
+top c = search
+
+abbrev pub plain : Head → Plain
+plain c = search
+
+abbrev pub head : Turn → Head
+head c = search
+
+abbrev pub turn : Pick → Turn
+turn c = search
+
+abbrev pub first : Head → Start
+first c = start (top (plain c))
+
+-- the state at the loop's head
+abbrev pub state : Head → State512
+state c = let l = c .loop in stateAs (l .status) (l .second) (l .value) (l .registers) (l .plain)
+
+-- in a turn the run isn't at rest, has budget left, and main's root isn't done
+pub going : (c : Turn) → let h = head c in
+    Going (h .loop .rest) (h .loop .taken) (first h .args .budget) (entry (h .loop .status) 0 (top (plain h) .top .result .0))
+going c =
+    let asked : tie.After-going Inv-loop μ-loop = search in
+    goes-on _ _ _ _ _ (asked .going .ensures) (c .if1 .taken)
+
 pub loop-holds : tie.Need-loop-holds Inv-loop μ-loop
-loop-holds c = (
-  omega arith,
-  omega arith,
-  drove-start
-      (c .before .before .before .before .before .before .before .before .before .before .before .before .before .before .args .table
-      .now) (c .before .before .before .before .before .before .before .before .before .before .before .before .before .before .args
-      .tags .now) (stateAs (c .before .before .before .before .before .before .before .before .before .before .before .before .before
-      .before .args .s .status)
-      (c .before .before .before .before .before .before .before .before .before .before .before .before .before .before .args .s .second)
-      (c .before .before .before .before .before .before .before .before .before .before .before .before .before .before .args .s .value)
-      (c .before .before .before .before .before .before .before .before .before .before .before .before .before .before .args .s
-      .registers) (c .plain .result))
-      (subst (Stands (c .before .before .before .before .before .before .before .before .before .before .before .before .before .before
-      .args .table .now)) (sym
-      (λ i. stateAs (c .before .before .before .before .before .before .before .before .before .before .before .before .before .before
-      .args .s .status) (c .before .before .before .before .before .before .before .before .before .before .before .before .before
-      .before .args .s .second)
-      (c .before .before .before .before .before .before .before .before .before .before .before .before .before .before .args .s .value)
-      (c .before .before .before .before .before .before .before .before .before .before .before .before .before .before .args .s
-      .registers) (c .plain .ensures i)))
-      (c .before .before .before .before .before .before .before .before .before .before .before .before .before .before .pre .1)),
-  λ e.
-      absurd (let z : _≡_ {A = ℕ} 0 1 = cc in omega arith),
-  omega arith,
-)
+loop-holds c =
+    let s = start (top c) in
+    let a = s .args .s in (
+      omega arith,
+      omega arith,
+      drove-start _ _ _ (subst (Stands (s .args .table .now))
+          (sym (λ i. stateAs (a .status) (a .second) (a .value) (a .registers) (c .plain .ensures i))) (s .pre .1)),
+      λ e. absurd (let z : _≡_ {A = ℕ} 0 1 = cc in omega arith),
+      omega arith,
+    )

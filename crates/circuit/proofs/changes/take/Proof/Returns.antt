@@ -1,229 +1,106 @@
 -- what `take` leaves behind, move by move
 use native.Mathlib.Omega.{arith}
-use mathlib.Core.Path.{refl, sym, ap, _∙_}
-use Prim.Native.Nat.{_-_}
-use Rattle.table.specs.Bytes.{first}
-use Rattle.circuit.specs.Plan.{planned, given}
+use mathlib.Core.Path.{_≡_, refl, sym, ap, _∙_}
+use Rattle.table.specs.Working.{IsFunction}
+use Rattle.rules.specs.State.{State512}
+use Rattle.rules.specs.Circuit.{actOf}
+use Rattle.circuit.specs.declared.plan.Plan.{Plan}
+use Rattle.circuit.specs.Meaning.{stateAs}
+use Rattle.circuit.specs.Plan.{planned}
 use Rattle.circuit.proofs.ActBy.{own-in}
 use Rattle.circuit.proofs.TakeLaws.{enter-in, rested, begun, turned, finished, left, entered, restarted}
 use Rattle.circuit.proofs.changes.take.Tie as tie
 
--- src/changes.rt:109:1
+-- the state that comes in
+abbrev state : tie.Start → State512
+state s = stateAs (s .args .status .now) (s .args .second .now) (s .args .value .now) (s .args .registers .now) (s .args .occupant .now)
+
+-- own is one of the functions
+pub own-there : (s : tie.Start) → IsFunction (s .args .table .now) (s .args .own .0)
+own-there s =
+    let o = own-in _ (s .pre .0) _ (s .pre .1) in
+    (omega (arith, s .pre .2, o .0), omega (arith, s .pre .2, o .1))
+
+-- the act that a plan stands for
+abbrev pub start : tie.After-plan-at → tie.Start
+start c = search
+
+pub act : (c : tie.After-plan-at) {p : Plan} → c .plan-at .result ≡ p
+    → planned (start c .args .table .now) (start c .args .value .now) (start c .args .n .0) p
+    ≡ actOf (start c .args .table .now) (state (start c)) (start c .args .n .0)
+act c e = sym (ap (planned _ _ _) e) ∙ c .plan-at .ensures
+
+-- the function entered is there
+abbrev plan3 : tie.After-p3 → tie.After-plan-at
+plan3 c = search
+
+pub entered-in : (c : tie.After-p3) → IsFunction (start (plan3 c) .args .table .now) (c .p3 .given .0 .0 .0)
+entered-in c =
+    let s = start (plan3 c) in
+    enter-in _ (s .pre .0) _ (s .pre .1) _ _ _ _ _ _ _ (act (plan3 c) (c .p3 .given .1))
+
 pub returns : tie.Need-returns
-returns c = rested (c .before .before .before .before .before .before .before .before .before .args .table .now)
-    (c .before .before .before .before .before .before .before .before .before .pre .0)
-    (c .before .before .before .before .before .before .before .before .before .args .n .0)
-    (c .before .before .before .before .before .before .before .before .before .pre .1)
-    (c .before .before .before .before .before .before .before .before .before .args .status .now)
-    (c .before .before .before .before .before .before .before .before .before .args .second .now)
-    (c .before .before .before .before .before .before .before .before .before .args .value .now)
-    (c .before .before .before .before .before .before .before .before .before .args .registers .now)
-    (c .before .before .before .before .before .before .before .before .before .args .occupant .now) _ 0
-    (sym (ap (planned (c .before .before .before .before .before .before .before .before .before .args .table .now)
-    (c .before .before .before .before .before .before .before .before .before .args .value .now)
-    (c .before .before .before .before .before .before .before .before .before .args .n .0)) (c .enum-told .given .1)) ∙
-    c .before .before .plan-at .ensures) (refl, refl)
+returns c =
+    let p : tie.After-plan-at = search in
+    let s = start p in
+    rested _ (s .pre .0) _ (s .pre .1) _ _ _ _ _ _ 0 (act p (c .enum-told .given .1)) (refl, refl)
 
--- src/changes.rt:109:1
 pub returns-2 : tie.Need-returns-2
-returns-2 c = rested (c .before .before .before .before .before .before .before .before .before .args .table .now)
-    (c .before .before .before .before .before .before .before .before .before .pre .0)
-    (c .before .before .before .before .before .before .before .before .before .args .n .0)
-    (c .before .before .before .before .before .before .before .before .before .pre .1)
-    (c .before .before .before .before .before .before .before .before .before .args .status .now)
-    (c .before .before .before .before .before .before .before .before .before .args .second .now)
-    (c .before .before .before .before .before .before .before .before .before .args .value .now)
-    (c .before .before .before .before .before .before .before .before .before .args .registers .now)
-    (c .before .before .before .before .before .before .before .before .before .args .occupant .now) _ 1
-    (sym (ap (planned (c .before .before .before .before .before .before .before .before .before .args .table .now)
-    (c .before .before .before .before .before .before .before .before .before .args .value .now)
-    (c .before .before .before .before .before .before .before .before .before .args .n .0)) (c .enum-told2 .given .1)) ∙
-    c .before .before .plan-at .ensures) (refl, refl)
+returns-2 c =
+    let p : tie.After-plan-at = search in
+    let s = start p in
+    rested _ (s .pre .0) _ (s .pre .1) _ _ _ _ _ _ 1 (act p (c .enum-told2 .given .1)) (refl, refl)
 
--- src/changes.rt:109:1
 pub returns-3 : tie.Need-returns-3
-returns-3 c = begun (c .before .before .before .before .before .before .before .before .before .before .before .args .table .now)
-    (c .before .before .before .before .before .before .before .before .before .before .before .pre .0)
-    (c .before .before .before .before .before .before .before .before .before .before .before .args .n .0)
-    (c .before .before .before .before .before .before .before .before .before .before .before .pre .1)
-    (c .before .before .before .before .before .before .before .before .before .before .before .args .status .now)
-    (c .before .before .before .before .before .before .before .before .before .before .before .args .second .now)
-    (c .before .before .before .before .before .before .before .before .before .before .before .args .value .now)
-    (c .before .before .before .before .before .before .before .before .before .before .before .args .registers .now)
-    (c .before .before .before .before .before .before .before .before .before .before .before .args .occupant .now)
-    (sym (ap (planned (c .before .before .before .before .before .before .before .before .before .before .before .args .table .now)
-    (c .before .before .before .before .before .before .before .before .before .before .before .args .value .now)
-    (c .before .before .before .before .before .before .before .before .before .before .before .args .n .0))
-    (c .before .before .enum-told3 .given .1)) ∙ c .before .before .before .before .plan-at .ensures) _ (c .begin .ensures)
+returns-3 c =
+    let begins : tie.After-enum-told3 = search in
+    let p : tie.After-plan-at = search in
+    let s = start p in
+    begun _ (s .pre .0) _ (s .pre .1) _ _ _ _ _ (act p (begins .enum-told3 .given .1)) _ (c .begin .ensures)
 
--- src/changes.rt:109:1
 pub returns-4 : tie.Need-returns-4
-returns-4 c = turned (c .before .before .before .before .before .before .before .before .before .before .before .before .before .before
-    .args .table .now) (c .before .before .before .before .before .before .before .before .before .before .before .before .before
-    .before .pre .0) (c .before .before .before .before .before .before .before .before .before .before .before .before .before .before
-    .args .n .0) (c .before .before .before .before .before .before .before .before .before .before .before .before .before .before
-    .pre .1) (c .before .before .before .before .before .before .before .before .before .before .before .before .before .before .args
-    .status .now) (c .before .before .before .before .before .before .before .before .before .before .before .before .before .before
-    .args .second .now) (c .before .before .before .before .before .before .before .before .before .before .before .before .before
-    .before .args .value .now)
-    (c .before .before .before .before .before .before .before .before .before .before .before .before .before .before .args .registers
-    .now) (c .before .before .before .before .before .before .before .before .before .before .before .before .before .before .args
-    .occupant .now) _ (sym
-    (ap (planned (c .before .before .before .before .before .before .before .before .before .before .before .before .before .before
-    .args .table .now) (c .before .before .before .before .before .before .before .before .before .before .before .before .before
-    .before .args .value .now)
-    (c .before .before .before .before .before .before .before .before .before .before .before .before .before .before .args .n .0))
-    (c .before .before .before .before .before .p .given .1)) ∙
-    c .before .before .before .before .before .before .before .plan-at .ensures) _ _ (c .before .before .set-status .ensures)
+returns-4 c =
+    let open-node : tie.After-set-status = search in
+    let turns : tie.After-p = search in
+    let p : tie.After-plan-at = search in
+    let s = start p in
+    turned _ (s .pre .0) _ (s .pre .1) _ _ _ _ _ _ (act p (turns .p .given .1)) _ _ (open-node .set-status .ensures)
     (c .set-second .ensures)
 
--- src/changes.rt:109:1
 pub returns-5 : tie.Need-returns-5
-returns-5 c = finished
-    (c .before .before .before .before .before .before .before .before .before .before .before .before .before .before .args .table
-    .now) (c .before .before .before .before .before .before .before .before .before .before .before .before .before .before .pre .0)
-    (c .before .before .before .before .before .before .before .before .before .before .before .before .before .before .args .n .0)
-    (c .before .before .before .before .before .before .before .before .before .before .before .before .before .before .pre .1)
-    (c .before .before .before .before .before .before .before .before .before .before .before .before .before .before .args .status
-    .now) (c .before .before .before .before .before .before .before .before .before .before .before .before .before .before .args
-    .second .now) (c .before .before .before .before .before .before .before .before .before .before .before .before .before .before
-    .args .value .now) (c .before .before .before .before .before .before .before .before .before .before .before .before .before
-    .before .args .registers .now)
-    (c .before .before .before .before .before .before .before .before .before .before .before .before .before .before .args .occupant
-    .now) _ _ _ _ (c .finish .ensures .0) (c .finish .ensures .1) (c .finish .ensures .2)
-    (sym (ap (planned (c .before .before .before .before .before .before .before .before .before .before .before .before .before
-    .before .args .table .now)
-    (c .before .before .before .before .before .before .before .before .before .before .before .before .before .before .args .value
-    .now) (c .before .before .before .before .before .before .before .before .before .before .before .before .before .before .args .n
-    .0)) (c .before .before .before .before .before .p2 .given .1)) ∙
-    c .before .before .before .before .before .before .before .plan-at .ensures)
+returns-5 c =
+    let finishes : tie.After-p2 = search in
+    let p : tie.After-plan-at = search in
+    let s = start p in
+    let e = c .finish .ensures in
+    finished _ (s .pre .0) _ (s .pre .1) _ _ _ _ _ _ _ _ _ (e .0) (e .1) (e .2) (act p (finishes .p2 .given .1))
 
--- src/changes.rt:109:1
 pub returns-6 : tie.Need-returns-6
-returns-6 c = entered
-    (c .before .before .before .before .before .before .before .before .before .before .before .before .before .before .before .before
-    .before .before .before .before .args .table .now)
-    (c .before .before .before .before .before .before .before .before .before .before .before .before .before .before .before .before
-    .before .before .before .before .pre .0)
-    (c .before .before .before .before .before .before .before .before .before .before .before .before .before .before .before .before
-    .before .before .before .before .args .n .0)
-    (c .before .before .before .before .before .before .before .before .before .before .before .before .before .before .before .before
-    .before .before .before .before .pre .1)
-    (c .before .before .before .before .before .before .before .before .before .before .before .before .before .before .before .before
-    .before .before .before .before .args .status .now)
-    (c .before .before .before .before .before .before .before .before .before .before .before .before .before .before .before .before
-    .before .before .before .before .args .second .now)
-    (c .before .before .before .before .before .before .before .before .before .before .before .before .before .before .before .before
-    .before .before .before .before .args .value .now)
-    (c .before .before .before .before .before .before .before .before .before .before .before .before .before .before .before .before
-    .before .before .before .before .args .registers .now)
-    (c .before .before .before .before .before .before .before .before .before .before .before .before .before .before .before .before
-    .before .before .before .before .args .occupant .now) _ (enter-in
-    (c .before .before .before .before .before .before .before .before .before .before .before .before .before .before .before .before
-    .before .before .before .before .args .table .now)
-    (c .before .before .before .before .before .before .before .before .before .before .before .before .before .before .before .before
-    .before .before .before .before .pre .0)
-    (c .before .before .before .before .before .before .before .before .before .before .before .before .before .before .before .before
-    .before .before .before .before .args .n .0)
-    (c .before .before .before .before .before .before .before .before .before .before .before .before .before .before .before .before
-    .before .before .before .before .pre .1)
-    (c .before .before .before .before .before .before .before .before .before .before .before .before .before .before .before .before
-    .before .before .before .before .args .status .now)
-    (c .before .before .before .before .before .before .before .before .before .before .before .before .before .before .before .before
-    .before .before .before .before .args .second .now)
-    (c .before .before .before .before .before .before .before .before .before .before .before .before .before .before .before .before
-    .before .before .before .before .args .value .now)
-    (c .before .before .before .before .before .before .before .before .before .before .before .before .before .before .before .before
-    .before .before .before .before .args .registers .now)
-    (c .before .before .before .before .before .before .before .before .before .before .before .before .before .before .before .before
-    .before .before .before .before .args .occupant .now) _ _
-    (sym (ap (planned (c .before .before .before .before .before .before .before .before .before .before .before .before .before
-    .before .before .before .before .before .before .before .args .table .now)
-    (c .before .before .before .before .before .before .before .before .before .before .before .before .before .before .before .before
-    .before .before .before .before .args .value .now)
-    (c .before .before .before .before .before .before .before .before .before .before .before .before .before .before .before .before
-    .before .before .before .before .args .n .0))
-    (c .before .before .before .before .before .before .before .before .before .before .before .p3 .given .1)) ∙
-    c .before .before .before .before .before .before .before .before .before .before .before .before .before .plan-at .ensures))
-    (c .before .before .before .before .before .before .before .before .before .first .result .0)
-    (c .before .before .before .before .before .before .before .before .before .first .ensures) _ _ _ _
-    (c .before .before .before .before .reset .ensures .0) (c .before .before .before .before .reset .ensures .1)
-    (c .before .before .before .before .reset .ensures .2) (c .before .before .before .before .reset .ensures .3)
-    (sym (ap (planned (c .before .before .before .before .before .before .before .before .before .before .before .before .before
-    .before .before .before .before .before .before .before .args .table .now)
-    (c .before .before .before .before .before .before .before .before .before .before .before .before .before .before .before .before
-    .before .before .before .before .args .value .now)
-    (c .before .before .before .before .before .before .before .before .before .before .before .before .before .before .before .before
-    .before .before .before .before .args .n .0))
-    (c .before .before .before .before .before .before .before .before .before .before .before .p3 .given .1)) ∙
-    c .before .before .before .before .before .before .before .before .before .before .before .before .before .plan-at .ensures) _
-    (c .before .before .set-second2 .ensures) _ (c .set-occupant .ensures)
+returns-6 c =
+    let second : tie.After-set-second2 = search in
+    let wiped : tie.After-reset = search in
+    let first : tie.After-first = search in
+    let enters : tie.After-p3 = search in
+    let s = start (plan3 enters) in
+    let e = wiped .reset .ensures in
+    entered _ (s .pre .0) _ (s .pre .1) _ _ _ _ _ _ (entered-in enters) _ (first .first .ensures) _ _ _ _ (e .0) (e .1) (e .2) (e .3)
+    (act (plan3 enters) (enters .p3 .given .1)) _ (second .set-second2 .ensures) _ (c .set-occupant .ensures)
 
--- src/changes.rt:109:1
 pub returns-7 : tie.Need-returns-7
-returns-7 c = left (c .before .before .before .before .before .before .before .before .before .before .before .before .before .before
-    .before .before .args .table .now)
-    (c .before .before .before .before .before .before .before .before .before .before .before .before .before .before .before .before
-    .pre .0) (c .before .before .before .before .before .before .before .before .before .before .before .before .before .before .before
-    .before .args .n .0) (c .before .before .before .before .before .before .before .before .before .before .before .before .before
-    .before .before .before .pre .1)
-    (c .before .before .before .before .before .before .before .before .before .before .before .before .before .before .before .before
-    .args .status .now) (c .before .before .before .before .before .before .before .before .before .before .before .before .before
-    .before .before .before .args .second .now)
-    (c .before .before .before .before .before .before .before .before .before .before .before .before .before .before .before .before
-    .args .value .now) (c .before .before .before .before .before .before .before .before .before .before .before .before .before
-    .before .before .before .args .registers .now)
-    (c .before .before .before .before .before .before .before .before .before .before .before .before .before .before .before .before
-    .args .occupant .now) _ _ _ _ (c .before .before .finish2 .ensures .0) (c .before .before .finish2 .ensures .1)
-    (c .before .before .finish2 .ensures .2) _
-    (sym (ap (planned (c .before .before .before .before .before .before .before .before .before .before .before .before .before
-    .before .before .before .args .table .now)
-    (c .before .before .before .before .before .before .before .before .before .before .before .before .before .before .before .before
-    .args .value .now) (c .before .before .before .before .before .before .before .before .before .before .before .before .before
-    .before .before .before .args .n .0)) (c .before .before .before .before .before .before .before .p4 .given .1)) ∙
-    c .before .before .before .before .before .before .before .before .before .plan-at .ensures) _ (c .set-occupant2 .ensures)
+returns-7 c =
+    let done : tie.After-finish2 = search in
+    let leaves : tie.After-p4 = search in
+    let p : tie.After-plan-at = search in
+    let s = start p in
+    let e = done .finish2 .ensures in
+    left _ (s .pre .0) _ (s .pre .1) _ _ _ _ _ _ _ _ _ (e .0) (e .1) (e .2) _ (act p (leaves .p4 .given .1)) _ (c .set-occupant2 .ensures)
 
--- src/changes.rt:109:1
 pub returns-8 : tie.Need-returns-8
-returns-8 c = let o = own-in
-    (c .before .before .before .before .before .before .before .before .before .before .before .before .before .before .before .args
-    .table .now) (c .before .before .before .before .before .before .before .before .before .before .before .before .before .before
-    .before .pre .0) (c .before .before .before .before .before .before .before .before .before .before .before .before .before .before
-    .before .args .n .0) (c .before .before .before .before .before .before .before .before .before .before .before .before .before
-    .before .before .pre .1) in restarted
-    (c .before .before .before .before .before .before .before .before .before .before .before .before .before .before .before .args
-    .table .now) (c .before .before .before .before .before .before .before .before .before .before .before .before .before .before
-    .before .pre .0) (c .before .before .before .before .before .before .before .before .before .before .before .before .before .before
-    .before .args .n .0) (c .before .before .before .before .before .before .before .before .before .before .before .before .before
-    .before .before .pre .1)
-    (c .before .before .before .before .before .before .before .before .before .before .before .before .before .before .before .args
-    .status .now) (c .before .before .before .before .before .before .before .before .before .before .before .before .before .before
-    .before .args .second .now)
-    (c .before .before .before .before .before .before .before .before .before .before .before .before .before .before .before .args
-    .value .now) (c .before .before .before .before .before .before .before .before .before .before .before .before .before .before
-    .before .args .registers .now)
-    (c .before .before .before .before .before .before .before .before .before .before .before .before .before .before .before .args
-    .occupant .now) (c .before .before .before .before .before .before .before .before .before .before .before .before .before .before
-    .before .args .own .0) (
-      omega (
-        arith,
-        c .before .before .before .before .before .before .before .before .before .before .before .before .before .before
-            .before .pre .2,
-        o .0,
-      ),
-      omega (
-        arith,
-        c .before .before .before .before .before .before .before .before .before .before .before .before .before .before .before
-            .pre .2,
-        o .1,
-      ),
-    ) (c .before .before .before .before .before .first2 .result .0)
-    (c .before .before .before .before .before .first2 .ensures) _ _ _ _ (c .reset2 .ensures .0) (c .reset2 .ensures .1)
-    (c .reset2 .ensures .2) (c .reset2 .ensures .3)
-    (c .before .before .before .before .before .before .before .before .before .before .before .before .before .before .before .pre .2)
-    (sym (ap (planned (c .before .before .before .before .before .before .before .before .before .before .before .before .before
-    .before .before .args .table .now)
-    (c .before .before .before .before .before .before .before .before .before .before .before .before .before .before .before .args
-    .value .now) (c .before .before .before .before .before .before .before .before .before .before .before .before .before .before
-    .before .args .n .0)) (c .before .before .before .before .before .before .enum-told4 .given .1)) ∙
-    c .before .before .before .before .before .before .before .before .plan-at .ensures)
+returns-8 c =
+    let first : tie.After-first2 = search in
+    let restarts : tie.After-enum-told4 = search in
+    let p : tie.After-plan-at = search in
+    let s = start p in
+    let e = c .reset2 .ensures in
+    restarted _ (s .pre .0) _ (s .pre .1) _ _ _ _ _ _ (own-there s) _ (first .first2 .ensures) _ _ _ _ (e .0) (e .1) (e .2) (e .3)
+    (s .pre .2) (act p (restarts .enum-told4 .given .1))

@@ -22,45 +22,56 @@ module _ (t : ℕ) where
   cast-at c = search needs
 
   pub mul-if1 : lts.Need-mul-if1 given (measures.body-walk-at t) body-walk.Post
-  mul-if1 c = record { fits = let p = c .before .pre .1 .0 in omega (arith, p .1 .1, few _ (p .0) .0) }
+  mul-if1 c =
+      let start : lts.Start given (measures.body-walk-at t) body-walk.Post = search in
+      record { fits = let p = start .pre .1 .0 in omega (arith, p .1 .1, few _ (p .0) .0) }
 
   pub element-copy-out-if1 : lts.Need-element-copy-out-if1 given (measures.body-walk-at t) body-walk.Post
-  element-copy-out-if1 c = let p = c .before .pre .1 .0 in omega (arith, p .1 .1, few _ (p .0) .0)
+  element-copy-out-if1 c =
+      let start : lts.Start given (measures.body-walk-at t) body-walk.Post = search in
+      let p = start .pre .1 .0 in
+      omega (arith, p .1 .1, few _ (p .0) .0)
 
   pub returns : lts.Need-returns given (measures.body-walk-at t) body-walk.Post
-  returns c = (c .before .before .before .pre .1 .1 .1, grown-none _ _, c .if1 .taken)
+  returns c =
+      let start : lts.Start given (measures.body-walk-at t) body-walk.Post = search in
+      (start .pre .1 .1 .1, grown-none _ _, c .if1 .taken)
 
   pub root-requires : lts.Need-root-requires given (measures.body-walk-at t) body-walk.Post
   root-requires c κs = tt
 
   pub node-walk-requires : lts.Need-node-walk-requires given (measures.body-walk-at t) body-walk.Post
   node-walk-requires c κs =
-      let p = c .before .before .before .before .before .before .before .before .before .pre in
+      let after-root : lts.After-root given (measures.body-walk-at t) body-walk.Post = search in
+      let start : lts.Start given (measures.body-walk-at t) body-walk.Post = search in
+      let p = start .pre in
       let ok = p .1 .0 .0 in
       let i = p .1 .0 .1 in
-      let e = c .before .before .before .before .root .ensures in
+      let e = after-root .root .ensures in
       let w = subst (Within _ _) (sym e) (root-there _ ok _ i) in
       (omega (arith, p .0, few _ ok .1, w .node .0), (refl, (w, (p .1 .1 .0, p .1 .1 .1))))
 
   pub keep-requires : lts.Need-keep-requires given (measures.body-walk-at t) body-walk.Post
-  keep-requires c κs = (
-    c .before .before .node-walk .ensures .walk .memo .size-bodies,
-    let p = c .before .before .before .before
-        .before .before .before .before .before .before .before .before .pre .1 .0 in omega (arith, p .1 .1, few _ (p .0) .0),
-  )
+  keep-requires c κs =
+      let after-node-walk : lts.After-node-walk given (measures.body-walk-at t) body-walk.Post = search in
+      let start : lts.Start given (measures.body-walk-at t) body-walk.Post = search in
+      (after-node-walk .node-walk .ensures .walk .memo .size-bodies, let p = start .pre .1 .0 in omega (arith, p .1 .1, few _ (p .0) .0))
 
   pub mul-called : lts.Need-mul-called given (measures.body-walk-at t) body-walk.Post
-  mul-called c = record {
-    fits = let p = c .before .before .before .before .before .before .before .before .before .before .before
-        .before .before .pre .1 .0 in omega (arith, p .1 .1, few _ (p .0) .0);
-  }
+  mul-called c =
+      let start : lts.Start given (measures.body-walk-at t) body-walk.Post = search in
+      record { fits = let p = start .pre .1 .0 in omega (arith, p .1 .1, few _ (p .0) .0) }
 
   pub element-write-called : lts.Need-element-write-called given (measures.body-walk-at t) body-walk.Post
-  element-write-called c = let p = c .before .before .before .before .before .before .before .before .before .before .before
-      .before .before .pre .1 .0 in omega (arith, p .1 .1, few _ (p .0) .0)
+  element-write-called c =
+      let start : lts.Start given (measures.body-walk-at t) body-walk.Post = search in
+      let p = start .pre .1 .0 in
+      omega (arith, p .1 .1, few _ (p .0) .0)
 
   pub returns-2 : lts.Need-returns-2 given (measures.body-walk-at t) body-walk.Post
   returns-2 c =
-      let p = c .before .before .before .before .before .before .before .before .before .before .before .before .before .pre .1 .0 in
-      at-body _ (p .0) _ _ _ _ _ _ _ _ _ _ (p .1) (c .before .before .before .before .before .before .before .before .root .ensures)
-      (c .before .before .before .node-walk .ensures) (c .keep .ensures)
+      let after-node-walk : lts.After-node-walk given (measures.body-walk-at t) body-walk.Post = search in
+      let after-root : lts.After-root given (measures.body-walk-at t) body-walk.Post = search in
+      let start : lts.Start given (measures.body-walk-at t) body-walk.Post = search in
+      let p = start .pre .1 .0 in
+      at-body _ (p .0) _ _ _ _ _ _ _ _ _ _ (p .1) (after-root .root .ensures) (after-node-walk .node-walk .ensures) (c .keep .ensures)

@@ -26,58 +26,79 @@ module _ (t : ℕ) where
   given = (next-reads.Asked, next-reads.Learnt, measures.node-walk-below t, node-walk.Post)
 
   pub next-requires : lts.Need-next-requires given (measures.chain-walk-at t) chain-walk.Post Inv-loop μ-loop
-  next-requires c κs = let p = c .before .pre .1 in cell _ _ _ _ _ (p .1 .1 .0) (p .1 .0)
+  next-requires c κs =
+      let start : lts.Start given (measures.chain-walk-at t) chain-walk.Post Inv-loop μ-loop = search in
+      let p = start .pre .1 in
+      cell _ _ _ _ _ (p .1 .1 .0) (p .1 .0)
 
   pub loop-holds : lts.Need-loop-holds given (measures.chain-walk-at t) chain-walk.Post Inv-loop μ-loop
   loop-holds c =
-      let p = c .before .before .pre .1 in
+      let start : lts.Start given (measures.chain-walk-at t) chain-walk.Post Inv-loop μ-loop = search in
+      let p = start .pre .1 in
       (along-none _ _ _ _ _ _ _ _ (p .1 .0) (p .0) (p .1 .1 .1), c .next .ensures)
 
   pub node-walk-requires : lts.Need-node-walk-requires given (measures.chain-walk-at t) chain-walk.Post Inv-loop μ-loop
   node-walk-requires c κs =
-      let p = c .before .before .before .before .before .before .before .before .before .pre in
-      let a = c .before .before .before .before .before .before .loop .inv .0 in
+      let at-loop : lts.At-loop given (measures.chain-walk-at t) chain-walk.Post Inv-loop μ-loop = search in
+      let start : lts.Start given (measures.chain-walk-at t) chain-walk.Post Inv-loop μ-loop = search in
+      let p = start .pre in
+      let a = at-loop .loop .inv .0 in
       let w = a .left .walk in
       (omega (arith, p .0, a .low), (w .added .size, (a .here, (p .1 .1 .1 .0, w .memo))))
 
   pub next-requires-2 : lts.Need-next-requires-2 given (measures.chain-walk-at t) chain-walk.Post Inv-loop μ-loop
   next-requires-2 c κs =
-      let i = c .before .before .before .before .before .before .before .before .loop .inv in
-      let z = c .before .before .before .before .before .before .if1 .taken in
-      let p = c .before .before .before .before .before .before .before .before .before .before .before .pre .1 in
+      let then1 : lts.Then1 given (measures.chain-walk-at t) chain-walk.Post Inv-loop μ-loop = search in
+      let at-loop : lts.At-loop given (measures.chain-walk-at t) chain-walk.Post Inv-loop μ-loop = search in
+      let start : lts.Start given (measures.chain-walk-at t) chain-walk.Post Inv-loop μ-loop = search in
+      let i = at-loop .loop .inv in
+      let z = then1 .if1 .taken in
+      let p = start .pre .1 in
       let u = next-there _ _ _ (i .0 .here) (λ q. z (i .1 ∙ q)) in
       cell _ _ _ _ _ (p .1 .1 .0) (subst (Within _ _) (sym (i .1)) (u .0))
 
   pub loop-less : lts.Need-loop-less given (measures.chain-walk-at t) chain-walk.Post Inv-loop μ-loop
   loop-less c =
-      let i = c .before .before .before .before .before .before .before .before .before .loop .inv in
-      let z = c .before .before .before .before .before .before .before .if1 .taken in
+      let then1 : lts.Then1 given (measures.chain-walk-at t) chain-walk.Post Inv-loop μ-loop = search in
+      let at-loop : lts.At-loop given (measures.chain-walk-at t) chain-walk.Post Inv-loop μ-loop = search in
+      let i = at-loop .loop .inv in
+      let z = then1 .if1 .taken in
       let u = next-there _ _ _ (i .0 .here) (λ q. z (i .1 ∙ q)) in
       omega (arith, i .1, u .1, u .0 .node .1)
 
   pub loop-again : lts.Need-loop-again given (measures.chain-walk-at t) chain-walk.Post Inv-loop μ-loop
   loop-again c =
-      let i = c .before .before .before .before .before .before .before .before .before .loop .inv in
-      let z = c .before .before .before .before .before .before .before .if1 .taken in (
-        along-more _ _ _ _ _ _ _ _ _ _ _ _ _ _ (i .0) _ _ _ _ _ _ (λ q. z (i .1 ∙ q)) (i .1)
-            (c .before .before .node-walk .ensures),
-        c .next2 .ensures,
+      let after-node-walk : lts.After-node-walk given (measures.chain-walk-at t) chain-walk.Post Inv-loop μ-loop = search in
+      let then1 : lts.Then1 given (measures.chain-walk-at t) chain-walk.Post Inv-loop μ-loop = search in
+      let at-loop : lts.At-loop given (measures.chain-walk-at t) chain-walk.Post Inv-loop μ-loop = search in
+      let i = at-loop .loop .inv in
+      let z = then1 .if1 .taken in (
+        along-more _ _ _ _ _ _ _ _ _ _ _ _ _ _ (i .0) _ _ _ _ _ _ (λ q. z (i .1 ∙ q)) (i .1) (after-node-walk .node-walk .ensures),
+        c
+            .next2 .ensures,
       )
 
   pub returns : lts.Need-returns given (measures.chain-walk-at t) chain-walk.Post Inv-loop μ-loop
   returns c =
-      let i = c .before .before .before .loop .inv in
-      along-body _ _ _ _ _ _ _ _ _ _ _ _ _ _ (i .0) _ (c .if2 .taken) refl (sym (i .1) ∙ c .before .if1 .left)
+      let else1 : lts.Else1 given (measures.chain-walk-at t) chain-walk.Post Inv-loop μ-loop = search in
+      let at-loop : lts.At-loop given (measures.chain-walk-at t) chain-walk.Post Inv-loop μ-loop = search in
+      let i = at-loop .loop .inv in
+      along-body _ _ _ _ _ _ _ _ _ _ _ _ _ _ (i .0) _ (c .if2 .taken) refl (sym (i .1) ∙ else1 .if1 .left)
 
   pub node-walk-requires-2 : lts.Need-node-walk-requires-2 given (measures.chain-walk-at t) chain-walk.Post Inv-loop μ-loop
   node-walk-requires-2 c κs =
-      let p = c .before .before .before .before .before .before .before .before .before .before .pre in
-      let a = c .before .before .before .before .before .before .before .loop .inv .0 in
+      let at-loop : lts.At-loop given (measures.chain-walk-at t) chain-walk.Post Inv-loop μ-loop = search in
+      let start : lts.Start given (measures.chain-walk-at t) chain-walk.Post Inv-loop μ-loop = search in
+      let p = start .pre in
+      let a = at-loop .loop .inv .0 in
       let w = a .left .walk in
       (omega (arith, p .0, a .low), (w .added .size, (a .here, (p .1 .1 .1 .0, w .memo))))
 
   pub returns-2 : lts.Need-returns-2 given (measures.chain-walk-at t) chain-walk.Post Inv-loop μ-loop
   returns-2 c =
-      let i = c .before .before .before .before .before .before .before .before .loop .inv in
-      along-last _ _ _ _ _ _ _ _ _ _ _ _ _ _ (i .0) _ _ _ _ _ _ (c .before .before .before .before .before .if2 .left)
-      (sym (i .1) ∙ c .before .before .before .before .before .before .if1 .left) (c .node-walk2 .ensures)
+      let else2 : lts.Else2 given (measures.chain-walk-at t) chain-walk.Post Inv-loop μ-loop = search in
+      let else1 : lts.Else1 given (measures.chain-walk-at t) chain-walk.Post Inv-loop μ-loop = search in
+      let at-loop : lts.At-loop given (measures.chain-walk-at t) chain-walk.Post Inv-loop μ-loop = search in
+      let i = at-loop .loop .inv in
+      along-last _ _ _ _ _ _ _ _ _ _ _ _ _ _ (i .0) _ _ _ _ _ _ (else2 .if2 .left) (sym (i .1) ∙ else1 .if1 .left)
+      (c .node-walk2 .ensures)

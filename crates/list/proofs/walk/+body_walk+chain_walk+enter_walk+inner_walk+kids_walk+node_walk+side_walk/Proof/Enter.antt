@@ -29,64 +29,74 @@ module _ (t : ℕ) where
 
   pub returns : lts.Need-returns given (measures.enter-walk-at t) enter-walk.Post
   returns c =
-      let p = c .before .pre .1 in
+      let start : lts.Start given (measures.enter-walk-at t) enter-walk.Post = search in
+      let p = start .pre .1 in
       onto-none _ _ _ _ _ _ _ _ _ _ _ (at-same _ _ _ (p .1 .0) _ _ _ _ _ (p .1 .1 .0) (c .if1 .taken) (p .0) (p .1 .1 .1 .1))
 
   pub word-requires : lts.Need-word-requires given (measures.enter-walk-at t) enter-walk.Post
   word-requires c κs =
-      let p = c .before .before .pre .1 in
-      (cell _ _ _ _ _ (p .1 .1 .1 .0) (p .1 .0), call-kind _ _ _ (p .1 .0) _ (p .1 .1 .0) (c .before .if1 .left))
+      let else1 : lts.Else1 given (measures.enter-walk-at t) enter-walk.Post = search in
+      let start : lts.Start given (measures.enter-walk-at t) enter-walk.Post = search in
+      let p = start .pre .1 in
+      (cell _ _ _ _ _ (p .1 .1 .1 .0) (p .1 .0), call-kind _ _ _ (p .1 .0) _ (p .1 .1 .0) (else1 .if1 .left))
 
   pub returns-2 : lts.Need-returns-2 given (measures.enter-walk-at t) enter-walk.Post
   returns-2 c =
-      let p = c .before .before .before .before .before .pre .1 in
-      onto-none _ _ _ _ _ _ _ _ _ _ _
-      (at-again _ _ _ (p .1 .0) _ _ _ _ _ _ (p .1 .1 .0) (c .before .before .before .before .if1 .left) (c .before .before .word
-      .ensures) (c .if2 .taken) (p .0) (p .1 .1 .1 .1))
+      let after-word : lts.After-word given (measures.enter-walk-at t) enter-walk.Post = search in
+      let else1 : lts.Else1 given (measures.enter-walk-at t) enter-walk.Post = search in
+      let start : lts.Start given (measures.enter-walk-at t) enter-walk.Post = search in
+      let p = start .pre .1 in
+      onto-none _ _ _ _ _ _ _ _ _ _ _ (at-again _ _ _ (p .1 .0) _ _ _ _ _ _ (p .1 .1 .0) (else1 .if1 .left) (after-word .word .ensures)
+      (c .if2 .taken) (p .0) (p .1 .1 .1 .1))
 
   pub body-walk-requires : lts.Need-body-walk-requires given (measures.enter-walk-at t) enter-walk.Post
   body-walk-requires c κs =
-      let p = c .before .before .before .before .before .before .before .before .pre .1 in
-      let u = callee-there _ _ _ (p .1 .0) _ _ (p .1 .1 .0) (c .before .before .before .before .before .before .before .if1 .left) (c
-      .before .before .before .before .before .word .ensures) (c .before .before .before .if2 .left) in (
-        omega (arith, c .before .before .before .before .before .before .before .before .pre .0, u .1),
-        (
-          (p .1 .0 .taken, u .0),
-          p .1 .1
-              .1,
-        ),
-      )
+      let else2 : lts.Else2 given (measures.enter-walk-at t) enter-walk.Post = search in
+      let after-word : lts.After-word given (measures.enter-walk-at t) enter-walk.Post = search in
+      let else1 : lts.Else1 given (measures.enter-walk-at t) enter-walk.Post = search in
+      let start : lts.Start given (measures.enter-walk-at t) enter-walk.Post = search in
+      let p = start .pre .1 in
+      let u = callee-there _ _ _ (p .1 .0) _ _ (p .1 .1 .0) (else1 .if1 .left) (after-word .word .ensures) (else2 .if2 .left) in
+      (omega (arith, start .pre .0, u .1), ((p .1 .0 .taken, u .0), p .1 .1 .1))
 
   pub join-at-requires : lts.Need-join-at-requires given (measures.enter-walk-at t) enter-walk.Post
   join-at-requires c κs =
-      let p = c .before .before .before .before .before .before .before .before .before .before .before .pre .1 in
-      let u = callee-there _ _ _ (p .1 .0) _ _ (p .1 .1 .0) (c .before .before .before .before .before .before .before .before .before
-      .before .if1 .left) (c .before .before .before .before .before .before .before .before .word .ensures) (c .before .before .before
-      .before .before .before .if2 .left) in
+      let else2 : lts.Else2 given (measures.enter-walk-at t) enter-walk.Post = search in
+      let after-word : lts.After-word given (measures.enter-walk-at t) enter-walk.Post = search in
+      let else1 : lts.Else1 given (measures.enter-walk-at t) enter-walk.Post = search in
+      let start : lts.Start given (measures.enter-walk-at t) enter-walk.Post = search in
+      let p = start .pre .1 in
+      let u = callee-there _ _ _ (p .1 .0) _ _ (p .1 .1 .0) (else1 .if1 .left) (after-word .word .ensures) (else2 .if2 .left) in
       (p .0, omega (arith, u .2))
 
   pub put-requires : lts.Need-put-requires given (measures.enter-walk-at t) enter-walk.Post
   put-requires c κs =
-      let w = c .before .before .before .before .before .before .before .before .before .before .before .before .before .pre .1 .1 .0 in
-      (c .before .join-at .ensures .size, (w .node .0, omega (arith, w .node .1, few _ (w .taken) .1)))
+      let after-join-at : lts.After-join-at given (measures.enter-walk-at t) enter-walk.Post = search in
+      let start : lts.Start given (measures.enter-walk-at t) enter-walk.Post = search in
+      let w = start .pre .1 .1 .0 in
+      (after-join-at .join-at .ensures .size, (w .node .0, omega (arith, w .node .1, few _ (w .taken) .1)))
 
   pub cast-at : lts.Need-cast-at given (measures.enter-walk-at t) enter-walk.Post
   cast-at c = search needs
 
   pub mul-below : lts.Need-mul-below given (measures.enter-walk-at t) enter-walk.Post
   mul-below c =
-      let p = c .before .before .before .before .before .before .before .before .before .before .before .before .before .before .pre .1 in
-      let u = callee-there _ _ _ (p .1 .0) _ _ (p .1 .1 .0) (c .before .before .before .before .before .before .before .before .before
-      .before .before .before .before .if1 .left) (c .before .before .before .before .before .before .before .before .before .before
-      .before .word .ensures) (c .before .before .before .before .before .before .before .before .before .if2 .left) in
+      let else2 : lts.Else2 given (measures.enter-walk-at t) enter-walk.Post = search in
+      let after-word : lts.After-word given (measures.enter-walk-at t) enter-walk.Post = search in
+      let else1 : lts.Else1 given (measures.enter-walk-at t) enter-walk.Post = search in
+      let start : lts.Start given (measures.enter-walk-at t) enter-walk.Post = search in
+      let p = start .pre .1 in
+      let u = callee-there _ _ _ (p .1 .0) _ _ (p .1 .1 .0) (else1 .if1 .left) (after-word .word .ensures) (else2 .if2 .left) in
       record { fits = omega (arith, u .2) }
 
   pub element-copy-out-below : lts.Need-element-copy-out-below given (measures.enter-walk-at t) enter-walk.Post
   element-copy-out-below c =
-      let p = c .before .before .before .before .before .before .before .before .before .before .before .before .before .before .pre .1 in
-      let u = callee-there _ _ _ (p .1 .0) _ _ (p .1 .1 .0) (c .before .before .before .before .before .before .before .before .before
-      .before .before .before .before .if1 .left) (c .before .before .before .before .before .before .before .before .before .before
-      .before .word .ensures) (c .before .before .before .before .before .before .before .before .before .if2 .left) in
+      let else2 : lts.Else2 given (measures.enter-walk-at t) enter-walk.Post = search in
+      let after-word : lts.After-word given (measures.enter-walk-at t) enter-walk.Post = search in
+      let else1 : lts.Else1 given (measures.enter-walk-at t) enter-walk.Post = search in
+      let start : lts.Start given (measures.enter-walk-at t) enter-walk.Post = search in
+      let p = start .pre .1 in
+      let u = callee-there _ _ _ (p .1 .0) _ _ (p .1 .1 .0) (else1 .if1 .left) (after-word .word .ensures) (else2 .if2 .left) in
       omega (arith, u .2)
 
   pub cast-result : lts.Need-cast-result given (measures.enter-walk-at t) enter-walk.Post
@@ -94,26 +104,25 @@ module _ (t : ℕ) where
 
   pub shl-result : lts.Need-shl-result given (measures.enter-walk-at t) enter-walk.Post
   shl-result c =
-      let p = c .before .before .before .before .before .before .before .before .before .before .before .before .before .before .before
-      .pre .1 in
-      let u = callee-there _ _ _ (p .1 .0) _ _ (p .1 .1 .0) (c .before .before .before .before .before .before .before .before .before
-      .before .before .before .before .before .if1 .left) (c .before .before .before .before .before .before .before .before .before
-      .before .before .before .word .ensures) (c .before .before .before .before .before .before .before .before .before .before .if2
-      .left) in
+      let else2 : lts.Else2 given (measures.enter-walk-at t) enter-walk.Post = search in
+      let after-word : lts.After-word given (measures.enter-walk-at t) enter-walk.Post = search in
+      let else1 : lts.Else1 given (measures.enter-walk-at t) enter-walk.Post = search in
+      let start : lts.Start given (measures.enter-walk-at t) enter-walk.Post = search in
+      let p = start .pre .1 in
+      let u = callee-there _ _ _ (p .1 .0) _ _ (p .1 .1 .0) (else1 .if1 .left) (after-word .word .ensures) (else2 .if2 .left) in
       omega (arith, u .2)
 
   pub returns-3 : lts.Need-returns-3 given (measures.enter-walk-at t) enter-walk.Post
   returns-3 c =
-      let p = c .before .before .before .before .before .before .before .before .before .before .before .before .before .before .before
-      .pre .1 in
-      let u = callee-there _ _ _ (p .1 .0) _ _ (p .1 .1 .0) (c .before .before .before .before .before .before .before .before .before
-      .before .before .before .before .before .if1 .left) (c .before .before .before .before .before .before .before .before .before
-      .before .before .before .word .ensures) (c .before .before .before .before .before .before .before .before .before .before .if2
-      .left) in
-      onto-one _ _ _ _ _ _ _ _ _ _ _ _
-      (at-entry _ _ _ (p .1 .0) _ _ _ _ _ _ _ _ _ _ _ (p .1 .1 .0) (c .before .before .before .before .before .before .before .before
-      .before .before .before .before .before .before .if1 .left) (c .before .before .before .before .before .before .before .before
-      .before .before .before .before .word .ensures) (c .before .before .before .before .before .before .before .before .before
-      .before .if2 .left)
-      (bit-is _ 32 (omega (arith, u .2))) (c .before .before .before .before .before .before .body-walk .ensures) (c .before .before
-      .before .join-at .ensures) (c .before .put .ensures))
+      let after-put : lts.After-put given (measures.enter-walk-at t) enter-walk.Post = search in
+      let after-join-at : lts.After-join-at given (measures.enter-walk-at t) enter-walk.Post = search in
+      let after-body-walk : lts.After-body-walk given (measures.enter-walk-at t) enter-walk.Post = search in
+      let else2 : lts.Else2 given (measures.enter-walk-at t) enter-walk.Post = search in
+      let after-word : lts.After-word given (measures.enter-walk-at t) enter-walk.Post = search in
+      let else1 : lts.Else1 given (measures.enter-walk-at t) enter-walk.Post = search in
+      let start : lts.Start given (measures.enter-walk-at t) enter-walk.Post = search in
+      let p = start .pre .1 in
+      let u = callee-there _ _ _ (p .1 .0) _ _ (p .1 .1 .0) (else1 .if1 .left) (after-word .word .ensures) (else2 .if2 .left) in
+      onto-one _ _ _ _ _ _ _ _ _ _ _ _ (at-entry _ _ _ (p .1 .0) _ _ _ _ _ _ _ _ _ _ _ (p .1 .1 .0) (else1 .if1 .left)
+      (after-word .word .ensures) (else2 .if2 .left) (bit-is _ 32 (omega (arith, u .2))) (after-body-walk .body-walk .ensures)
+      (after-join-at .join-at .ensures) (after-put .put .ensures))

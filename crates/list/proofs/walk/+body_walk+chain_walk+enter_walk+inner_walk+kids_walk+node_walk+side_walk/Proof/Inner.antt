@@ -34,58 +34,80 @@ module _ (t : ℕ) where
   )
 
   pub first-requires : lts.Need-first-requires given (measures.inner-walk-at t) inner-walk.Post
-  first-requires c κs = let p = c .before .before .pre .1 in cell _ _ _ _ _ (p .1 .1 .1 .0) (p .1 .0)
+  first-requires c κs =
+      let start : lts.Start given (measures.inner-walk-at t) inner-walk.Post = search in
+      let p = start .pre .1 in
+      cell _ _ _ _ _ (p .1 .1 .1 .0) (p .1 .0)
 
   pub chain-walk-requires : lts.Need-chain-walk-requires given (measures.inner-walk-at t) inner-walk.Post
   chain-walk-requires c κs =
-      let p = c .before .before .before .before .before .before .before .pre in
-      let a = c .before .before .before .before .before .before .before .args in
-      let e = c .before .before .before .before .first .ensures in
-      let u = choosing (a .table .now .now) (a .f .0) (a .n .0) (p .1 .1 .0) (sym (p .1 .1 .1 .0 .is) ∙ c .before .before .before
-      .before .before .before .if1 .taken) in
+      let after-first : lts.After-first given (measures.inner-walk-at t) inner-walk.Post = search in
+      let then1 : lts.Then1 given (measures.inner-walk-at t) inner-walk.Post = search in
+      let start : lts.Start given (measures.inner-walk-at t) inner-walk.Post = search in
+      let p = start .pre in
+      let a = start .args in
+      let e = after-first .first .ensures in
+      let u = choosing _ (a .f .0) (a .n .0) (p .1 .1 .0) (sym (p .1 .1 .1 .0 .is) ∙ then1 .if1 .taken) in
       (omega (arith, p .0, e, u .past, u .there .node .1), (p .1 .0, (subst (Within _ _) (sym e) (u .there), p .1 .1 .1 .1)))
 
   pub returns : lts.Need-returns given (measures.inner-walk-at t) inner-walk.Post
   returns c =
-      let p = c .before .before .before .before .before .before .before .before .before .pre .1 in
-      onto-one _ _ _ _ _ _ _ _ _ _ _ _
-      (at-choice _ _ _ (p .1 .0) _ _ (c .before .chain-walk .result) _ _ _ _ _ _ _ (p .1 .1 .0 .is) (c .before .before .before .before
-      .before .before .before .before .if1 .taken)
-      (c .before .before .before .before .before .before .first .ensures) (c .before .chain-walk .ensures))
+      let after-chain-walk : lts.After-chain-walk given (measures.inner-walk-at t) inner-walk.Post = search in
+      let after-first : lts.After-first given (measures.inner-walk-at t) inner-walk.Post = search in
+      let then1 : lts.Then1 given (measures.inner-walk-at t) inner-walk.Post = search in
+      let start : lts.Start given (measures.inner-walk-at t) inner-walk.Post = search in
+      let p = start .pre .1 in
+      onto-one _ _ _ _ _ _ _ _ _ _ _ _ (at-choice _ _ _ (p .1 .0) _ _ _ _ _ _ _ _ _ _ (p .1 .1 .0 .is) (then1 .if1 .taken)
+      (after-first .first .ensures) (after-chain-walk .chain-walk .ensures))
 
   pub side-walk-requires : lts.Need-side-walk-requires given (measures.inner-walk-at t) inner-walk.Post
   side-walk-requires c κs =
-      let p = c .before .before .before .before .before .before .pre in
-      let a = c .before .before .before .before .before .before .args in
+      let then2 : lts.Then2 given (measures.inner-walk-at t) inner-walk.Post = search in
+      let start : lts.Start given (measures.inner-walk-at t) inner-walk.Post = search in
+      let p = start .pre in
+      let a = start .args in
       let w = p .1 .1 .0 in
-      let k = sym (p .1 .1 .1 .0 .is) ∙ c .before .before .before .before .if2 .taken in
-      let b = beside-binding (a .table .now .now) (a .f .0) (a .n .0) w k in
-      let u = binding (a .table .now .now) (a .f .0) (a .n .0) w k in
+      let k = sym (p .1 .1 .1 .0 .is) ∙ then2 .if2 .taken in
+      let b = beside-binding _ (a .f .0) (a .n .0) w k in
+      let u = binding _ (a .f .0) (a .n .0) w k in
       (omega (arith, p .0), (p .1 .0, (w, ((b, u .some-child), p .1 .1 .1 .1))))
 
   pub node-walk-requires : lts.Need-node-walk-requires given (measures.inner-walk-at t) inner-walk.Post
   node-walk-requires c κs =
-      let p = c .before .before .before .before .before .before .before .before .before .before .before .before .before .pre in
-      let a = c .before .before .before .before .before .before .before .before .before .before .before .before .before .args in
+      let after-side-walk : lts.After-side-walk given (measures.inner-walk-at t) inner-walk.Post = search in
+      let then2 : lts.Then2 given (measures.inner-walk-at t) inner-walk.Post = search in
+      let start : lts.Start given (measures.inner-walk-at t) inner-walk.Post = search in
+      let p = start .pre in
+      let a = start .args in
       let w = p .1 .1 .0 in
-      let s = c .before .before .before .before .before .before .side-walk .ensures in
+      let s = after-side-walk .side-walk .ensures in
       let l = s .last refl in
-      let q = binding (a .table .now .now) (a .f .0) (a .n .0) w (sym (p .1 .1 .1 .0 .is) ∙ c .before .before .before .before .before
-      .before .before .before .before .before .before .if2 .taken) .past in (
+      let q = binding _ (a .f .0) (a .n .0) w (sym (p .1 .1 .1 .0 .is) ∙ then2 .if2 .taken) .past in (
         omega (arith, p .0, q, l .2, l .0 .1),
-        (s .walk .added .size, (record { taken = w .taken; node = l .0; own = l .1 }, (p .1 .1 .1 .1 .0, s .walk .memo))),
+        (
+          s .walk .added .size,
+          (
+            record { taken = w .taken; node = l .0; own = l .1 },
+            (p .1 .1 .1 .1 .0, s .walk .memo),
+          ),
+        ),
       )
 
   pub returns-2 : lts.Need-returns-2 given (measures.inner-walk-at t) inner-walk.Post
   returns-2 c =
-      let p = c .before .before .before .before .before .before .before .before .before .before .before .before .before .before .pre .1 in
-      at-let _ _ _ (p .1 .0) _ _ _ (c .before .before .before .before .before .before .before .side-walk .result) _ _ _ _ _ _ _ _ _ _ _
-      (p .1 .1 .0 .is) (c .before .before .before .before .before .before .before .before .before .before .before .before .if2 .taken)
-      (c .before .before .before .before .before .before .before .side-walk .ensures) (c .node-walk .ensures)
+      let after-side-walk : lts.After-side-walk given (measures.inner-walk-at t) inner-walk.Post = search in
+      let then2 : lts.Then2 given (measures.inner-walk-at t) inner-walk.Post = search in
+      let start : lts.Start given (measures.inner-walk-at t) inner-walk.Post = search in
+      let p = start .pre .1 in
+      at-let _ _ _ (p .1 .0) _ _ _ _ _ _ _ _ _ _ _ _ _ _ _ (p .1 .1 .0 .is) (then2 .if2 .taken) (after-side-walk .side-walk .ensures)
+      (c .node-walk .ensures)
 
   pub enter-walk-requires : lts.Need-enter-walk-requires given (measures.inner-walk-at t) inner-walk.Post
   enter-walk-requires c κs =
-      let p = c .before .before .before .before .before .before .pre in
+      let else2 : lts.Else2 given (measures.inner-walk-at t) inner-walk.Post = search in
+      let else1 : lts.Else1 given (measures.inner-walk-at t) inner-walk.Post = search in
+      let start : lts.Start given (measures.inner-walk-at t) inner-walk.Post = search in
+      let p = start .pre in
       let k = p .1 .1 .1 .0 in (
         omega (arith, p .0),
         (
@@ -96,13 +118,8 @@ module _ (t : ℕ) where
               record {
                 is = k .is;
                 low = k .low;
-                high = omega (
-                  arith,
-                  k .high,
-                  c .before .before .before .before .before .if1 .left,
-                  c
-                      .before .before .before .before .if2 .left,
-                );
+                high = omega
+                    (arith, k .high, else1 .if1 .left, else2 .if2 .left);
               },
               p .1 .1 .1 .1,
             ),
@@ -112,24 +129,29 @@ module _ (t : ℕ) where
 
   pub kids-walk-requires : lts.Need-kids-walk-requires given (measures.inner-walk-at t) inner-walk.Post
   kids-walk-requires c κs =
-      let p = c .before .before .before .before .before .before .before .before .before .before .before .pre in
+      let after-enter-walk : lts.After-enter-walk given (measures.inner-walk-at t) inner-walk.Post = search in
+      let else2 : lts.Else2 given (measures.inner-walk-at t) inner-walk.Post = search in
+      let else1 : lts.Else1 given (measures.inner-walk-at t) inner-walk.Post = search in
+      let start : lts.Start given (measures.inner-walk-at t) inner-walk.Post = search in
+      let p = start .pre in
       let k = p .1 .1 .1 .0 in
-      let w = c .before .before .before .before .enter-walk .ensures .walk in
-      let b = beside-apart _ _ _ (p .1 .1 .0) (omega (arith, k .is, k .low))
-      (omega (
+      let w = after-enter-walk .enter-walk .ensures .walk in
+      let b = beside-apart _ _ _ (p .1 .1 .0) (omega (arith, k .is, k .low)) (omega (
         arith,
         k .is,
         k .high,
-        c .before .before .before .before .before .before .before .before .before .before .if1 .left,
-        c
-            .before .before .before .before .before .before .before .before .before .if2 .left,
+        else1 .if1 .left,
+        else2 .if2
+            .left,
       )) in
       (omega (arith, p .0), (w .added .size, (p .1 .1 .0, (b, (p .1 .1 .1 .1 .0, w .memo)))))
 
   pub returns-3 : lts.Need-returns-3 given (measures.inner-walk-at t) inner-walk.Post
   returns-3 c =
-      let p = c .before .before .before .before .before .before .before .before .before .before .before .before .pre .1 in
-      at-apart _ _ _ (p .1 .0) _ _ _ _ _ _ _ _ _ _ _ _ _ _ _ (p .1 .1 .0) (c .before .before .before .before .before .before .before
-      .before .before .before .before .if1 .left) (c .before .before .before .before .before .before .before .before .before .before
-      .if2 .left)
-      (c .before .before .before .before .before .enter-walk .ensures) (c .kids-walk .ensures)
+      let after-enter-walk : lts.After-enter-walk given (measures.inner-walk-at t) inner-walk.Post = search in
+      let else2 : lts.Else2 given (measures.inner-walk-at t) inner-walk.Post = search in
+      let else1 : lts.Else1 given (measures.inner-walk-at t) inner-walk.Post = search in
+      let start : lts.Start given (measures.inner-walk-at t) inner-walk.Post = search in
+      let p = start .pre .1 in
+      at-apart _ _ _ (p .1 .0) _ _ _ _ _ _ _ _ _ _ _ _ _ _ _ (p .1 .1 .0) (else1 .if1 .left) (else2 .if2 .left)
+      (after-enter-walk .enter-walk .ensures) (c .kids-walk .ensures)

@@ -28,69 +28,73 @@ module _ (t : ℕ) where
   )
 
   pub first-requires : lts.Need-first-requires given (measures.kids-walk-at t) kids-walk.Post
-  first-requires c κs = let p = c .before .pre .1 in cell _ _ _ _ _ (p .1 .1 .1 .0) (p .1 .0)
+  first-requires c κs =
+      let start : lts.Start given (measures.kids-walk-at t) kids-walk.Post = search in
+      let p = start .pre .1 in
+      cell _ _ _ _ _ (p .1 .1 .1 .0) (p .1 .0)
 
   pub returns : lts.Need-returns given (measures.kids-walk-at t) kids-walk.Post
   returns c =
-      let p = c .before .before .before .before .pre .1 in
-      onto-none _ _ _ _ _ _ _ _ _ _ _
-      (kids-none _ _ _ (p .1 .0) _ _ _ _ (sym (c .before .before .first .ensures) ∙ c .if1 .taken) (p .0) (p .1 .1 .1 .1))
+      let after-first : lts.After-first given (measures.kids-walk-at t) kids-walk.Post = search in
+      let start : lts.Start given (measures.kids-walk-at t) kids-walk.Post = search in
+      let p = start .pre .1 in
+      onto-none _ _ _ _ _ _ _ _ _ _ _ (kids-none _ _ _ (p .1 .0) _ _ _ _ (sym (after-first .first .ensures) ∙ c .if1 .taken) (p .0)
+      (p .1 .1 .1 .1))
 
   pub next-requires : lts.Need-next-requires given (measures.kids-walk-at t) kids-walk.Post
   next-requires c κs =
-      let p = c .before .before .before .before .before .pre in
-      let a = c .before .before .before .before .before .args in
-      let e = c .before .before .before .first .ensures in
-      let u = first-there (a .table .now .now) (a .f .0) (a .n .0) (p .1 .1 .0) (λ q. c .before .if1 .left (e ∙ q)) in
+      let else1 : lts.Else1 given (measures.kids-walk-at t) kids-walk.Post = search in
+      let after-first : lts.After-first given (measures.kids-walk-at t) kids-walk.Post = search in
+      let start : lts.Start given (measures.kids-walk-at t) kids-walk.Post = search in
+      let p = start .pre in
+      let a = start .args in
+      let e = after-first .first .ensures in
+      let u = first-there _ (a .f .0) (a .n .0) (p .1 .1 .0) (λ q. else1 .if1 .left (e ∙ q)) in
       let w = subst (Within _ _) (sym e) (u .0) in
       cell _ _ _ _ _ (p .1 .1 .1 .1 .0) w
 
   pub node-walk-requires : lts.Need-node-walk-requires given (measures.kids-walk-at t) kids-walk.Post
   node-walk-requires c κs =
-      let p = c .before .before .before .before .before .before .before .before .before .before .before .before .pre in
-      let a = c .before .before .before .before .before .before .before .before .before .before .before .before .args in
-      let e = c .before .before .before .before .before .before .before .before .before .before .first .ensures in
-      let u = first-there (a .table .now .now) (a .f .0) (a .n .0) (p .1 .1 .0) (λ q. c .before .before .before .before .before .before
-      .before .before .if1 .left (e ∙ q)) in
+      let else1 : lts.Else1 given (measures.kids-walk-at t) kids-walk.Post = search in
+      let after-first : lts.After-first given (measures.kids-walk-at t) kids-walk.Post = search in
+      let start : lts.Start given (measures.kids-walk-at t) kids-walk.Post = search in
+      let p = start .pre in
+      let a = start .args in
+      let e = after-first .first .ensures in
+      let u = first-there _ (a .f .0) (a .n .0) (p .1 .1 .0) (λ q. else1 .if1 .left (e ∙ q)) in
       let w = subst (Within _ _) (sym e) (u .0) in
       (omega (arith, p .0, e, u .1, u .0 .node .1), (p .1 .0, (w, p .1 .1 .1 .1)))
 
   pub returns-2 : lts.Need-returns-2 given (measures.kids-walk-at t) kids-walk.Post
   returns-2 c =
-      let p = c .before .before .before .before .before .before .before .before .before .before .before .before .before .pre in
-      let a = c .before .before .before .before .before .before .before .before .before .before .before .before .before .args in
-      let e = c .before .before .before .before .before .before .before .before .before .before .before .first .ensures in
-      let u = first-there (a .table .now .now) (a .f .0) (a .n .0) (p .1 .1 .0) (λ q. c .before .before .before .before .before .before
-      .before .before .before .if1 .left (e ∙ q)) in
+      let then2 : lts.Then2 given (measures.kids-walk-at t) kids-walk.Post = search in
+      let after-next : lts.After-next given (measures.kids-walk-at t) kids-walk.Post = search in
+      let else1 : lts.Else1 given (measures.kids-walk-at t) kids-walk.Post = search in
+      let after-first : lts.After-first given (measures.kids-walk-at t) kids-walk.Post = search in
+      let start : lts.Start given (measures.kids-walk-at t) kids-walk.Post = search in
+      let p = start .pre in
+      let a = start .args in
+      let e = after-first .first .ensures in
+      let u = first-there _ (a .f .0) (a .n .0) (p .1 .1 .0) (λ q. else1 .if1 .left (e ∙ q)) in
       let w = subst (Within _ _) (sym e) (u .0) in
       let o = c .node-walk .ensures in
       record {
         own = o .own;
-        walk = kids-one _ _ _ (p .1 .1 .0) _ _ _ _ _ _ _ _ _ (p .1 .1 .1 .0) w e (sym (c .before .before .before .before .before
-            .before .before .next .ensures) ∙ c .before .before .before .before .before .if2 .taken) (o .walk);
+        walk = kids-one _ _ _ (p .1 .1 .0) _ _ _ _ _ _ _ _ _ (p .1 .1 .1 .0) w e (sym (after-next .next .ensures) ∙
+            then2 .if2 .taken) (o .walk);
         joins = o .joins;
       }
 
   pub side-walk-requires : lts.Need-side-walk-requires given (measures.kids-walk-at t) kids-walk.Post
   side-walk-requires c κs =
-      let p = c .before .before .before .before .before .before .before .before .before .before .before .before .pre in
-      let b = p .1 .1 .1 .0 in (
-        omega (arith, p .0),
-        (
-          p .1 .0,
-          (
-            p .1 .1 .0,
-            (
-              (
-                b,
-                λ q. c .before .before .before .before .before .before .before .before .if1
-                    .left (c .before .before .before .before .before .before .before .before .before .before .first .ensures ∙ q),
-              ),
-              p .1 .1 .1 .1,
-            ),
-          ),
-        ),
-      )
+      let else1 : lts.Else1 given (measures.kids-walk-at t) kids-walk.Post = search in
+      let after-first : lts.After-first given (measures.kids-walk-at t) kids-walk.Post = search in
+      let start : lts.Start given (measures.kids-walk-at t) kids-walk.Post = search in
+      let p = start .pre in
+      let b = p .1 .1 .1 .0 in
+      (omega (arith, p .0), (p .1 .0, (p .1 .1 .0, ((b, λ q. else1 .if1 .left (after-first .first .ensures ∙ q)), p .1 .1 .1 .1))))
 
   pub returns-3 : lts.Need-returns-3 given (measures.kids-walk-at t) kids-walk.Post
-  returns-3 c = onto-one _ _ _ _ _ _ _ _ _ _ _ _ (c .before .side-walk .ensures .walk)
+  returns-3 c =
+      let after-side-walk : lts.After-side-walk given (measures.kids-walk-at t) kids-walk.Post = search in
+      onto-one _ _ _ _ _ _ _ _ _ _ _ _ (after-side-walk .side-walk .ensures .walk)

@@ -15,22 +15,32 @@ module _ (t : ℕ) where
   given = (kind-reads.Asked, kind-reads.Learnt, measures.inner-walk-below t, inner-walk.Post)
 
   pub kind-requires : lts.Need-kind-requires given (measures.node-walk-at t) node-walk.Post
-  kind-requires c κs = let p = c .before .pre .1 in cell _ _ _ _ _ (p .1 .1 .0) (p .1 .0)
+  kind-requires c κs =
+      let start : lts.Start given (measures.node-walk-at t) node-walk.Post = search in
+      let p = start .pre .1 in
+      cell _ _ _ _ _ (p .1 .1 .0) (p .1 .0)
 
   pub returns : lts.Need-returns given (measures.node-walk-at t) node-walk.Post
   returns c =
-      let p = c .before .before .before .pre .1 in
-      onto-none _ _ _ _ _ _ _ _ _ _ _ (at-low _ _ _ (p .1 .0) _ _ _ _ _ (c .before .kind .ensures) (c .if1 .taken) (p .0) (p .1 .1 .1))
+      let after-kind : lts.After-kind given (measures.node-walk-at t) node-walk.Post = search in
+      let start : lts.Start given (measures.node-walk-at t) node-walk.Post = search in
+      let p = start .pre .1 in
+      onto-none _ _ _ _ _ _ _ _ _ _ _ (at-low _ _ _ (p .1 .0) _ _ _ _ _ (after-kind .kind .ensures) (c .if1 .taken) (p .0) (p .1 .1 .1))
 
   pub returns-2 : lts.Need-returns-2 given (measures.node-walk-at t) node-walk.Post
   returns-2 c =
-      let p = c .before .before .before .before .pre .1 in
-      onto-none _ _ _ _ _ _ _ _ _ _ _ (at-high _ _ _ (p .1 .0) _ _ _ _ _ (c .before .before .kind .ensures) (c .if2 .taken) (p .0) (p
-      .1 .1 .1))
+      let after-kind : lts.After-kind given (measures.node-walk-at t) node-walk.Post = search in
+      let start : lts.Start given (measures.node-walk-at t) node-walk.Post = search in
+      let p = start .pre .1 in
+      onto-none _ _ _ _ _ _ _ _ _ _ _ (at-high _ _ _ (p .1 .0) _ _ _ _ _ (after-kind .kind .ensures) (c .if2 .taken) (p .0) (p .1 .1 .1))
 
   pub inner-walk-requires : lts.Need-inner-walk-requires given (measures.node-walk-at t) node-walk.Post
   inner-walk-requires c κs =
-      let p = c .before .before .before .before .before .before .before .before .pre in (
+      let else2 : lts.Else2 given (measures.node-walk-at t) node-walk.Post = search in
+      let else1 : lts.Else1 given (measures.node-walk-at t) node-walk.Post = search in
+      let after-kind : lts.After-kind given (measures.node-walk-at t) node-walk.Post = search in
+      let start : lts.Start given (measures.node-walk-at t) node-walk.Post = search in
+      let p = start .pre in (
         omega (arith, p .0),
         (
           p .1 .0,
@@ -38,10 +48,10 @@ module _ (t : ℕ) where
             p .1 .1 .0,
             (
               record {
-                is = c .before .before .before .before .before .before .kind .ensures;
-                low = c .before .before .before .before
-                    .before .if1 .left;
-                high = c .before .before .before .before .if2 .left;
+                is = after-kind .kind .ensures;
+                low = else1 .if1 .left;
+                high = else2 .if2
+                    .left;
               },
               p .1 .1 .1,
             ),

@@ -27,27 +27,38 @@ module _ (t : ℕ) where
   )
 
   pub first-requires : lts.Need-first-requires given (measures.side-walk-at t) side-walk.Post
-  first-requires c κs = let p = c .before .pre .1 in cell _ _ _ _ _ (p .1 .1 .1 .0) (p .1 .0)
+  first-requires c κs =
+      let start : lts.Start given (measures.side-walk-at t) side-walk.Post = search in
+      let p = start .pre .1 in
+      cell _ _ _ _ _ (p .1 .1 .1 .0) (p .1 .0)
 
   pub chain-walk-requires : lts.Need-chain-walk-requires given (measures.side-walk-at t) side-walk.Post
   chain-walk-requires c κs =
-      let p = c .before .before .before .before .before .before .pre in
-      let a = c .before .before .before .before .before .before .args in
-      let e = c .before .before .before .before .first .ensures in
-      let u = first-there (a .table .now .now) (a .f .0) (a .n .0) (p .1 .1 .0) (p .1 .1 .1 .0 .1) in
+      let after-first : lts.After-first given (measures.side-walk-at t) side-walk.Post = search in
+      let start : lts.Start given (measures.side-walk-at t) side-walk.Post = search in
+      let p = start .pre in
+      let a = start .args in
+      let e = after-first .first .ensures in
+      let u = first-there _ (a .f .0) (a .n .0) (p .1 .1 .0) (p .1 .1 .1 .0 .1) in
       let w = subst (Within _ _) (sym e) (u .0) in
       (omega (arith, p .0, e, u .1, u .0 .node .1), (refl, (w, p .1 .1 .1 .1)))
 
   pub meet-requires : lts.Need-meet-requires given (measures.side-walk-at t) side-walk.Post
-  meet-requires c κs = c .before .before .chain-walk .ensures .walk .memo .size-found
+  meet-requires c κs =
+      let after-chain-walk : lts.After-chain-walk given (measures.side-walk-at t) side-walk.Post = search in
+      after-chain-walk .chain-walk .ensures .walk .memo .size-found
 
   pub join-requires : lts.Need-join-requires given (measures.side-walk-at t) side-walk.Post
-  join-requires c κs = c .before .before .before .before .before .before .before .before .before .before .before .before .pre .1 .0
+  join-requires c κs =
+      let start : lts.Start given (measures.side-walk-at t) side-walk.Post = search in
+      start .pre .1 .0
 
   pub returns : lts.Need-returns given (measures.side-walk-at t) side-walk.Post
   returns c =
-      let p = c .before .before .before .before .before .before .before .before .before .before .before .before .before .pre .1 in
-      side-all _ _ _ (p .1 .0) _ _ (c .before .before .before .before .before .before .chain-walk .result) _ _ _ _ _ _ _ _ _ _ (p .1 .1
-      .0 .0) (p .1 .1 .1 .0 .sited)
-      (c .before .before .before .before .before .before .before .before .before .before .before .first .ensures) (c .before .before
-      .before .before .before .before .chain-walk .ensures) (c .before .before .before .meet .ensures) (c .join .ensures)
+      let after-meet : lts.After-meet given (measures.side-walk-at t) side-walk.Post = search in
+      let after-chain-walk : lts.After-chain-walk given (measures.side-walk-at t) side-walk.Post = search in
+      let after-first : lts.After-first given (measures.side-walk-at t) side-walk.Post = search in
+      let start : lts.Start given (measures.side-walk-at t) side-walk.Post = search in
+      let p = start .pre .1 in
+      side-all _ _ _ (p .1 .0) _ _ _ _ _ _ _ _ _ _ _ _ _ (p .1 .1 .0 .0) (p .1 .1 .1 .0 .sited) (after-first .first .ensures)
+      (after-chain-walk .chain-walk .ensures) (after-meet .meet .ensures) (c .join .ensures)
