@@ -1,131 +1,82 @@
--- the arrays of owners, parents and tail positions, node by node
-use Prim.Native.Nat.{ℕ, _+_, _≤_, _<_}
+-- what each node is part of, node by node: its function and parent in its slot, its tail position in an array
+use Prim.Native.Nat.{ℕ, _+_, _-_, _≤_, _<_}
 use mathlib.Core.Bool.{Bool, true, false, _&&_}
-use mathlib.Core.Path.{_≡_, refl, sym, ap, ap₂, _∙_}
+use mathlib.Core.Path.{_≡_, sym, ap, ap₂, _∙_}
 use mathlib.Core.List.{List}
 use native.Mathlib.Omega.{arith}
-use native.Mathlib.Decide.{ℕ-discrete, decLe}
-use lib.Dec.{eqb, leb}
+use native.Mathlib.Decide.{ℕ-discrete}
+use lib.Dec.{eqb}
 use lib.ListN.{length, getD, set, replicate, length-set, length-replicate}
 use lib.Seq.{getD-set-same, getD-set-other}
-use borrow.Author.Tests.{le-leb, lt-leb, eq-eqb}
+use borrow.Author.Tests.{eq-eqb}
 use Rattle.table.specs.Pick.{pick}
 use Rattle.table.specs.Bytes.{nodes, first}
-use Rattle.table.specs.Find.{back, backBy}
 use Rattle.table.specs.Naming.{rootOf, namer, owner, parent, tailChild, tail}
-use Rattle.table.specs.declared.kin.Kin.{Kin}
-use Rattle.table.specs.Working.{Framed, Related, Parents}
+use Rattle.table.specs.Decoded.{cellAt, nodeSlot}
+use Rattle.table.specs.Working.{Filled, Tails, putCell}
 use Rattle.table.proofs.Links.{namer-lower}
-use Rattle.table.proofs.Family.{owner-step, parent-step, parent-lower, parent-zero, tail-step}
-use Rattle.table.proofs.Loops.{blank-at}
+use Rattle.table.proofs.Family.{owner-step, parent-step, parent-lower, tail-step}
+use Rattle.table.proofs.CellLaws.{filled-at, filled-kin}
 
--- an array filled in ascending order: g up to n, and 0 past it
-abbrev pub Filled : (ℕ → ℕ) → List ℕ → ℕ → Type 0
-Filled g l n = (j : ℕ) → j ≤ 512 → getD l j 0 ≡ pick (leb j n) (g j) 0
+-- node n, of which the lower ones have their function and parent in their slots
+module _ (t cells : List ℕ) (F N n : ℕ) (low : 1 ≤ n) (high : n ≤ 512) (h : Filled t F N (n - 1) cells) (m r x y : ℕ)
+    (em : m ≡ namer t n) (er : r ≡ rootOf t n) (ex : x ≡ pick (eqb m 0) r (cellAt cells (nodeSlot m) 6))
+    (ey : y ≡ pick (eqb m 0) 0 (pick (eqb (first t m) n) m (cellAt cells (nodeSlot m) 7))) where
+  lower : m < n
+  lower = omega (arith, em, namer-lower t n low)
 
-leb-on : (j n : ℕ) → (j ≡ n + 1 → ⊥) → leb j n ≡ leb j (n + 1)
-leb-on j n d = go (decLe j n)
-  where
-    go : Dec (j ≤ n) → leb j n ≡ leb j (n + 1)
-    go (yes h) = le-leb j n h ∙ sym (le-leb j (n + 1) (omega arith))
-    go (no h) = lt-leb j n (omega arith) ∙ sym (lt-leb j (n + 1) (omega arith))
+  pub new-owner : x ≡ owner t n
+  new-owner = ex ∙ above (ℕ-discrete m 0) ∙ ap (λ k. pick (eqb k 0) (rootOf t n) (owner t k)) em ∙ sym (owner-step t n low)
+    where
+      above : Dec (m ≡ 0) → pick (eqb m 0) r (cellAt cells (nodeSlot m) 6) ≡ pick (eqb m 0) (rootOf t n) (owner t m)
+      above (yes q) = rw (eq-eqb m 0 q) er
+      above (no q) = ap₂ (λ a b. pick (eqb m 0) a b) er
+          (filled-at t cells F N (n - 1) m (omega arith) (omega (arith, lower)) h 6 (omega arith) (omega (arith, lower)))
 
-pub filled-more : (g : ℕ → ℕ) (l : List ℕ) (n x : ℕ) → length l ≡ 513 → n < 512 → Filled g l n → x ≡ g (n + 1)
-    → Filled g (set l (n + 1) x) (n + 1)
-filled-more g l n x size b h e j i = go (ℕ-discrete j (n + 1))
-  where
-    go : Dec (j ≡ n + 1) → getD (set l (n + 1) x) j 0 ≡ pick (leb j (n + 1)) (g j) 0
-    go (yes q) = rw (q, le-leb (n + 1) (n + 1) (omega arith)) (getD-set-same l (n + 1) x 0 (omega arith) ∙ e)
-    go (no q) = getD-set-other l (n + 1) j x 0 q ∙ h j i ∙ ap (λ b. pick b (g j) 0) (leb-on j n q)
+  pub new-parent : y ≡ parent t n
+  new-parent = ey ∙ above (ℕ-discrete m 0)
+      ∙ ap (λ k. pick (eqb k 0) 0 (pick (eqb (first t k) n) k (parent t k))) em ∙ sym (parent-step t n low)
+    where
+      above : Dec (m ≡ 0) → pick (eqb m 0) 0 (pick (eqb (first t m) n) m (cellAt cells (nodeSlot m) 7))
+          ≡ pick (eqb m 0) 0 (pick (eqb (first t m) n) m (parent t m))
+      above (yes q) = rw (eq-eqb m 0 q)
+      above (no q) = ap (λ a. pick (eqb m 0) 0 (pick (eqb (first t m) n) m a))
+          (filled-at t cells F N (n - 1) m (omega arith) (omega (arith, lower)) h 7 (omega arith) (omega (arith, lower)))
 
-filled-none : (g : ℕ → ℕ) → g 0 ≡ 0 → Filled g (replicate 513 0) 0
-filled-none g z j i = blank-at {A = ℕ} 513 j 0 ∙ sym (go (ℕ-discrete j 0))
-  where
-    go : Dec (j ≡ 0) → pick (leb j 0) (g j) 0 ≡ 0
-    go (yes q) = rw q z
-    go (no q) = ap (λ b. pick b (g j) 0) (lt-leb j 0 (omega arith))
+  -- both put into its slot
+  pub related : (a b : List ℕ) (s : ℕ) → s ≡ nodeSlot n → a ≡ putCell cells s 6 x → b ≡ putCell a s 7 y → n ≤ N → Filled t F N n b
+  related a b s es ea eb i =
+      let q : n - 1 + 1 ≡ n = omega arith in
+      let f = filled-kin t cells F N (n - 1) x y (omega arith) (omega arith) h (new-owner ∙ ap (owner t) (sym q))
+      (new-parent ∙ ap (parent t) (sym q)) in
+      rw (eb, ea, es) (rw q at f)
 
--- what is filled already
-filled-at : (g : ℕ → ℕ) (l : List ℕ) (n j : ℕ) → n ≤ 512 → Filled g l n → j ≤ n → getD l j 0 ≡ g j
-filled-at g l n j b h i = h j (omega arith) ∙ ap (λ b. pick b (g j) 0) (le-leb j n i)
-
-pub record KinTo (t o p : List ℕ) (l : List Bool) (n : ℕ) : Type 0 where
-  pub sized : length o ≡ 513
-  pub sized′ : length p ≡ 513
-  pub sized″ : length l ≡ 513
-  pub owners : Filled (owner t) o n
-  pub parents : Filled (parent t) p n
+-- the tail positions of the nodes up to n
+pub record TailsTo (t : List ℕ) (l : List Bool) (n : ℕ) : Type 0 where
+  pub size : length l ≡ 513
   pub tails : (j : ℕ) → 1 ≤ j → j ≤ n → getD l j false ≡ tail t j
 
-owner-zero : (t : List ℕ) → owner t 0 ≡ 0
-unfolding owner back backBy
-owner-zero t = refl
+pub tails-none : (t : List ℕ) → TailsTo t (replicate 513 true) 0
+tails-none t = record { size = length-replicate 513 true; tails = λ j a b. absurd (omega arith) }
 
-pub kin-none : (t : List ℕ) → KinTo t (replicate 513 0) (replicate 513 0) (replicate 513 true) 0
-kin-none t = record {
-  sized = length-replicate {A = ℕ} 513 0;
-  sized′ = length-replicate {A = ℕ} 513 0;
-  sized″ = length-replicate 513 true;
-  owners = filled-none (owner t) (owner-zero t);
-  parents = filled-none (parent t) (parent-zero t);
-  tails = λ j a b. absurd (omega arith);
-}
+module _ (t : List ℕ) (l : List Bool) (n : ℕ) (h : TailsTo t l n) (room : n < 512) (p : ℕ) (ep : p ≡ parent t (n + 1)) (z : Bool)
+    (ez : z ≡ pick (eqb p 0) true (tailChild t p (n + 1) && getD l p false)) where
+  new-tail : z ≡ tail t (n + 1)
+  new-tail = ez ∙ above (ℕ-discrete p 0)
+      ∙ ap (λ k. pick (eqb k 0) true (tailChild t k (n + 1) && tail t k)) ep ∙ sym (tail-step t (n + 1) (omega arith))
+    where
+      above : Dec (p ≡ 0) → pick (eqb p 0) true (tailChild t p (n + 1) && getD l p false) ≡ pick (eqb p 0) true
+          (tailChild t p (n + 1) && tail t p)
+      above (yes q) = rw (eq-eqb p 0 q)
+      above (no q) = ap (λ b. pick (eqb p 0) true (tailChild t p (n + 1) && b)) (h .tails p (omega arith)
+          (omega (arith, ep, parent-lower t (n + 1) (omega arith))))
 
-module _ (t o p : List ℕ) (l : List Bool) (n : ℕ) (h : KinTo t o p l n) (room : n < 512) (m r x y : ℕ)
-    (em : m ≡ namer t (n + 1)) (er : r ≡ rootOf t (n + 1)) (ex : x ≡ pick (eqb m 0) r (getD o m 0))
-    (ey : y ≡ pick (eqb m 0) 0 (pick (eqb (first t m) (n + 1)) m (getD p m 0))) where
-  lower : m ≤ n
-  lower = omega (arith, em, namer-lower t (n + 1) (omega arith))
+  pub tails-more : TailsTo t (set l (n + 1) z) (n + 1)
+  tails-more = record { size = length-set l (n + 1) z ∙ h .size; tails = λ j a b. go j a b (ℕ-discrete j (n + 1)) }
+    where
+      go : (j : ℕ) → 1 ≤ j → j ≤ n + 1 → Dec (j ≡ n + 1) → getD (set l (n + 1) z) j false ≡ tail t j
+      go j a b (yes q) = rw q (getD-set-same l (n + 1) z false (omega (arith, h .size)) ∙ new-tail)
+      go j a b (no q) = getD-set-other l (n + 1) j z false q ∙ h .tails j a (omega arith)
 
-  new-owner : x ≡ owner t (n + 1)
-  new-owner = ex ∙ ap₂ (λ a b. pick (eqb m 0) a b) er (filled-at (owner t) o n m (omega arith) (h .owners) lower)
-      ∙ ap (λ k. pick (eqb k 0) (rootOf t (n + 1)) (owner t k)) em ∙ sym (owner-step t (n + 1) (omega arith))
-
-  pub new-parent : y ≡ parent t (n + 1)
-  new-parent = ey ∙ ap (λ a. pick (eqb m 0) 0 (pick (eqb (first t m) (n + 1)) m a))
-      (filled-at (parent t) p n m (omega arith) (h .parents) lower)
-      ∙ ap (λ k. pick (eqb k 0) 0 (pick (eqb (first t k) (n + 1)) k (parent t k))) em ∙ sym (parent-step t (n + 1) (omega arith))
-
-  pub parent-below : y ≤ n
-  parent-below = omega (arith, new-parent, parent-lower t (n + 1) (omega arith))
-
-  module _ (z : Bool) (ez : z ≡ pick (eqb y 0) true (tailChild t y (n + 1) && getD l y false)) where
-    new-tail : z ≡ tail t (n + 1)
-    new-tail = ez ∙ above (ℕ-discrete y 0)
-        ∙ ap (λ k. pick (eqb k 0) true (tailChild t k (n + 1) && tail t k)) new-parent ∙ sym (tail-step t (n + 1) (omega arith))
-      where
-        above : Dec (y ≡ 0) → pick (eqb y 0) true (tailChild t y (n + 1) && getD l y false) ≡ pick (eqb y 0) true
-            (tailChild t y (n + 1) && tail t y)
-        above (yes q) = rw (eq-eqb y 0 q)
-        above (no q) = ap (λ b. pick (eqb y 0) true (tailChild t y (n + 1) && b)) (h .tails y (omega arith) parent-below)
-
-    tails-more : (j : ℕ) → 1 ≤ j → j ≤ n + 1 → getD (set l (n + 1) z) j false ≡ tail t j
-    tails-more j a b = go (ℕ-discrete j (n + 1))
-      where
-        go : Dec (j ≡ n + 1) → getD (set l (n + 1) z) j false ≡ tail t j
-        go (yes q) = rw q (getD-set-same l (n + 1) z false (omega (arith, h .sized″)) ∙ new-tail)
-        go (no q) = getD-set-other l (n + 1) j z false q ∙ h .tails j a (omega arith)
-
-    pub kin-more : KinTo t (set o (n + 1) x) (set p (n + 1) y) (set l (n + 1) z) (n + 1)
-    kin-more = record {
-      sized = length-set o (n + 1) x ∙ h .sized;
-      sized′ = length-set p (n + 1) y ∙ h .sized′;
-      sized″ = length-set l (n + 1) z ∙ h .sized″;
-      owners = filled-more (owner t) o n x (h .sized) room (h .owners) new-owner;
-      parents = filled-more (parent t) p n y (h .sized′) room (h .parents) new-parent;
-      tails = tails-more;
-    }
-
-pub kin-all : (t o p : List ℕ) (l : List Bool) → Framed t → KinTo t o p l (nodes t) → Related t
-    (record { owner = o; parent = p; tail = l })
-kin-all t o p l fr h = record {
-  owners = λ n i. h .owners n (omega arith);
-  parents = λ n i. h .parents n (omega arith);
-  tails = λ n i. h .tails n (i .0) (i .1);
-}
-
-pub related-owner : (t : List ℕ) (r : Kin) → Framed t → Related t r → (n : ℕ) → n ≤ nodes t → getD (r .owner) n 0 ≡ owner t n
-related-owner t r fr h n i = h .owners n (omega (arith, fr .N-high)) ∙ ap (λ b. pick b (owner t n) 0) (le-leb n (nodes t) i)
-
-pub related-parent : (t : List ℕ) (r : Kin) → Framed t → Related t r → Parents t (r .parent)
-related-parent t r fr h n i = h .parents n (omega (arith, fr .N-high)) ∙ ap (λ b. pick b (parent t n) 0) (le-leb n (nodes t) i)
+pub tails-all : (t : List ℕ) (l : List Bool) → TailsTo t l (nodes t) → Tails t l
+tails-all t l h n i = h .tails n (i .0) (i .1)

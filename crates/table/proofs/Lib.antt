@@ -14,6 +14,8 @@ pub mod Links
 pub mod Family
 pub mod Tree
 pub mod View
+pub mod CellLaws
+pub mod DecodeLaws
 pub mod Children
 pub mod Parts
 pub mod NodePlaces

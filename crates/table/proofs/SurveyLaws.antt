@@ -1,13 +1,11 @@
 -- the survey of a table, from what its parts give
-use Prim.Native.Nat.{ℕ, zero, suc, _+_, _≤_, _<_}
+use Prim.Native.Nat.{ℕ, zero, suc, _≤_}
 use mathlib.Core.Bool.{Bool, true, false}
 use mathlib.Core.Path.{_≡_, refl, sym, ap, ap₂, _∙_}
-use mathlib.Core.List.{List, map}
+use mathlib.Core.List.{List}
 use native.Mathlib.Omega.{arith}
-use native.Mathlib.Nat.{not-suc-le-zero, le-of-suc-le-suc, add-suc, suc-add}
 use lib.Dec.{leb, eqb→eq}
-use lib.ListN.{length, getD, replicate, length-map, length-replicate, List·getD-map}
-use lib.Seq.{ext-getD}
+use lib.ListN.{length, replicate}
 use borrow.Author.Tests.{le-leb, eq-eqb, ne-eqb}
 use Rattle.table.proofs.Tests.{true-T}
 use Rattle.table.specs.declared.Function.{Function}
@@ -15,73 +13,16 @@ use Rattle.table.specs.declared.Node.{Node}
 use Rattle.table.specs.declared.faults.Fault.{Fault}
 use Rattle.table.specs.declared.Checked.{Checked}
 use Rattle.table.specs.declared.Checked.the-variants.{Accepted, Refused}
-use Rattle.table.specs.declared.kin.Kin.{Kin}
 use Rattle.table.specs.Pick.{pick}
 use Rattle.table.specs.Bytes.{functions, nodes, root}
 use Rattle.table.specs.Find.{all, lowest}
-use Rattle.table.specs.Naming.{owner, parent}
 use Rattle.table.specs.Check.{among, Verdict, accepted, refused, stage, sizes, whole, rootFits, linked, recordFits, checkOf}
-use Rattle.table.specs.Working.{Framed, Linked, Related, frameNumber, checkNodes, faultVerdict, asFunction, asNode}
-use Rattle.table.specs.Survey.{tabulate, ifAccepted, ofNode, ownersOf, parentsOf, blankOf, Surveyed, verdictOf}
+use Rattle.table.specs.Working.{Framed, Linked, Taken, Filled, Decides, Read, frameNumber, checkNodes, faultVerdict}
+use Rattle.table.specs.Survey.{verdictOf, Surveyed}
+use Rattle.table.specs.Decoded.{Decoded}
 use Rattle.table.proofs.FindLaws.{both, all-passes, lowest-passes}
-use Rattle.table.proofs.Passed.{in-range}
-use Rattle.table.proofs.Loops.{blank-at}
-
--- a list by its elements
-tabulate-length : {A : Type 0} (g : ℕ → A) (k n : ℕ) → length (tabulate g k n) ≡ k
-unfolding tabulate
-tabulate-length g zero n = refl
-tabulate-length g (suc k) n = ap suc (tabulate-length g k (suc n))
-
-pub tabulate-at : {A : Type 0} (g : ℕ → A) (d : A) (k n i : ℕ) → i < k → getD (tabulate g k n) i d ≡ g (n + i)
-unfolding tabulate
-tabulate-at g d zero n i h = absurd (not-suc-le-zero h)
-tabulate-at g d (suc k) n zero h = ap g (plus-zero n)
-  where
-    plus-zero : (n : ℕ) → n ≡ n + 0
-    plus-zero n = omega arith
-tabulate-at g d (suc k) n (suc i) h = tabulate-at g d k (suc n) i (le-of-suc-le-suc h) ∙ ap g (suc-add n i ∙ sym (add-suc n i))
-
-pub by-elements : {A : Type 0} (g : ℕ → A) (d : A) (k : ℕ) (l : List A) → length l ≡ k → ((i : ℕ) → i < k → getD l i d ≡ g i)
-    → l ≡ tabulate g k 0
-by-elements g d k l e h = ext-getD d l (tabulate g k 0) (e ∙ sym (tabulate-length g k 0))
-    (λ i x. let y : i < k = omega arith in h i y ∙ ap g (zero-plus i) ∙ sym (tabulate-at g d k 0 i y))
-  where
-    zero-plus : (i : ℕ) → i ≡ 0 + i
-    zero-plus i = omega arith
-
--- a refusal tells nothing of the nodes
-pub blank-surveyed : (t : List ℕ) (k p : ℕ) → checkOf t ≡ refused k p
-    → Surveyed t (blankOf k p)
-unfolding ownersOf parentsOf
-blank-surveyed t k p e = record {
-  checked = sym e;
-  owners = by-elements (λ n. asFunction (ifAccepted (checkOf t) (ofNode t (owner t) n) 0)) (asFunction 0) 513
-      (replicate 513 (asFunction 0))
-      (length-replicate 513 (asFunction 0))
-      (λ i h. blank-at 513 i (asFunction 0) ∙ sym (ap (λ v. asFunction (ifAccepted v (ofNode t (owner t) i) 0)) e));
-  parents = by-elements (λ n. asNode (ifAccepted (checkOf t) (ofNode t (parent t) n) 0)) (asNode 0) 513 (replicate 513 (asNode 0))
-      (length-replicate 513 (asNode 0))
-      (λ i h. blank-at 513 i (asNode 0) ∙ sym (ap (λ v. asNode (ifAccepted v (ofNode t (parent t) i) 0)) e));
-}
-
-pub told-surveyed : (t : List ℕ) (r : Kin) (f : Function) (n : Node) (o : List Function) (p : List Node)
-    → length (r .owner) ≡ 513 → length (r .parent) ≡ 513 → Related t r → checkOf t ≡ accepted (functions t) (nodes t)
-    → f .0 ≡ functions t → n .0 ≡ nodes t → o ≡ map asFunction (r .owner) → p ≡ map asNode (r .parent)
-    → Surveyed t (record { checked = Accepted f n; owner = o; parent = p })
-unfolding ownersOf parentsOf
-told-surveyed t r f n o p lo lp h e ef en eo ep = record {
-  checked = ap₂ accepted ef en ∙ sym e;
-  owners = eo ∙ by-elements (λ n. asFunction (ifAccepted (checkOf t) (ofNode t (owner t) n) 0)) (asFunction 0) 513
-      (map asFunction (r .owner))
-      (length-map (r .owner) asFunction ∙ lo)
-      (λ i l. List·getD-map asFunction (r .owner) i 0 ∙ ap asFunction (h .owners i l)
-      ∙ sym (ap (λ v. asFunction (ifAccepted v (ofNode t (owner t) i) 0)) e));
-  parents = ep ∙ by-elements (λ n. asNode (ifAccepted (checkOf t) (ofNode t (parent t) n) 0)) (asNode 0) 513 (map asNode (r .parent))
-      (length-map (r .parent) asNode ∙ lp)
-      (λ i l. List·getD-map asNode (r .parent) i 0 ∙ ap asNode (h .parents i l)
-      ∙ sym (ap (λ v. asNode (ifAccepted v (ofNode t (parent t) i) 0)) e));
-}
+use Rattle.table.proofs.Passed.{in-range, passed}
+use Rattle.table.proofs.CellLaws.{decoded, decoded-refused, all-read, filled}
 
 -- what the nodes' part found
 pub fault-refused : (t : List ℕ) (r : Fault) → faultVerdict t r ≡ checkNodes t → (r .number ≡ 10 → ⊥) → checkNodes t ≡ refused
@@ -181,8 +122,45 @@ module _ (t : List ℕ) (fr : Framed t) where
 
 -- an equation on the verdict fixes the whole answer
 pub verdict-apart : (a b : Checked) → verdictOf a ≡ verdictOf b → a ≡ b
-verdict-apart (Accepted f n) (Accepted g m) e = let p : f .0 ≡ g .0 = cc in let q : n .0 ≡ m .0 = cc in λ i. Accepted (asFunction (p i))
-    (asNode (q i))
+verdict-apart (Accepted f n) (Accepted g m) e = let p : f .0 ≡ g .0 = cc in let q : n .0 ≡ m .0 = cc in λ i. Accepted (record { 0 = p i })
+    (record { 0 = q i })
 verdict-apart (Accepted f n) (Refused k p) e = absurd (let z : _≡_ {A = ℕ} 0 1 = cc in omega arith)
 verdict-apart (Refused k p) (Accepted f n) e = absurd (let z : _≡_ {A = ℕ} 0 1 = cc in omega arith)
-verdict-apart (Refused k p) (Refused j q) e = let x : k ≡ j = cc in let y : p .0 ≡ q .0 = cc in λ i. Refused (x i) (asNode (y i))
+verdict-apart (Refused k p) (Refused j q) e = let x : k ≡ j = cc in let y : p .0 ≡ q .0 = cc in λ i. Refused (x i) (record { 0 = y i })
+
+-- the check's answer, with cells that are nothing where it is a refusal
+pub refuses : (t cells : List ℕ) (k : ℕ) (p : Node) → checkOf t ≡ refused k (p .0) → Decides t (Refused k p) cells
+refuses t cells k p e = record { told = sym e; filled = λ q. absurd (let z : _≡_ {A = ℕ} 0 1 = cc in omega arith) }
+
+pub accepts : (t cells : List ℕ) (f : Function) (n : Node) → Taken t → f .0 ≡ functions t
+    → n .0 ≡ nodes t → Filled t (functions t) (nodes t) (nodes t) cells → Decides t (Accepted f n) cells
+accepts t cells f n e ef en h = record { told = ap₂ accepted ef en ∙ sym e; filled = λ q. h }
+
+-- an accepted table: its answer names F and N, and its records can be read
+pub taken-by : (t : List ℕ) (F N : ℕ) → accepted F N ≡ checkOf t → Taken t × (F ≡ functions t) × (N ≡ nodes t)
+taken-by t F N e =
+    let p = passed t F N (sym e) in
+    (sym e ∙ ap₂ accepted (sym (p .1)) (sym (p .2)), sym (p .1), sym (p .2))
+
+pub taken-framed : (t : List ℕ) → Taken t → Framed t
+taken-framed t e =
+    let p = passed t (functions t) (nodes t) e .0 in
+    record { F-low = p .F-low; F-high = p .F-high; N-low = p .N-low; N-high = p .N-high; size = p .size }
+
+-- and the survey's
+pub surveyed : (t cells : List ℕ) (f : Function) (n : Node) → Decides t (Accepted f n) cells
+    → Surveyed t (record { checked = Accepted f n; cells = cells })
+surveyed t cells f n d =
+    let e = taken-by t (f .0) (n .0) (d .told) .0 in
+    record { checked = d .told; cells = decoded t cells (taken-framed t e) e (d .filled e) }
+
+pub surveyed-refused : (t cells : List ℕ) (k : ℕ) (p : Node) → Decides t (Refused k p) cells
+    → Surveyed t (record { checked = Refused k p; cells = replicate 4360 0 })
+surveyed-refused t cells k p d = record { checked = d .told; cells = decoded-refused t k (p .0) (sym (d .told)) }
+
+-- what the cells of an accepted table say
+pub cells-read : (t cells : List ℕ) → Taken t → Decoded t cells → Read t cells
+cells-read t cells e d = record { taken = e; told = all-read t cells fr (filled t cells fr e d) }
+  where
+    fr : Framed t
+    fr = taken-framed t e

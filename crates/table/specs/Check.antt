@@ -14,6 +14,11 @@ pub data Verdict : Type 0 where
   accepted : (F N : ℕ) → Verdict
   refused : (number place : ℕ) → Verdict
 
+-- what an accepted table tells, else what stands for nothing
+abbrev pub ifAccepted : {A : Type 0} → Verdict → A → A → A
+ifAccepted (accepted F N) x y = x
+ifAccepted (refused number place) x y = y
+
 abbrev pub between : ℕ → ℕ → Counts
 between l h = record { low = l; high = h }
 

@@ -7,6 +7,7 @@ pub mod Check
 pub mod Expressions
 pub mod Environment
 pub mod Well
-pub mod Working
+pub mod Decoded
 pub mod Survey
+pub mod Working
 pub mod Designs

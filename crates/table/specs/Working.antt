@@ -1,20 +1,20 @@
 -- what the parts of the check ask of each other: the sizes, the links, and the arrays filled in ascending order of the nodes
-use Prim.Native.Nat.{ℕ, _+_, _*_, _≤_, _<_}
+use Prim.Native.Nat.{ℕ, _+_, _-_, _*_, _≤_, _<_}
 use mathlib.Core.Bool.{Bool, true, false, _&&_, _||_}
 use mathlib.Core.Path.{_≡_}
 use mathlib.Core.List.{List}
 use lib.Dec.{T, eqb, ltb, leb}
-use lib.ListN.{length, getD}
-use Rattle.table.specs.declared.Function.{Function}
-use Rattle.table.specs.declared.Node.{Node}
+use lib.ListN.{length, getD, set}
 use Rattle.table.specs.declared.names.Names.{Names}
-use Rattle.table.specs.declared.kin.Kin.{Kin}
+use Rattle.table.specs.declared.Checked.{Checked}
+use Rattle.table.specs.Survey.{verdictOf}
 use Rattle.table.specs.declared.faults.Fault.{Fault}
 use Rattle.table.specs.Pick.{pick}
-use Rattle.table.specs.Bytes.{functions, nodes, root, kind, extra, word}
+use Rattle.table.specs.Bytes.{functions, nodes, params, spare, root, kind, extra, word, first, next}
 use Rattle.table.specs.Find.{one, total, lowest}
-use Rattle.table.specs.Naming.{mentions, rootOf, namer, owner, parent, tail}
-use Rattle.table.specs.Check.{Verdict, accepted, refused, stage, sizes, whole, linked, formed, calleeFits, counted, scoped, tailed}
+use Rattle.table.specs.Naming.{mentions, rootOf, namer, tail}
+use Rattle.table.specs.Decoded.{cellAt, nodeSlot, functionSlot, tableSlot, numberAt, low, high, nodeField, functionField, tableField, upTo}
+use Rattle.table.specs.Check.{Verdict, accepted, refused, stage, checkOf, sizes, whole, linked, formed, calleeFits, counted, scoped, tailed}
 
 -- n is a node's number, f a function's
 abbrev pub IsNode : List ℕ → ℕ → Type 0
@@ -22,6 +22,10 @@ IsNode t n = (1 ≤ n) × (n ≤ nodes t)
 
 abbrev pub IsFunction : List ℕ → ℕ → Type 0
 IsFunction t f = (1 ≤ f) × (f ≤ functions t)
+
+-- the check takes the table
+abbrev pub Taken : List ℕ → Type 0
+Taken t = checkOf t ≡ accepted (functions t) (nodes t)
 
 -- what the numbers 1 to 3 ensure: every record can be read
 pub record Framed (t : List ℕ) : Type 0 where
@@ -37,6 +41,47 @@ pub record At (t : List ℕ) (base n : ℕ) : Type 0 where
   pub start : base ≡ 4 + 4 * functions t
   pub low : 1 ≤ n
   pub high : n ≤ nodes t
+
+-- of a table's cells the first `top` numbers of each node are filled, and all of each function and of the table
+pub record CellsTo (t cells : List ℕ) (top : ℕ) : Type 0 where
+  pub size : length cells ≡ 4360
+  pub node : (n k : ℕ) → IsNode t n → k < top → cellAt cells (nodeSlot n) k ≡ nodeField t n k
+  pub function : (f k : ℕ) → IsFunction t f → k < 8 → cellAt cells (functionSlot f) k ≡ functionField t f k
+  pub own : (k : ℕ) → k < 8 → cellAt cells tableSlot k ≡ tableField t k
+
+-- decoded from the bytes alone: no function and no parent yet
+abbrev pub Raw : List ℕ → List ℕ → Type 0
+Raw t cells = CellsTo t cells 6
+
+abbrev pub Cells : List ℕ → List ℕ → Type 0
+Cells t cells = CellsTo t cells 8
+
+-- number k of slot s is x
+unfoldable pub putCell : List ℕ → ℕ → ℕ → ℕ → List ℕ
+putCell cells s k x = set cells (8 * s + k) x
+
+-- node n's record, function f's, the table's sizes, put into their slots
+abbrev pub withNode : List ℕ → ℕ → List ℕ → List ℕ
+withNode t n cells =
+    let s = nodeSlot n in
+    putCell (putCell (putCell (putCell (putCell (putCell cells s 0 (kind t n)) s 1 (extra t n)) s 2 (low t n)) s 3 (high t n))
+    s 4 (first t n)) s 5 (next t n)
+
+abbrev pub withFunction : List ℕ → ℕ → List ℕ → List ℕ
+withFunction t f cells =
+    let s = functionSlot f in
+    putCell (putCell (putCell cells s 0 (params t f)) s 1 (spare t f)) s 2 (root t f)
+
+-- how far an array of cells is filled: functions up to f, of the nodes up to n what their records say, up to m function and parent
+abbrev pub filledTo : List ℕ → (f n m s k : ℕ) → ℕ
+filledTo t f n m s k =
+    pick (ltb s 512) (upTo (pick (ltb k 6) n m) (λ n. nodeField t n k) (numberAt 512 s))
+    (pick (ltb s 544) (upTo f (λ f. functionField t f k) (numberAt 32 (s - 512)))
+    (tableField t k))
+
+pub record Filled (t : List ℕ) (f n m : ℕ) (cells : List ℕ) : Type 0 where
+  pub size : length cells ≡ 4360
+  pub each : (s k : ℕ) → s < 545 → k < 8 → cellAt cells s k ≡ filledTo t f n m s k
 
 -- the first of the numbers 1 to 3 that is met, 0 if none is
 unfoldable pub frameNumber : List ℕ → ℕ
@@ -73,26 +118,20 @@ pub record Named (t : List ℕ) (r : Names) : Type 0 where
   pub tops : (n : ℕ) → IsNode t n → getD (r .roots) n 0 ≡ rootOf t n
   pub holders : (n : ℕ) → IsNode t n → getD (r .namers) n 0 ≡ namer t n
 
--- owners, parents and tail positions, by node; 0 for a number that is no node
-pub record Related (t : List ℕ) (r : Kin) : Type 0 where
-  pub owners : (n : ℕ) → n < 513 → getD (r .owner) n 0 ≡ pick (leb n (nodes t)) (owner t n) 0
-  pub parents : (n : ℕ) → n < 513 → getD (r .parent) n 0 ≡ pick (leb n (nodes t)) (parent t n) 0
-  pub tails : (n : ℕ) → IsNode t n → getD (r .tail) n false ≡ tail t n
+-- tail positions, by node
+abbrev pub Tails : List ℕ → List Bool → Type 0
+Tails t l = (n : ℕ) → IsNode t n → getD l n false ≡ tail t n
 
-abbrev pub asFunction : ℕ → Function
-asFunction f = record { 0 = f }
-
-abbrev pub asNode : ℕ → Node
-asNode n = record { 0 = n }
-
--- the parents of all nodes, by number
-abbrev pub Parents : List ℕ → List ℕ → Type 0
-Parents t l = (n : ℕ) → n ≤ nodes t → getD l n 0 ≡ parent t n
-
--- node n's own fields, of a table that passed 1 to 4
-pub record NodeAt (t : List ℕ) (base n k e w : ℕ) : Type 0 where
-  pub place : At t base n
+-- node n of a table that passed 1 to 4 and is decoded
+pub record Within (t cells : List ℕ) (n : ℕ) : Type 0 where
+  pub framed : Framed t
   pub links : Linked t
+  pub read : Cells t cells
+  pub node : IsNode t n
+
+-- and what was read of it
+pub record NodeAt (t cells : List ℕ) (n k e w : ℕ) : Type 0 where
+  pub place : Within t cells n
   pub kinded : k ≡ kind t n
   pub extras : e ≡ extra t n
   pub worded : w ≡ word t n
@@ -128,3 +167,13 @@ checkNodes t =
 -- number 10 stands for none
 abbrev pub faultVerdict : List ℕ → Fault → Verdict
 faultVerdict t r = pick (eqb (r .number) 10) (accepted (functions t) (nodes t)) (refused (r .number) (r .place .0))
+
+-- the check's answer, and the cells that it leaves: filled where the table is accepted
+pub record Decides (t : List ℕ) (r : Checked) (cells : List ℕ) : Type 0 where
+  pub told : verdictOf r ≡ checkOf t
+  pub filled : Taken t → Filled t (functions t) (nodes t) (nodes t) cells
+
+-- the cells of a table that the check takes
+pub record Read (t cells : List ℕ) : Type 0 where
+  pub taken : Taken t
+  pub told : Cells t cells

@@ -1,18 +1,18 @@
 // The nodes' part of refusals 5 to 9.
 use crate::Function;
 use crate::Node;
-use crate::frame;
-use crate::kin::Kin;
+use crate::decoded;
+use crate::decoded::Cells;
 use crate::kinds;
 ghost use mathlib.Core.Path.{_≡_};
 ghost use mathlib.Core.Bool.{_&&_, _||_, not};
-ghost use Prim.Native.Nat.{_+_, _*_, _≤_};
+ghost use Prim.Native.Nat.{_≤_};
 ghost use lib.Dec.{eqb};
 ghost use lib.ListN.{length};
 ghost use Rattle.table.specs.Bytes.{functions, nodes, params, kind, extra, word};
 ghost use Rattle.table.specs.Naming.{owner, tail as tailOf, underLast, inScope, chain};
 ghost use Rattle.table.specs.Check.{among, counted, scoped};
-ghost use Rattle.table.specs.Working.{Framed, At, Linked, Related, Parents, NodeAt, better, faultAt, checkNodes, faultVerdict};
+ghost use Rattle.table.specs.Working.{Framed, Linked, Cells, Within, Tails, NodeAt, better, faultAt, checkNodes, faultVerdict};
 
 // The lowest number met so far and the lowest node that meets it; 10, past the last number here, stands for none.
 pub struct Fault {
@@ -21,7 +21,7 @@ pub struct Fault {
 }
 
 // 6: a callee is in 1 to the caller's own number.
-fn callee_fits(kind: u8, word: u32, own: Function) -> bool
+fn callee_fits(kind: u16, word: u32, own: Function) -> bool
     ensures { λ r. ⌜ r ≡ (not (eqb kind 4) || among 1 (own .0) word) ⌝ }
 {
     if kind != 4 {
@@ -35,14 +35,14 @@ fn callee_fits(kind: u8, word: u32, own: Function) -> bool
 }
 
 // The number of siblings from c on.
-fn chain_length(table: &[u8], base: usize, c: Node) -> usize
-    requires { ⌜ Framed (now table) × Linked (now table) × (base ≡ 4 + 4 * functions (now table)) × (c .0 ≤ nodes (now table)) ⌝ }
+fn chain_length(table: &[u8], cells: &Cells, c: Node) -> usize
+    requires { ⌜ Framed (now table) × Linked (now table) × Cells (now table) (now cells) × (c .0 ≤ nodes (now table)) ⌝ }
     ensures { λ r. ⌜ r ≡ length (chain (now (table .entry)) (c .0)) ⌝ }
 {
     let mut at = c.0;
     let mut count: usize = 0;
     while at != 0 {
-        let on = frame::next_at(table, base, Node(at));
+        let on = decoded::next(cells, Node(at));
         at = on.0;
         count += 1;
     }
@@ -50,26 +50,26 @@ fn chain_length(table: &[u8], base: usize, c: Node) -> usize
 }
 
 // A callee's parameters; of what is no call, anything.
-fn callee_params(table: &[u8], kind: u8, word: u32) -> u8
-    requires { ⌜ Framed (now table) × (kind ≡ 4 → (1 ≤ word) × (word ≤ functions (now table))) ⌝ }
+fn callee_params(table: &[u8], cells: &Cells, kind: u16, word: u32) -> u16
+    requires { ⌜ Framed (now table) × Cells (now table) (now cells) × (kind ≡ 4 → (1 ≤ word) × (word ≤ functions (now table))) ⌝ }
     ensures { λ r. ⌜ (kind ≡ 4 → r ≡ params (now (table .entry)) word) ⌝ }
 {
     if kind != 4 {
         return 0;
     }
     let f = word as u16;
-    frame::params_at(table, Function(f))
+    decoded::params(cells, Function(f))
 }
 
 // 7: as many children as kind and operation allow.
-fn count_fits(table: &[u8], base: usize, n: Node, kind: u8, extra: u8, word: u32) -> bool
-    requires { ⌜ NodeAt (now table) base (n .0) kind extra word × (kind ≡ 4 → (1 ≤ word) × (word ≤ functions (now table))) ⌝ }
+fn count_fits(table: &[u8], cells: &Cells, n: Node, kind: u16, extra: u16, word: u32) -> bool
+    requires { ⌜ NodeAt (now table) (now cells) (n .0) kind extra word × (kind ≡ 4 → (1 ≤ word) × (word ≤ functions (now table))) ⌝ }
     ensures { λ r. ⌜ r ≡ counted (now (table .entry)) (n .0) ⌝ }
 {
-    let p = callee_params(table, kind, word);
+    let p = callee_params(table, cells, kind, word);
     let c = kinds::child_counts(kind, extra, p);
-    let first = frame::first_at(table, base, n);
-    let j = chain_length(table, base, first);
+    let first = decoded::first(cells, n);
+    let j = chain_length(table, cells, first);
     if j < (c.low as usize) {
         false
     } else {
@@ -78,16 +78,16 @@ fn count_fits(table: &[u8], base: usize, n: Node, kind: u8, extra: u8, word: u32
 }
 
 // Whether n or a node above it is the last child of p.
-fn under_last(table: &[u8], base: usize, parents: &[u16; 513], p: Node, n: Node) -> bool
-    requires { ⌜ At (now table) base (n .0) × Parents (now table) (now parents) × (1 ≤ p .0) ⌝ }
+fn under_last(table: &[u8], cells: &Cells, p: Node, n: Node) -> bool
+    requires { ⌜ Within (now table) (now cells) (n .0) × (1 ≤ p .0) ⌝ }
     ensures { λ r. ⌜ r ≡ underLast (now (table .entry)) (p .0) (n .0) ⌝ }
 {
     let end = p.0;
     let mut a = n.0;
     while end < a {
-        let up = parents[a as usize];
+        let up = decoded::parent(cells, Node(a)).0;
         if up == end {
-            return frame::next_at(table, base, Node(a)).0 == 0;
+            return decoded::next(cells, Node(a)).0 == 0;
         }
         a = up;
     }
@@ -95,57 +95,56 @@ fn under_last(table: &[u8], base: usize, parents: &[u16; 513], p: Node, n: Node)
 }
 
 // Whether d is a definiens of a let whose body is or contains n.
-fn in_scope(table: &[u8], base: usize, parents: &[u16; 513], d: u32, n: Node) -> bool
-    requires { ⌜ At (now table) base (n .0) × Linked (now table) × Parents (now table) (now parents) ⌝ }
+fn in_scope(table: &[u8], cells: &Cells, d: u32, n: Node) -> bool
+    requires { ⌜ Within (now table) (now cells) (n .0) ⌝ }
     ensures { λ r. ⌜ r ≡ inScope (now (table .entry)) d (n .0) ⌝ }
 {
     if d == 0 {
         return false;
     }
-    let last = frame::last_node(table);
+    let last = decoded::last(cells);
     if (last.0 as u32) < d {
         return false;
     }
     let k = d as u16;
-    let p = parents[k as usize];
+    let p = decoded::parent(cells, Node(k)).0;
     if p == 0 {
         return false;
     }
-    if frame::kind_at(table, base, Node(p)) != 6 {
+    if decoded::kind(cells, Node(p)) != 6 {
         return false;
     }
-    if frame::next_at(table, base, Node(k)).0 == 0 {
+    if decoded::next(cells, Node(k)).0 == 0 {
         return false;
     }
-    under_last(table, base, parents, Node(p), n)
+    under_last(table, cells, Node(p), n)
 }
 
 // 8: a parameter's index is below the count, a bound node's definiens is in scope.
 fn scope_fits(
     table: &[u8],
-    base: usize,
-    parents: &[u16; 513],
+    cells: &Cells,
     n: Node,
-    kind: u8,
-    extra: u8,
+    kind: u16,
+    extra: u16,
     word: u32,
     own: Function,
 ) -> bool
-    requires { ⌜ NodeAt (now table) base (n .0) kind extra word × Parents (now table) (now parents) × (own .0 ≡ owner (now table)
+    requires { ⌜ NodeAt (now table) (now cells) (n .0) kind extra word × (own .0 ≡ owner (now table)
         (n .0)) ⌝ }
     ensures { λ r. ⌜ r ≡ scoped (now (table .entry)) (n .0) ⌝ }
 {
     if kind == 2 {
-        return extra < frame::params_at(table, own);
+        return extra < decoded::params(cells, own);
     }
     if kind == 7 {
-        return in_scope(table, base, parents, word, n);
+        return in_scope(table, cells, word, n);
     }
     true
 }
 
 // 9: a self call is in tail position.
-fn tail_fits(kind: u8, word: u32, own: Function, tail: bool) -> bool
+fn tail_fits(kind: u16, word: u32, own: Function, tail: bool) -> bool
     ensures { λ r. ⌜ r ≡ (not (eqb kind 4 && eqb word (own .0)) || tail) ⌝ }
 {
     if kind != 4 {
@@ -155,32 +154,25 @@ fn tail_fits(kind: u8, word: u32, own: Function, tail: bool) -> bool
 }
 
 // The first number that a node meets, 10 where it meets none.
-fn fault_at(
-    table: &[u8],
-    base: usize,
-    parents: &[u16; 513],
-    n: Node,
-    own: Function,
-    tail: bool,
-) -> u8
-    requires { ⌜ At (now table) base (n .0) × Linked (now table) × Parents (now table) (now parents) ⌝ }
+fn fault_at(table: &[u8], cells: &Cells, n: Node, own: Function, tail: bool) -> u8
+    requires { ⌜ Within (now table) (now cells) (n .0) ⌝ }
     requires { ⌜ (own .0 ≡ owner (now table) (n .0)) × (tail ≡ tailOf (now table) (n .0)) ⌝ }
     ensures { λ r. ⌜ r ≡ faultAt (now (table .entry)) (n .0) ⌝ }
 {
-    let kind = frame::kind_at(table, base, n);
-    let extra = frame::extra_at(table, base, n);
-    let word = frame::word_at(table, base, n);
-    let first = frame::first_at(table, base, n);
+    let kind = decoded::kind(cells, n);
+    let extra = decoded::extra(cells, n);
+    let word = decoded::word(cells, n);
+    let first = decoded::first(cells, n);
     if !kinds::formed(kind, extra, word, first) {
         return 5;
     }
     if !callee_fits(kind, word, own) {
         return 6;
     }
-    if !count_fits(table, base, n, kind, extra, word) {
+    if !count_fits(table, cells, n, kind, extra, word) {
         return 7;
     }
-    if !scope_fits(table, base, parents, n, kind, extra, word, own) {
+    if !scope_fits(table, cells, n, kind, extra, word, own) {
         return 8;
     }
     if !tail_fits(kind, word, own, tail) {
@@ -201,13 +193,11 @@ fn lower(best: Fault, number: u8, place: Node) -> Fault
 }
 
 // The lowest number of 5 to 9 that a node meets, and the lowest node that meets it.
-pub(crate) fn lowest(table: &[u8], kin: Kin) -> Fault
-    requires { ⌜ Framed (now table) × Linked (now table) × Related (now table) kin ⌝ }
+pub(crate) fn lowest(table: &[u8], cells: &Cells, tails: [bool; 513]) -> Fault
+    requires { ⌜ Framed (now table) × Linked (now table) × Cells (now table) (now cells) × Tails (now table) tails ⌝ }
     ensures { λ r. ⌜ faultVerdict (now (table .entry)) r ≡ checkNodes (now (table .entry)) ⌝ }
 {
-    let base = frame::base(table);
-    let last = frame::last_node(table).0;
-    let parents = kin.parent;
+    let last = decoded::last(cells).0;
     let mut best = Fault {
         number: 10,
         place: Node(0),
@@ -215,9 +205,9 @@ pub(crate) fn lowest(table: &[u8], kin: Kin) -> Fault
     let mut n: u16 = 0;
     while n < last {
         n += 1;
-        let own = kin.owner[n as usize];
-        let tail = kin.tail[n as usize];
-        let number = fault_at(table, base, &parents, Node(n), Function(own), tail);
+        let own = decoded::owner(cells, Node(n));
+        let tail = tails[n as usize];
+        let number = fault_at(table, cells, Node(n), own, tail);
         best = lower(best, number, Node(n));
     }
     best

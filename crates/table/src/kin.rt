@@ -1,24 +1,17 @@
 // What each node is part of: its function, its parent, and whether it is in tail position.
 use crate::Function;
 use crate::Node;
-use crate::frame;
+use crate::decoded;
+use crate::decoded::Cells;
 use crate::names::Names;
 ghost use mathlib.Core.Path.{_≡_};
 ghost use mathlib.Core.Bool.{true, _&&_};
-ghost use mathlib.Core.List.{map};
-ghost use Prim.Native.Nat.{_<_};
+ghost use Prim.Native.Nat.{_-_, _<_};
 ghost use lib.Dec.{eqb};
 ghost use Rattle.table.specs.Pick.{pick};
-ghost use Rattle.table.specs.Bytes.{first};
-ghost use Rattle.table.specs.Naming.{tailChild};
-ghost use Rattle.table.specs.Working.{Framed, At, Named, Related, asFunction, asNode};
-
-// By node number; 0 for a number that is no node.
-pub struct Kin {
-    pub owner: [u16; 513],
-    pub parent: [u16; 513],
-    pub tail: [bool; 513],
-}
+ghost use Rattle.table.specs.Bytes.{functions, nodes, first};
+ghost use Rattle.table.specs.Naming.{rootOf, namer as namerOf, parent as parentOf, tailChild};
+ghost use Rattle.table.specs.Working.{Framed, IsNode, Filled, Raw, Named, Tails};
 
 // A root's function is its own, any other node's that of the node that names it.
 fn owner_of(namer: Node, root: Function, above: Function) -> Function
@@ -28,28 +21,28 @@ fn owner_of(namer: Node, root: Function, above: Function) -> Function
 }
 
 // The node that names n as its first child, else that one's parent.
-fn parent_of(table: &[u8], base: usize, namer: Node, n: Node, above: Node) -> Node
-    requires { ⌜ At (now table) base (n .0) × (namer .0 < n .0) ⌝ }
+fn parent_of(table: &[u8], cells: &Cells, namer: Node, n: Node, above: Node) -> Node
+    requires { ⌜ Raw (now table) (now cells) × IsNode (now table) (n .0) × (namer .0 < n .0) ⌝ }
     ensures { λ r. ⌜ r .0 ≡ pick (eqb (namer .0) 0) 0 (pick (eqb (first (now (table .entry)) (namer .0)) (n .0)) (namer .0) (above .0)) ⌝ }
 {
     if namer.0 == 0 {
         return Node(0);
     }
-    let first = frame::first_at(table, base, namer);
+    let first = decoded::first(cells, namer);
     if first.0 == n.0 { namer } else { above }
 }
 
 // A branch of an if or the body of a let, whose parent p is in tail position.
-fn tail_of(table: &[u8], base: usize, p: Node, n: Node, above: bool) -> bool
-    requires { ⌜ At (now table) base (n .0) × (p .0 < n .0) ⌝ }
+fn tail_of(table: &[u8], cells: &Cells, p: Node, n: Node, above: bool) -> bool
+    requires { ⌜ Raw (now table) (now cells) × IsNode (now table) (n .0) × (p .0 < n .0) ⌝ }
     ensures { λ r. ⌜ r ≡ pick (eqb (p .0) 0) true (tailChild (now (table .entry)) (p .0) (n .0) && above) ⌝ }
 {
     if p.0 == 0 {
         return true;
     }
-    let kind = frame::kind_at(table, base, p);
-    let first = frame::first_at(table, base, p);
-    let next = frame::next_at(table, base, n);
+    let kind = decoded::kind(cells, p);
+    let first = decoded::first(cells, p);
+    let next = decoded::next(cells, n);
     if kind == 5 {
         return if first.0 == n.0 { false } else { above };
     }
@@ -59,61 +52,41 @@ fn tail_of(table: &[u8], base: usize, p: Node, n: Node, above: bool) -> bool
     false
 }
 
-// Parents and namers are lower than their nodes, so one pass in ascending order fills all three.
-pub(crate) fn collect(table: &[u8], names: Names) -> Kin
-    requires { ⌜ Framed (now table) × Named (now table) names ⌝ }
-    ensures { λ r. ⌜ Related (now (table .entry)) r ⌝ }
+// Parents and namers are lower than their nodes, so one pass in ascending order fills all of them. What is returned is by node number.
+pub(crate) fn collect(table: &[u8], names: Names, cells: &mut Cells) -> [bool; 513]
+    requires { ⌜ Framed (now table) × Named (now table) names × Filled (now table) (functions (now table)) (nodes (now table)) 0
+        (now cells) ⌝ }
+    ensures { λ r. ⌜ Tails (now (table .entry)) r × Filled (now (table .entry)) (functions (now (table .entry)))
+        (nodes (now (table .entry))) (nodes (now (table .entry))) (now (cells .exit)) ⌝ }
 {
-    let base = frame::base(table);
-    let last = frame::last_node(table).0;
-    let mut owner = [0u16; 513];
-    let mut parent = [0u16; 513];
+    let last = decoded::last(cells).0;
     let mut tail = [true; 513];
     let mut n: u16 = 0;
     while n < last {
         n += 1;
         let at = n as usize;
-        let namer = names.namers[at];
-        let m = namer as usize;
-        let root = names.roots[at];
-        let mine = owner[m];
-        let own = owner_of(Node(namer), Function(root), Function(mine));
-        owner[at] = own.0;
-        let above = parent[m];
-        let up = parent_of(table, base, Node(namer), Node(n), Node(above));
-        parent[at] = up.0;
+        let namer = Node(names.namers[at]);
+        let root = Function(names.roots[at]);
+        let up = relate(table, cells, namer, root, Node(n));
         let p = up.0 as usize;
-        tail[at] = tail_of(table, base, up, Node(n), tail[p]);
+        tail[at] = tail_of(table, cells, up, Node(n), tail[p]);
     }
-    Kin {
-        owner,
-        parent,
-        tail,
-    }
+    tail
 }
 
-// The same numbers, said to be functions'.
-pub(crate) fn functions(raw: [u16; 513]) -> [Function; 513]
-    ensures { λ r. ⌜ r ≡ map asFunction raw ⌝ }
+// Puts node n's function and parent into its slot; what names it is lower, and has them.
+fn relate(table: &[u8], cells: &mut Cells, namer: Node, root: Function, n: Node) -> Node
+    requires { ⌜ Framed (now table) × IsNode (now table) (n .0) × (namer .0 ≡ namerOf (now table) (n .0)) × (root .0 ≡ rootOf (now table) (n .0))
+        × Filled (now table) (functions (now table)) (nodes (now table)) (n .0 - 1) (now cells) ⌝ }
+    ensures { λ r. ⌜ (r .0 ≡ parentOf (now (table .entry)) (n .0)) × Filled (now (table .entry)) (functions (now (table .entry)))
+        (nodes (now (table .entry))) (n .0) (now (cells .exit)) ⌝ }
 {
-    let mut r = [Function(0); 513];
-    let mut i: usize = 0;
-    while i < 513 {
-        r[i] = Function(raw[i]);
-        i += 1;
-    }
-    r
-}
-
-// The same numbers, said to be nodes'.
-pub(crate) fn nodes(raw: [u16; 513]) -> [Node; 513]
-    ensures { λ r. ⌜ r ≡ map asNode raw ⌝ }
-{
-    let mut r = [Node(0); 513];
-    let mut i: usize = 0;
-    while i < 513 {
-        r[i] = Node(raw[i]);
-        i += 1;
-    }
-    r
+    let mine = decoded::owner(cells, namer);
+    let own = owner_of(namer, root, mine);
+    let above = decoded::parent(cells, namer);
+    let up = parent_of(table, cells, namer, n, above);
+    let slot = decoded::node_slot(n);
+    decoded::put(cells, slot, 6, own.0);
+    decoded::put(cells, slot, 7, up.0);
+    up
 }

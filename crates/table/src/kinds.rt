@@ -5,12 +5,12 @@ ghost use Rattle.table.specs.Check.{fields, operationCounts, countsOf};
 
 // How many children a node may have.
 pub struct Counts {
-    pub low: u8,
-    pub high: u8,
+    pub low: u16,
+    pub high: u16,
 }
 
 // By the operation of a primitive; 0 and 0 where there is no such operation.
-pub(crate) fn operation_counts(op: u8) -> Counts
+pub(crate) fn operation_counts(op: u16) -> Counts
     ensures { λ r. ⌜ r ≡ operationCounts op ⌝ }
 {
     match op {
@@ -22,7 +22,7 @@ pub(crate) fn operation_counts(op: u8) -> Counts
 }
 
 // By a node's kind: a call has as many children as its callee has parameters.
-pub(crate) fn child_counts(kind: u8, op: u8, params: u8) -> Counts
+pub(crate) fn child_counts(kind: u16, op: u16, params: u16) -> Counts
     ensures { λ r. ⌜ r ≡ countsOf kind op params ⌝ }
 {
     match kind {
@@ -38,7 +38,7 @@ pub(crate) fn child_counts(kind: u8, op: u8, params: u8) -> Counts
 }
 
 // Whether kind and operation are known, and the fields that carry nothing are zero.
-pub(crate) fn formed(kind: u8, extra: u8, word: u32, first: Node) -> bool
+pub(crate) fn formed(kind: u16, extra: u16, word: u32, first: Node) -> bool
     ensures { λ r. ⌜ r ≡ fields kind extra word (first .0) ⌝ }
 {
     match kind {

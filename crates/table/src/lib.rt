@@ -1,4 +1,6 @@
 // A design table as bytes: number types, total readers, and the check (refusals 1 to 9).
+mod decode;
+pub mod decoded;
 mod faults;
 mod frame;
 mod kin;
@@ -6,10 +8,11 @@ mod kinds;
 mod names;
 pub mod read;
 
-ghost use Rattle.table.specs.Survey.{Surveyed, verdictOf, blankOf};
+ghost use Rattle.table.specs.Survey.{Surveyed, verdictOf};
 ghost use Rattle.table.specs.Check.{checkOf};
-ghost use Rattle.table.specs.Working.{Framed};
+ghost use Rattle.table.specs.Working.{Framed, Decides};
 ghost use mathlib.Core.Path.{_≡_};
+ghost use lib.ListN.{replicate};
 
 // A function's number, 1 to F; 0 is none.
 pub struct Function(pub u16);
@@ -23,70 +26,73 @@ pub enum Checked {
     Refused(u8, Node),
 }
 
-// A checked table with what its nodes are part of: each node's function and parent, by the node's number.
+// A checked table, decoded.
 pub struct Findings {
     pub checked: Checked,
-    pub owner: [Function; 513],
-    pub parent: [Node; 513],
+    pub cells: [u16; 4360],
 }
 
 // Refusals 1 to 9, by rising number over the whole table.
 pub fn check(table: &[u8]) -> Checked
     ensures { λ r. ⌜ verdictOf r ≡ checkOf (now (table .entry)) ⌝ }
 {
-    let s = survey(table);
-    s.checked
+    let mut cells = [0u16; 4360];
+    decide(table, &mut cells)
 }
 
-// The check, and of an accepted table each node's function and parent; of a refused one zeros.
+// The check, and an accepted table decoded, with each node's function and parent; of a refused one zeros.
 pub fn survey(table: &[u8]) -> Findings
     ensures { λ r. ⌜ Surveyed (now (table .entry)) r ⌝ }
 {
+    let mut cells = [0u16; 4360];
+    let checked = decide(table, &mut cells);
+    match checked {
+        Checked::Accepted(main, last) => Findings {
+            checked: Checked::Accepted(main, last),
+            cells,
+        },
+        Checked::Refused(number, place) => Findings {
+            checked: Checked::Refused(number, place),
+            cells: [0u16; 4360],
+        },
+    }
+}
+
+// Fills cells that are zero, all of them where the table is accepted.
+fn decide(table: &[u8], cells: &mut [u16; 4360]) -> Checked
+    requires { ⌜ now cells ≡ replicate 4360 0 ⌝ }
+    ensures { λ r. ⌜ Decides (now (table .entry)) r (now (cells .exit)) ⌝ }
+{
     let number = frame::number(table);
     if number != 0 {
-        return blank(number, Node(0));
+        return Checked::Refused(number, Node(0));
     }
-    inspect(table)
+    inspect(table, cells)
 }
 
 // A table of the right size: refusals 4 to 9.
-fn inspect(table: &[u8]) -> Findings
-    requires { ⌜ Framed (now table) ⌝ }
-    ensures { λ r. ⌜ Surveyed (now (table .entry)) r ⌝ }
+fn inspect(table: &[u8], cells: &mut [u16; 4360]) -> Checked
+    requires { ⌜ Framed (now table) × (now cells ≡ replicate 4360 0) ⌝ }
+    ensures { λ r. ⌜ Decides (now (table .entry)) r (now (cells .exit)) ⌝ }
 {
-    if !frame::roots_fit(table) {
-        return blank(4, Node(0));
+    decode::sizes(table, cells);
+    let tops = names::roots(table, cells);
+    if !frame::roots_fit(table, cells) {
+        return Checked::Refused(4, Node(0));
     }
-    let names = names::collect(table);
-    let place = names::lowest_unlinked(table, names);
+    let names = names::links(table, tops, cells);
+    let place = names::lowest_unlinked(table, cells, names);
     if place.0 != 0 {
-        return blank(4, place);
+        return Checked::Refused(4, place);
     }
-    if !frame::records_fit(table) {
-        return blank(5, Node(0));
+    if !frame::records_fit(table, cells) {
+        return Checked::Refused(5, Node(0));
     }
-    let kin = kin::collect(table, names);
-    let fault = faults::lowest(table, kin);
+    let tails = kin::collect(table, names, cells);
+    let fault = faults::lowest(table, cells, tails);
     if fault.number != 10 {
         let at = fault.place;
-        return blank(fault.number, at);
+        return Checked::Refused(fault.number, at);
     }
-    let owner = kin.owner;
-    let parent = kin.parent;
-    Findings {
-        checked: Checked::Accepted(read::functions(table), read::nodes(table)),
-        owner: kin::functions(owner),
-        parent: kin::nodes(parent),
-    }
-}
-
-// A refusal, with nothing told of the nodes.
-fn blank(number: u8, place: Node) -> Findings
-    ensures { λ r. ⌜ r ≡ blankOf number (place .0) ⌝ }
-{
-    Findings {
-        checked: Checked::Refused(number, place),
-        owner: [Function(0); 513],
-        parent: [Node(0); 513],
-    }
+    Checked::Accepted(decoded::main(cells), decoded::last(cells))
 }

@@ -1,15 +1,18 @@
 // Who names each node: roots, firsts and nexts (refusal 4).
 use crate::Function;
 use crate::Node;
+use crate::decode;
+use crate::decoded;
+use crate::decoded::Cells;
 use crate::frame;
 ghost use mathlib.Core.Path.{_≡_};
 ghost use mathlib.Core.Bool.{_&&_, _||_};
 ghost use Prim.Native.Nat.{_<_};
 ghost use lib.Dec.{leb, ltb, eqb};
-ghost use Rattle.table.specs.Bytes.{nodes};
+ghost use Rattle.table.specs.Bytes.{functions, nodes};
 ghost use Rattle.table.specs.Find.{lowest};
 ghost use Rattle.table.specs.Check.{linked};
-ghost use Rattle.table.specs.Working.{Framed, Rooted, Named, slotOf, aheadOf, linkedBy};
+ghost use Rattle.table.specs.Working.{Framed, Filled, Raw, Rooted, Named, slotOf, aheadOf, linkedBy};
 
 // By node number: how often the node is named, the function whose root it is, the node that names it.
 pub struct Names {
@@ -32,18 +35,11 @@ fn ahead(n: Node, v: Node) -> usize
     if n.0 < v.0 { slot(v) } else { 0 }
 }
 
-pub(crate) fn collect(table: &[u8]) -> Names
-    requires { ⌜ Framed (now table) ⌝ }
-    ensures { λ r. ⌜ Named (now (table .entry)) r ⌝ }
-{
-    let tops = roots(table);
-    links(table, tops)
-}
-
-// What the roots name.
-fn roots(table: &[u8]) -> Names
-    requires { ⌜ Framed (now table) ⌝ }
-    ensures { λ r. ⌜ Rooted (now (table .entry)) r ⌝ }
+// What the roots name; the functions' records are decoded on the way.
+pub(crate) fn roots(table: &[u8], cells: &mut Cells) -> Names
+    requires { ⌜ Framed (now table) × Filled (now table) 0 0 0 (now cells) ⌝ }
+    ensures { λ r. ⌜ Rooted (now (table .entry)) r × Filled (now (table .entry)) (functions (now (table .entry))) 0 0
+        (now (cells .exit)) ⌝ }
 {
     let main = frame::last_function(table).0;
     let mut mentions = [0u16; 513];
@@ -51,7 +47,8 @@ fn roots(table: &[u8]) -> Names
     let mut f: u16 = 0;
     while f < main {
         f += 1;
-        let root = frame::root_at(table, Function(f));
+        decode::function(table, Function(f), cells);
+        let root = decoded::root(cells, Function(f));
         let at = slot(root);
         mentions[at] = mentions[at] + 1;
         roots[at] = f;
@@ -63,10 +60,11 @@ fn roots(table: &[u8]) -> Names
     }
 }
 
-// And what the firsts and nexts name.
-fn links(table: &[u8], tops: Names) -> Names
-    requires { ⌜ Framed (now table) × Rooted (now table) tops ⌝ }
-    ensures { λ r. ⌜ Named (now (table .entry)) r ⌝ }
+// And what the firsts and nexts name; the nodes' records are decoded on the way.
+pub(crate) fn links(table: &[u8], tops: Names, cells: &mut Cells) -> Names
+    requires { ⌜ Framed (now table) × Rooted (now table) tops × Filled (now table) (functions (now table)) 0 0 (now cells) ⌝ }
+    ensures { λ r. ⌜ Named (now (table .entry)) r × Filled (now (table .entry)) (functions (now (table .entry)))
+        (nodes (now (table .entry))) 0 (now (cells .exit)) ⌝ }
 {
     let base = frame::base(table);
     let last = frame::last_node(table).0;
@@ -75,8 +73,9 @@ fn links(table: &[u8], tops: Names) -> Names
     let mut n: u16 = 0;
     while n < last {
         n += 1;
-        let first = frame::first_at(table, base, Node(n));
-        let next = frame::next_at(table, base, Node(n));
+        decode::node(table, base, Node(n), cells);
+        let first = decoded::first(cells, Node(n));
+        let next = decoded::next(cells, Node(n));
         let a = slot(first);
         mentions[a] = mentions[a] + 1;
         let b = slot(next);
@@ -125,18 +124,17 @@ fn linked_at(n: Node, first: Node, next: Node, mentions: u16, root: Function, la
 }
 
 // The lowest node that meets refusal 4, 0 where none does.
-pub(crate) fn lowest_unlinked(table: &[u8], names: Names) -> Node
-    requires { ⌜ Framed (now table) × Named (now table) names ⌝ }
+pub(crate) fn lowest_unlinked(table: &[u8], cells: &Cells, names: Names) -> Node
+    requires { ⌜ Framed (now table) × Raw (now table) (now cells) × Named (now table) names ⌝ }
     ensures { λ r. ⌜ r .0 ≡ lowest (linked (now (table .entry))) (nodes (now (table .entry))) ⌝ }
 {
-    let base = frame::base(table);
-    let last = frame::last_node(table);
+    let last = decoded::last(cells);
     let end = last.0;
     let mut n: u16 = 0;
     while n < end {
         n += 1;
-        let first = frame::first_at(table, base, Node(n));
-        let next = frame::next_at(table, base, Node(n));
+        let first = decoded::first(cells, Node(n));
+        let next = decoded::next(cells, Node(n));
         let mentions = names.mentions[n as usize];
         let root = names.roots[n as usize];
         if !linked_at(Node(n), first, next, mentions, Function(root), last) {

@@ -1,190 +1,174 @@
-use Rattle.table.proofs.SurveyLaws.{blank-surveyed, told-surveyed, roots-refused, unlinked-refused}
-use Rattle.table.proofs.SurveyLaws.{records-refused, nodes-checked, links-pass, fault-refused, fault-none}
-use lib.ListN.{length}
+-- `inspect` meets its contract: what each part of the check says, put together in the order of the refusals.
+use native.Mathlib.Omega.{arith}
 use borrow.Author.Tests.{not-true, not-false}
+use mathlib.Core.Bool.{true}
 use mathlib.Core.Path.{_≡_, sym, _∙_}
-use Rattle.table.specs.Survey.{Surveyed}
-use mathlib.Core.Path.{subst}
+use Rattle.table.specs.Bytes.{functions, nodes}
+use Rattle.table.specs.Find.{all, lowest}
+use Rattle.table.specs.Check.{rootFits, linked, checkOf}
+use Rattle.table.specs.Working.{checkNodes}
+use Rattle.table.proofs.CellLaws.{filled-none, raw, all-read, sizes-filled}
+use Rattle.table.proofs.SurveyLaws.{roots-refused, unlinked-refused, records-refused, nodes-checked, links-pass, fault-refused, fault-none, refuses, accepts}
 use borrow.Author.Needs.{needs}
 use Rattle.table.proofs.inspect.Statement.{statement}
 use Rattle.table.proofs.inspect.Tie as tie
 
+-- the places of the code, and what is known there
+abbrev start : tie.Else1 → tie.Start
+start c = search
+
+rooted : (c : tie.Else1) → all (rootFits (start c .args .table .now)) (functions (start c .args .table .now)) ≡ true
+rooted c =
+    let told : tie.After-roots-fit = search in
+    sym (told .roots-fit .ensures) ∙ not-false _ (c .if1 .left)
+
+abbrev on : tie.After-links → tie.Else1
+on c = search
+
+abbrev linking : tie.After-lowest-unlinked → tie.After-links
+linking c = search
+
+abbrev links-on : tie.Else2 → tie.After-links
+links-on c = search
+
+linked-all : (c : tie.Else2) → let s = start (on (links-on c)) in lowest (linked (s .args .table .now)) (nodes (s .args .table .now)) ≡ 0
+linked-all c =
+    let told : tie.After-lowest-unlinked = search in
+    sym (told .lowest-unlinked .ensures) ∙ c .if2 .left
+
+abbrev unlinked : tie.After-records-fit → tie.Else2
+unlinked c = search
+
+abbrev fits : tie.Else3 → tie.After-records-fit
+fits c = search
+
+abbrev records : tie.After-collect → tie.Else3
+records c = search
+
+abbrev kin : tie.After-lowest → tie.After-collect
+kin c = search
+
+abbrev fault : tie.Else4 → tie.After-lowest
+fault c = search
+
+-- past the records, the check is that of the nodes
+rest : (c : tie.Else3) → let s = start (on (links-on (unlinked (fits c)))) in checkOf (s .args .table .now) ≡ checkNodes (s .args .table .now)
+rest c =
+    let told = fits c in
+    let e = unlinked told in
+    let s = start (on (links-on e)) in
+    nodes-checked _ (s .pre .0) (rooted (on (links-on e))) (linked-all e) (sym (told .records-fit .ensures) ∙ not-false _ (c .if3 .left))
+
+sizes-requires : tie.Need-sizes-requires
+sizes-requires c κs =
+    let s : tie.Start = search in
+    s .pre .0
+
+roots-requires : tie.Need-roots-requires
+roots-requires c κs =
+    let s : tie.Start = search in
+    let one : tie.After-sizes = search in
+    (s .pre .0, filled-none _ _ (s .pre .1) _ (one .sizes .ensures))
+
 roots-fit-requires : tie.Need-roots-fit-requires
 roots-fit-requires c κs =
-    let start : tie.Start = search in
-    start .pre
-
-blank-requires : tie.Need-blank-requires
-blank-requires c κs = search needs
+    let s : tie.Start = search in
+    let tops : tie.After-roots = search in
+    (s .pre .0, tops .roots .ensures .1)
 
 returns : tie.Need-returns
 returns c =
-    let then1 : tie.Then1 = search in
-    let after-roots-fit : tie.After-roots-fit = search in
-    let start : tie.Start = search in
-    let t = start .args .table .now in
-    let fr = start .pre in
-    subst (Surveyed t) (sym (c .blank .ensures)) (blank-surveyed t 4 0 (roots-refused t fr (sym (after-roots-fit .roots-fit .ensures) ∙
-    not-true _ (then1 .if1 .taken))))
+    let told : tie.After-roots-fit = search in
+    let s : tie.Start = search in
+    refuses _ _ 4 _ (roots-refused _ (s .pre .0) (sym (told .roots-fit .ensures) ∙ not-true _ (c .if1 .taken)))
 
-collect-requires : tie.Need-collect-requires
-collect-requires c κs =
-    let start : tie.Start = search in
-    start .pre
+links-requires : tie.Need-links-requires
+links-requires c κs =
+    let tops : tie.After-roots = search in
+    let s : tie.Start = search in
+    (s .pre .0, tops .roots .ensures .0, tops .roots .ensures .1)
 
 lowest-unlinked-requires : tie.Need-lowest-unlinked-requires
 lowest-unlinked-requires c κs =
-    let start : tie.Start = search in
-    (start .pre, c .collect .ensures)
-
-blank-requires-2 : tie.Need-blank-requires-2
-blank-requires-2 c κs = search needs
+    let l : tie.After-links = search in
+    let s = start (on l) in
+    (s .pre .0, raw _ _ (s .pre .0) _ (l .links .ensures .1), l .links .ensures .0)
 
 returns-2 : tie.Need-returns-2
 returns-2 c =
-    let then2 : tie.Then2 = search in
-    let after-lowest-unlinked : tie.After-lowest-unlinked = search in
-    let else1 : tie.Else1 = search in
-    let after-roots-fit : tie.After-roots-fit = search in
-    let start : tie.Start = search in
-    let t = start .args .table .now in
-    let fr = start .pre in
-    subst (Surveyed t) (sym (c .blank2 .ensures)) (blank-surveyed t 4 _ (unlinked-refused t fr _ (sym
-    (after-roots-fit .roots-fit .ensures) ∙ not-false _ (else1 .if1 .left)) (after-lowest-unlinked .lowest-unlinked .ensures)
-    (then2 .if2 .taken)))
+    let told : tie.After-lowest-unlinked = search in
+    let e = on (linking told) in
+    refuses _ _ 4 _ (unlinked-refused _ (start e .pre .0) _ (rooted e) (told .lowest-unlinked .ensures) (c .if2 .taken))
 
 records-fit-requires : tie.Need-records-fit-requires
 records-fit-requires c κs =
-    let start : tie.Start = search in
-    start .pre
-
-blank-requires-3 : tie.Need-blank-requires-3
-blank-requires-3 c κs = search needs
+    let l = links-on (search) in
+    let s = start (on l) in
+    (s .pre .0, raw _ _ (s .pre .0) _ (l .links .ensures .1))
 
 returns-3 : tie.Need-returns-3
 returns-3 c =
-    let then3 : tie.Then3 = search in
-    let after-records-fit : tie.After-records-fit = search in
-    let else2 : tie.Else2 = search in
-    let after-lowest-unlinked : tie.After-lowest-unlinked = search in
-    let else1 : tie.Else1 = search in
-    let after-roots-fit : tie.After-roots-fit = search in
-    let start : tie.Start = search in
-    let t = start .args .table .now in
-    let fr = start .pre in
-    subst (Surveyed t) (sym (c .blank3 .ensures)) (blank-surveyed t 5 0 (records-refused t fr (sym (after-roots-fit .roots-fit .ensures) ∙
-    not-false _ (else1 .if1 .left)) (sym (after-lowest-unlinked .lowest-unlinked .ensures) ∙ else2 .if2 .left) (sym
-    (after-records-fit .records-fit .ensures) ∙ not-true _ (then3 .if3 .taken))))
+    let told : tie.After-records-fit = search in
+    let e = unlinked told in
+    let s = start (on (links-on e)) in
+    refuses _ _ 5 _ (records-refused _ (s .pre .0) (rooted (on (links-on e))) (linked-all e)
+    (sym (told .records-fit .ensures) ∙ not-true _ (c .if3 .taken)))
 
-collect-requires-2 : tie.Need-collect-requires-2
-collect-requires-2 c κs =
-    let after-collect : tie.After-collect = search in
-    let start : tie.Start = search in
-    (start .pre, after-collect .collect .ensures)
+collect-requires : tie.Need-collect-requires
+collect-requires c κs =
+    let l = links-on (unlinked (fits (search))) in
+    (start (on l) .pre .0, l .links .ensures .0, l .links .ensures .1)
 
 lowest-requires : tie.Need-lowest-requires
 lowest-requires c κs =
-    let else2 : tie.Else2 = search in
-    let after-lowest-unlinked : tie.After-lowest-unlinked = search in
-    let else1 : tie.Else1 = search in
-    let after-roots-fit : tie.After-roots-fit = search in
-    let start : tie.Start = search in
-    let t = start .args .table .now in
-    let fr = start .pre in (
-      fr,
-      links-pass t fr (sym (after-roots-fit .roots-fit .ensures) ∙ not-false _ (else1 .if1 .left)) (sym
-          (after-lowest-unlinked .lowest-unlinked .ensures) ∙ else2 .if2 .left),
-      c .collect2 .ensures,
+    let k : tie.After-collect = search in
+    let e = unlinked (fits (records k)) in
+    let s = start (on (links-on e)) in (
+      s .pre .0,
+      links-pass _ (s .pre .0) (rooted (on (links-on e))) (linked-all e),
+      all-read _ _ (s .pre .0) (k .collect .ensures .1),
+      k .collect .ensures .0,
     )
-
-blank-requires-4 : tie.Need-blank-requires-4
-blank-requires-4 c κs = search needs
 
 returns-4 : tie.Need-returns-4
 returns-4 c =
-    let then4 : tie.Then4 = search in
-    let after-lowest : tie.After-lowest = search in
-    let else3 : tie.Else3 = search in
-    let after-records-fit : tie.After-records-fit = search in
-    let else2 : tie.Else2 = search in
-    let after-lowest-unlinked : tie.After-lowest-unlinked = search in
-    let else1 : tie.Else1 = search in
-    let after-roots-fit : tie.After-roots-fit = search in
-    let start : tie.Start = search in
-    let t = start .args .table .now in
-    let fr = start .pre in
-    subst (Surveyed t) (sym (c .blank4 .ensures)) (blank-surveyed t _ _ (nodes-checked t fr (sym (after-roots-fit .roots-fit .ensures) ∙
-    not-false _ (else1 .if1 .left)) (sym (after-lowest-unlinked .lowest-unlinked .ensures) ∙ else2 .if2 .left) (sym
-    (after-records-fit .records-fit .ensures) ∙ not-false _ (else3 .if3 .left)) ∙ fault-refused t _ (after-lowest .lowest .ensures)
-    (then4 .if4 .taken)))
+    let told : tie.After-lowest = search in
+    let some : tie.Then4 = search in
+    refuses _ _ _ _ (rest (records (kin told)) ∙ fault-refused _ _ (told .lowest .ensures) (some .if4 .taken))
 
-functions-requires : tie.Need-functions-requires
-functions-requires c κs = search needs
+main-requires : tie.Need-main-requires
+main-requires c κs = search needs
 
-nodes-requires : tie.Need-nodes-requires
-nodes-requires c κs = search needs
-
-functions-requires-2 : tie.Need-functions-requires-2
-functions-requires-2 c κs = search needs
-
-nodes-requires-2 : tie.Need-nodes-requires-2
-nodes-requires-2 c κs = search needs
-
--- the rows that were collected have a place for each node, and one more
-owners : (c : tie.After-collect2) → length (c .collect2 .result .owner) ≡ 513
-owners c =
-    let sized = c .collect2 .ok in
-    search needs
-
-parents : (c : tie.After-collect2) → length (c .collect2 .result .parent) ≡ 513
-parents c =
-    let sized = c .collect2 .ok in
-    search needs
+last-requires : tie.Need-last-requires
+last-requires c κs = search needs
 
 returns-5 : tie.Need-returns-5
 returns-5 c =
-    let after-functions2 : tie.After-functions2 = search in
-    let after-nodes : tie.After-nodes = search in
-    let after-functions : tie.After-functions = search in
-    let else4 : tie.Else4 = search in
-    let after-lowest : tie.After-lowest = search in
-    let after-collect2 : tie.After-collect2 = search in
-    let else3 : tie.Else3 = search in
-    let after-records-fit : tie.After-records-fit = search in
-    let else2 : tie.Else2 = search in
-    let after-lowest-unlinked : tie.After-lowest-unlinked = search in
-    let else1 : tie.Else1 = search in
-    let after-roots-fit : tie.After-roots-fit = search in
-    let start : tie.Start = search in
-    let t = start .args .table .now in
-    let fr = start .pre in
-    let k = after-collect2 .collect2 .result in
-    told-surveyed t k _ _ _ _ (owners after-collect2) (parents after-collect2) (after-collect2 .collect2 .ensures)
-    (nodes-checked t fr (sym (after-roots-fit .roots-fit .ensures) ∙ not-false _ (else1 .if1 .left)) (sym
-    (after-lowest-unlinked .lowest-unlinked .ensures) ∙ else2 .if2 .left) (sym (after-records-fit .records-fit .ensures) ∙ not-false _
-    (else3 .if3 .left)) ∙ fault-none t _ (after-lowest .lowest .ensures) (else4 .if4 .left)) (after-functions .functions .ensures)
-    (after-nodes .nodes .ensures) (after-functions2 .functions2 .ensures) (c .nodes2 .ensures)
+    let main : tie.After-main = search in
+    let none : tie.Else4 = search in
+    let told = fault none in
+    let k = kin told in
+    let s = start (on (links-on (unlinked (fits (records k))))) in
+    let size = sizes-filled _ _ (s .pre .0) _ _ _ (k .collect .ensures .1) in
+    accepts _ _ _ _ (rest (records k) ∙ fault-none _ _ (told .lowest .ensures) (none .if4 .left)) (main .main .ensures ∙ size 0 (omega arith))
+    (c .last .ensures ∙ size 1 (omega arith)) (k .collect .ensures .1)
 
 pub inspect-spec : {M : Type 1} → statement M
 inspect-spec =
     tie.close
     (tie.spec
+    sizes-requires
+    roots-requires
     roots-fit-requires
-    blank-requires
     returns
-    collect-requires
+    links-requires
     lowest-unlinked-requires
-    blank-requires-2
     returns-2
     records-fit-requires
-    blank-requires-3
     returns-3
-    collect-requires-2
+    collect-requires
     lowest-requires
-    blank-requires-4
     returns-4
-    functions-requires
-    nodes-requires
-    functions-requires-2
-    nodes-requires-2
+    main-requires
+    last-requires
     returns-5)

@@ -6,8 +6,11 @@ use mathlib.Core.Bool.{Bool, true, not, _||_, _&&_}
 use mathlib.Core.List.{List}
 use Prim.Native.Nat.{ℕ}
 use lib.Dec.{eqb}
+use native.Mathlib.Omega.{arith}
+use Rattle.table.specs.Bytes.{first}
 use Rattle.table.specs.Check.{among, fields, formed, calleeFits, counted, scoped, tailed}
 use Rattle.table.specs.Working.{faultAt, NodeAt}
+use Rattle.table.proofs.CellLaws.{word-read}
 use Rattle.table.proofs.CountLaws.{told-formed, told-callee, told-tailed, callee-in}
 use Rattle.table.proofs.faults.fault_at.Statement.{statement}
 use Rattle.table.proofs.faults.fault_at.Tie as tie
@@ -17,47 +20,51 @@ abbrev Says : (List ℕ → ℕ → Bool) → tie.Start → Bool → Type 0
 Says test s b = test (s .args .table .now) (s .args .n .0) ≡ b
 
 -- what was read of the node, and what the tests on it say
-module _ (c : tie.After-first-at) where
+module _ (c : tie.After-first) where
   abbrev start : tie.Start
   start = search
 
-  abbrev kind : tie.After-kind-at
+  abbrev kind : tie.After-kind
   kind = search
 
-  abbrev extra : tie.After-extra-at
+  abbrev extra : tie.After-extra
   extra = search
 
-  abbrev word : tie.After-word-at
+  abbrev word : tie.After-word
   word = search
 
   abbrev k : ℕ
-  k = kind .kind-at .result
+  k = kind .kind .result
 
   abbrev w : ℕ
-  w = word .word-at .result
+  w = word .word .result
 
   abbrev own : ℕ
   own = start .args .own .0
 
-  node-at : NodeAt (start .args .table .now) (start .args .base) (start .args .n .0) k (extra .extra-at .result) w
-  node-at = record {
-    place = start .pre .0 .0;
-    links = start .pre .0 .1;
-    kinded = kind .kind-at .ensures;
-    extras = extra .extra-at .ensures;
-    worded = word .word-at .ensures;
-  }
+  node-at : NodeAt (start .args .table .now) (start .args .cells .now) (start .args .n .0) k (extra .extra .result) w
+  node-at =
+      let p = start .pre .0 in
+      record {
+        place = p;
+        kinded = kind .kind .ensures ∙ p .read .node _ 0 (p .node) (omega arith);
+        extras = extra .extra .ensures ∙ p .read .node _ 1 (p .node) (omega arith);
+        worded = word .word .ensures ∙ word-read _ _ 8 (omega arith) (p .read) _ (p .node);
+      }
 
-  formed-by : (b : Bool) → b ≡ fields k (extra .extra-at .result) w (c .first-at .result .0) → Says formed start b
-  formed-by b e = sym (e ∙ told-formed _ _ _ _ _ _ _ (node-at .kinded) (node-at .extras) (node-at .worded) (c .first-at .ensures)
+  firsts : c .first .result .0 ≡ first (start .args .table .now) (start .args .n .0)
+  firsts = c .first .ensures ∙ start .pre .0 .read .node _ 4 (start .pre .0 .node) (omega arith)
+
+  formed-by : (b : Bool) → b ≡ fields k (extra .extra .result) w (c .first .result .0) → Says formed start b
+  formed-by b e = sym (e ∙ told-formed _ _ _ _ _ _ _ (node-at .kinded) (node-at .extras) (node-at .worded) firsts
       (start .pre .1 .0))
 
   callee-by : (b : Bool) → b ≡ (not (eqb k 4) || among 1 own w) → Says calleeFits start b
-  callee-by b e = sym (e ∙ told-callee _ _ _ _ _ _ _ (node-at .kinded) (node-at .extras) (node-at .worded) (c .first-at .ensures)
+  callee-by b e = sym (e ∙ told-callee _ _ _ _ _ _ _ (node-at .kinded) (node-at .extras) (node-at .worded) firsts
       (start .pre .1 .0))
 
   tailed-by : (b : Bool) → b ≡ (not (eqb k 4 && eqb w own) || start .args .tail) → Says tailed start b
-  tailed-by b e = sym (e ∙ told-tailed _ _ _ _ _ _ _ (node-at .kinded) (node-at .extras) (node-at .worded) (c .first-at .ensures)
+  tailed-by b e = sym (e ∙ told-tailed _ _ _ _ _ _ _ (node-at .kinded) (node-at .extras) (node-at .worded) firsts
       (start .pre .1 .0) _ (start .pre .1 .1))
 
 -- the tests that were passed
@@ -93,25 +100,17 @@ scope-passed c =
     let told : tie.After-scope-fits = search in
     sym (told .scope-fits .ensures) ∙ not-false _ (c .if4 .left)
 
-kind-at-requires : tie.Need-kind-at-requires
-kind-at-requires c κs =
-    let s : tie.Start = search in
-    s .pre .0 .0
+kind-requires : tie.Need-kind-requires
+kind-requires c κs = search needs
 
-extra-at-requires : tie.Need-extra-at-requires
-extra-at-requires c κs =
-    let s : tie.Start = search in
-    s .pre .0 .0
+extra-requires : tie.Need-extra-requires
+extra-requires c κs = search needs
 
-word-at-requires : tie.Need-word-at-requires
-word-at-requires c κs =
-    let s : tie.Start = search in
-    s .pre .0 .0
+word-requires : tie.Need-word-requires
+word-requires c κs = search needs
 
-first-at-requires : tie.Need-first-at-requires
-first-at-requires c κs =
-    let s : tie.Start = search in
-    s .pre .0 .0
+first-requires : tie.Need-first-requires
+first-requires c κs = search needs
 
 formed-requires : tie.Need-formed-requires
 formed-requires c κs = search needs
@@ -133,12 +132,12 @@ returns-2 c =
 
 count-fits-requires : tie.Need-count-fits-requires
 count-fits-requires c κs =
-    let r : tie.After-first-at = search in
+    let r : tie.After-first = search in
     let p = start r .pre in
     let at = node-at r in (
       at,
-      callee-in _ _ _ _ _ _ _ (at .kinded) (at .extras) (at .worded) (r .first-at .ensures) (p .1 .0) (p .0 .1)
-          (p .0 .0 .low, p .0 .0 .high) (callee-passed c),
+      callee-in _ _ _ _ _ _ _ (at .kinded) (at .extras) (at .worded) (firsts r) (p .1 .0) (p .0 .links)
+          (p .0 .node) (callee-passed c),
     )
 
 returns-3 : tie.Need-returns-3
@@ -149,8 +148,8 @@ returns-3 c =
 
 scope-fits-requires : tie.Need-scope-fits-requires
 scope-fits-requires c κs =
-    let r : tie.After-first-at = search in
-    (node-at r, start r .pre .0 .2, start r .pre .1 .0)
+    let r : tie.After-first = search in
+    (node-at r, start r .pre .1 .0)
 
 returns-4 : tie.Need-returns-4
 unfolding faultAt
@@ -194,10 +193,10 @@ pub fault-at-spec : {M : Type 1} → statement M
 fault-at-spec =
     tie.close
     (tie.spec
-    kind-at-requires
-    extra-at-requires
-    word-at-requires
-    first-at-requires
+    kind-requires
+    extra-requires
+    word-requires
+    first-requires
     formed-requires
     returns
     callee-fits-requires

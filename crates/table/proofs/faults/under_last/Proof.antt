@@ -1,89 +1,90 @@
-use lib.Dec.{eqb}
-use native.Mathlib.Omega.{arith}
+-- `faults::under_last` meets its contract. The invariant: the answer at `a` is that at n. The measure is `a`, since a parent is lower.
 use borrow.Author.Needs.{needs}
+use native.Mathlib.Omega.{arith}
 use mathlib.Core.Path.{_≡_, refl, sym, ap, _∙_}
+use Prim.Native.Nat.{suc, _≤_}
+use lib.Dec.{eqb}
 use Rattle.table.specs.Bytes.{nodes}
-use Prim.Native.Nat.{_≤_}
-use Rattle.table.proofs.ChainLoop.{under-none, under-child}
-use Rattle.table.proofs.ChainLoop.{under-up}
-use Rattle.table.specs.Naming.{underLast}
+use Rattle.table.specs.Naming.{parent, underLast}
+use Rattle.table.specs.Working.{IsNode}
+use Rattle.table.proofs.ChainLoop.{under-none, under-child, under-up}
 use Rattle.table.proofs.Family.{parent-lower}
 use Rattle.table.proofs.faults.under_last.Statement.{statement}
 use Rattle.table.proofs.faults.under_last.Tie as tie
 
 abbrev Inv-loop : tie.InvT-loop
-Inv-loop table base parents end a₀ a = (a ≤ nodes table) × (underLast table end a₀ ≡ underLast table end a)
+Inv-loop table cells end a₀ a = (a ≤ nodes table) × (underLast table end a₀ ≡ underLast table end a)
 
 abbrev μ-loop : tie.MeasureT-loop
-μ-loop table base parents end a₀ a = a
+μ-loop table cells end a₀ a = a
+
+abbrev Start : Type 0
+Start = tie.Start Inv-loop μ-loop
+
+abbrev Head : Type 0
+Head = tie.At-loop Inv-loop μ-loop
+
+abbrev Turn : Type 0
+Turn = tie.In-loop Inv-loop μ-loop
+
+abbrev Up : Type 0
+Up = tie.After-parent Inv-loop μ-loop
+
+abbrev turn : Up → Turn
+turn c = search
+
+abbrev head : Turn → Head
+head c = search
+
+abbrev start : Turn → Start
+start c = search
+
+-- a is a node, and what was read is its parent, which is lower
+node : (c : Turn) → IsNode (start c .args .table .now) (head c .loop .a)
+node c = (omega arith, head c .loop .inv .0)
+
+read : (c : Up) → c .parent .result .0 ≡ parent (start (turn c) .args .table .now) (head (turn c) .loop .a)
+read c = c .parent .ensures ∙ start (turn c) .pre .0 .read .node _ 7 (node (turn c)) (omega arith)
+
+lower : (c : Up) → suc (c .parent .result .0) ≤ head (turn c) .loop .a
+lower c = omega (arith, read c, parent-lower (start (turn c) .args .table .now) (head (turn c) .loop .a) (node (turn c) .0))
 
 loop-holds : tie.Need-loop-holds Inv-loop μ-loop
 loop-holds c =
-    let start : tie.Start Inv-loop μ-loop = search in
-    (start .pre .0 .high, refl)
+    let s : Start = search in
+    (s .pre .0 .node .1, refl)
 
-mul-up : tie.Need-mul-up Inv-loop μ-loop
-mul-up c = search needs
+parent-requires : tie.Need-parent-requires Inv-loop μ-loop
+parent-requires c κs = search needs
 
-element-copy-out-up : tie.Need-element-copy-out-up Inv-loop μ-loop
-element-copy-out-up c =
-    let start : tie.Start Inv-loop μ-loop = search in
-    omega (arith, start .pre .0 .framed .N-high)
-
-cast-up : tie.Need-cast-up Inv-loop μ-loop
-cast-up c =
-    let at-loop : tie.At-loop Inv-loop μ-loop = search in
-    let start : tie.Start Inv-loop μ-loop = search in
-    let t = start .args .table .now in
-    let a = at-loop .loop .a in
-    let q = start .pre .1 a (omega arith) in
-    omega (arith, q, parent-lower t a (omega arith), start .pre .0 .framed .N-high)
-
-next-at-requires : tie.Need-next-at-requires Inv-loop μ-loop
-next-at-requires c κs =
-    let at-loop : tie.At-loop Inv-loop μ-loop = search in
-    let start : tie.Start Inv-loop μ-loop = search in
-    let p = start .pre .0 in
-    record { framed = p .framed; start = p .start; low = omega arith; high = at-loop .loop .inv .0 }
+next-requires : tie.Need-next-requires Inv-loop μ-loop
+next-requires c κs = search needs
 
 returns : tie.Need-returns Inv-loop μ-loop
 returns c =
-    let after-next-at : tie.After-next-at Inv-loop μ-loop = search in
-    let then1 : tie.Then1 Inv-loop μ-loop = search in
-    let at-loop : tie.At-loop Inv-loop μ-loop = search in
-    let start : tie.Start Inv-loop μ-loop = search in
-    let t = start .args .table .now in
-    let a = at-loop .loop .a in
-    let q = start .pre .1 a (omega arith) in
-    ap (λ x. eqb x 0) (after-next-at .next-at .ensures) ∙ sym (at-loop .loop .inv .1 ∙ under-child t _ (start .pre .2) a (omega arith)
-    (sym q ∙ then1 .if1 .taken))
+    let n : tie.After-next Inv-loop μ-loop = search in
+    let up : Up = search in
+    let here : tie.Then1 Inv-loop μ-loop = search in
+    let t = turn up in
+    ap (λ x. eqb x 0) (n .next .ensures ∙ start t .pre .0 .read .node _ 5 (node t) (omega arith))
+    ∙ sym (head t .loop .inv .1 ∙ under-child _ _ (start t .pre .1) _ (node t .0) (sym (read up) ∙ here .if1 .taken))
 
 loop-less : tie.Need-loop-less Inv-loop μ-loop
-loop-less c =
-    let at-loop : tie.At-loop Inv-loop μ-loop = search in
-    let start : tie.Start Inv-loop μ-loop = search in
-    let t = start .args .table .now in
-    let a = at-loop .loop .a in
-    let q = start .pre .1 a (omega arith) in
-    omega (arith, q, parent-lower t a (omega arith))
+loop-less c = omega (arith, lower (search))
 
 loop-again : tie.Need-loop-again Inv-loop μ-loop
 loop-again c =
-    let at-loop : tie.At-loop Inv-loop μ-loop = search in
-    let start : tie.Start Inv-loop μ-loop = search in
-    let t = start .args .table .now in
-    let a = at-loop .loop .a in
-    let q = start .pre .1 a (omega arith) in (
-      omega (arith, q, parent-lower t a (omega arith)),
-      at-loop .loop .inv .1 ∙ under-up t _ (start .pre .2) a (omega arith)
-          (λ e. c .if1 .left (q ∙ e)) ∙ ap (underLast t _) (sym q),
+    let up : Up = search in
+    let t = turn up in (
+      omega (arith, lower up, head t .loop .inv .0),
+      head t .loop .inv .1 ∙ under-up _ _ (start t .pre .1) _ (node t .0) (λ e. c .if1 .left (read up ∙ e)) ∙ ap (underLast _ _) (sym (read up)),
     )
 
 returns-2 : tie.Need-returns-2 Inv-loop μ-loop
 returns-2 c =
-    let at-loop : tie.At-loop Inv-loop μ-loop = search in
-    let start : tie.Start Inv-loop μ-loop = search in
-    sym (at-loop .loop .inv .1 ∙ under-none _ _ (start .pre .2) _ (c .loop-test .left))
+    let l : Head = search in
+    let s : Start = search in
+    sym (l .loop .inv .1 ∙ under-none _ _ (s .pre .1) _ (c .loop-test .left))
 
 pub under-last-spec : {M : Type 1} → statement M
 under-last-spec =
@@ -92,10 +93,8 @@ under-last-spec =
     Inv-loop
     μ-loop
     loop-holds
-    cast-up
-    mul-up
-    element-copy-out-up
-    next-at-requires
+    parent-requires
+    next-requires
     returns
     loop-less
     loop-again

@@ -1,3 +1,4 @@
+-- `frame::record_fits` meets its contract.
 use borrow.Author.Tests.{le-leb, lt-leb}
 use Rattle.table.proofs.frame.record_fits.Statement.{statement}
 use Rattle.table.proofs.frame.record_fits.Tie as tie

@@ -1,30 +1,27 @@
--- `kin::collect` meets its contract: a turn reads node n's owner, parent and tail off those of lower nodes.
--- The invariant: the three rows are right up to n (`KinTo`). The measure is the nodes left.
+-- `kin::collect` meets its contract: a turn puts node n's function and parent into its slot, and its tail position into the array.
+-- The invariant: both are right up to n. The measure is the nodes left.
 use native.Mathlib.Omega.{arith}
 use borrow.Author.Needs.{needs}
-use mathlib.Core.Path.{_≡_}
+use mathlib.Core.Path.{_≡_, subst, _∙_}
 use Prim.Native.Nat.{_+_, _-_, _≤_, _<_}
-use lib.ListN.{getD}
-use Rattle.table.specs.Bytes.{nodes}
-use Rattle.table.specs.Naming.{namer}
-use Rattle.table.specs.Working.{IsNode, At}
-use Rattle.table.proofs.KinLoops.{KinTo, kin-none, kin-more, kin-all, parent-below}
-use Rattle.table.proofs.Links.{namer-lower}
+use Rattle.table.specs.Bytes.{functions, nodes}
+use Rattle.table.specs.Working.{IsNode, Filled}
+use Rattle.table.proofs.CellLaws.{raw, sizes-filled}
+use Rattle.table.proofs.Family.{parent-lower}
+use Rattle.table.proofs.KinLoops.{TailsTo, tails-none, tails-more, tails-all}
 use Rattle.table.proofs.kin.collect.Statement.{statement}
 use Rattle.table.proofs.kin.collect.Tie as tie
 
 abbrev Inv-loop : tie.InvT-loop
-Inv-loop table names base last owner₀ parent₀ tail₀ n₀ owner parent tail n = (n ≤ last) × KinTo table owner parent tail n
+Inv-loop table cells₀ names last tail₀ n₀ cells tail n =
+    (n ≤ last) × Filled table (functions table) (nodes table) n cells × TailsTo table tail n × (last ≡ nodes table)
 
 abbrev μ-loop : tie.MeasureT-loop
-μ-loop table names base last owner₀ parent₀ tail₀ n₀ owner parent tail n = last - n
+μ-loop table cells₀ names last tail₀ n₀ cells tail n = last - n
 
--- places: the start, what was read before the loop, the loop's head, a turn
+-- places: the start, the loop's head, a turn, after the node's function and parent
 abbrev Start : Type 0
 Start = tie.Start Inv-loop μ-loop
-
-abbrev Read : Type 0
-Read = tie.After-last-node Inv-loop μ-loop
 
 abbrev Head : Type 0
 Head = tie.At-loop Inv-loop μ-loop
@@ -33,59 +30,44 @@ abbrev Turn : Type 0
 Turn = tie.In-loop Inv-loop μ-loop
 
 abbrev Up : Type 0
-Up = tie.After-parent-of Inv-loop μ-loop
+Up = tie.After-relate Inv-loop μ-loop
 
--- a turn: n + 1 is a node, and what names it is lower
+-- a turn: n + 1 is a node
 module _ (c : Turn) where
   abbrev s : Start
   s = search
 
-  abbrev read : Read
-  read = search
-
   abbrev l : Head
   l = search
 
-  room : l .loop .n < 512
-  room = omega (arith, read .last-node .ensures, s .pre .0 .N-high, c .loop-test .taken)
-
   node : IsNode (s .args .table .now) (l .loop .n + 1)
-  node = (omega arith, omega (arith, read .last-node .ensures, c .loop-test .taken))
+  node = (omega arith, omega (arith, l .loop .inv .3, c .loop-test .taken))
 
-  abbrev base : tie.After-base Inv-loop μ-loop
-  base = search
+  room : l .loop .n < 512
+  room = omega (arith, node .1, s .pre .0 .N-high)
 
-  place : At (s .args .table .now) (base .base .result) (l .loop .n + 1)
-  place = record { framed = s .pre .0; start = base .base .ensures; low = node .0; high = node .1 }
-
-  named : getD (s .args .t2 .namers) (l .loop .n + 1) 0 ≡ namer (s .args .table .now) (l .loop .n + 1)
-  named = s .pre .1 .holders _ node
-
-  lower : getD (s .args .t2 .namers) (l .loop .n + 1) 0 ≤ l .loop .n
-  lower = omega (arith, named, namer-lower (s .args .table .now) (l .loop .n + 1) (omega arith))
+  before : Filled (s .args .table .now) (functions (s .args .table .now)) (nodes (s .args .table .now)) (l .loop .n + 1 - 1)
+      (l .loop .cells)
+  before =
+      let t = s .args .table .now in
+      subst (λ k. Filled t (functions t) (nodes t) k (l .loop .cells)) (omega arith) (l .loop .inv .1)
 
 abbrev turn : Up → Turn
 turn c = search
 
-up-lower : (c : Up) → c .parent-of .result .0 ≤ l (turn c) .loop .n
+up-lower : (c : Up) → c .relate .result .0 ≤ l (turn c) .loop .n
 up-lower c =
-    let own : tie.After-owner-of Inv-loop μ-loop = search in
     let t = turn c in
-    parent-below _ _ _ _ _ (l t .loop .inv .1) (room t) _ _ _ _ (named t) (s t .pre .1 .tops _ (node t)) (own .owner-of .ensures)
-    (c .parent-of .ensures)
+    omega (arith, c .relate .ensures .0, parent-lower (s t .args .table .now) (l t .loop .n + 1) (omega arith))
 
-base-requires : tie.Need-base-requires Inv-loop μ-loop
-base-requires c κs =
-    let s : Start = search in
-    s .pre .0
-
-last-node-requires : tie.Need-last-node-requires Inv-loop μ-loop
-last-node-requires c κs =
-    let s : Start = search in
-    s .pre .0
+last-requires : tie.Need-last-requires Inv-loop μ-loop
+last-requires c κs = search needs
 
 loop-holds : tie.Need-loop-holds Inv-loop μ-loop
-loop-holds c = (omega arith, kin-none _)
+loop-holds c =
+    let s : Start = search in
+    let read : tie.After-last Inv-loop μ-loop = search in
+    (omega arith, s .pre .2, tails-none _, read .last .ensures ∙ sizes-filled _ _ (s .pre .0) _ _ _ (s .pre .2) 1 (omega arith))
 
 add-n : tie.Need-add-n Inv-loop μ-loop
 add-n c = omega (arith, room c)
@@ -93,50 +75,22 @@ add-n c = omega (arith, room c)
 cast-at : tie.Need-cast-at Inv-loop μ-loop
 cast-at c = search needs
 
-mul-namer : tie.Need-mul-namer Inv-loop μ-loop
-mul-namer c = search needs
+mul-t16 : tie.Need-mul-t16 Inv-loop μ-loop
+mul-t16 c = search needs
 
-element-copy-out-namer : tie.Need-element-copy-out-namer Inv-loop μ-loop
-element-copy-out-namer c = omega (arith, room c)
+element-copy-out-t19 : tie.Need-element-copy-out-t19 Inv-loop μ-loop
+element-copy-out-t19 c = omega (arith, room (search))
 
-cast-m : tie.Need-cast-m Inv-loop μ-loop
-cast-m c = search needs
+mul-t16-2 : tie.Need-mul-t16-2 Inv-loop μ-loop
+mul-t16-2 c = search needs
 
-mul-root : tie.Need-mul-root Inv-loop μ-loop
-mul-root c = search needs
+element-copy-out-t19-2 : tie.Need-element-copy-out-t19-2 Inv-loop μ-loop
+element-copy-out-t19-2 c = omega (arith, room (search))
 
-element-copy-out-root : tie.Need-element-copy-out-root Inv-loop μ-loop
-element-copy-out-root c = omega (arith, room (search))
-
-mul-mine : tie.Need-mul-mine Inv-loop μ-loop
-mul-mine c = omega (arith, room (search), lower (search))
-
-array-read-mine : tie.Need-array-read-mine Inv-loop μ-loop
-array-read-mine c = omega (arith, room (search), lower (search))
-
-owner-of-requires : tie.Need-owner-of-requires Inv-loop μ-loop
-owner-of-requires c κs = search needs
-
-mul-owner : tie.Need-mul-owner Inv-loop μ-loop
-mul-owner c = search needs
-
-array-write-owner : tie.Need-array-write-owner Inv-loop μ-loop
-array-write-owner c = omega (arith, room (search))
-
-mul-above : tie.Need-mul-above Inv-loop μ-loop
-mul-above c = omega (arith, room (search), lower (search))
-
-array-read-above : tie.Need-array-read-above Inv-loop μ-loop
-array-read-above c = omega (arith, room (search), lower (search))
-
-parent-of-requires : tie.Need-parent-of-requires Inv-loop μ-loop
-parent-of-requires c κs = (place (search), omega (arith, lower (search)))
-
-mul-parent : tie.Need-mul-parent Inv-loop μ-loop
-mul-parent c = search needs
-
-array-write-parent : tie.Need-array-write-parent Inv-loop μ-loop
-array-write-parent c = omega (arith, room (search))
+relate-requires : tie.Need-relate-requires Inv-loop μ-loop
+relate-requires c κs =
+    let t : Turn = search in
+    (s t .pre .0, node t, s t .pre .1 .holders _ (node t), s t .pre .1 .tops _ (node t), before t)
 
 cast-p : tie.Need-cast-p Inv-loop μ-loop
 cast-p c = search needs
@@ -145,7 +99,10 @@ array-read-tail-of : tie.Need-array-read-tail-of Inv-loop μ-loop
 array-read-tail-of c = omega (arith, room (search), up-lower (search))
 
 tail-of-requires : tie.Need-tail-of-requires Inv-loop μ-loop
-tail-of-requires c κs = (place (search), omega (arith, up-lower (search)))
+tail-of-requires c κs =
+    let up : Up = search in
+    let t = turn up in
+    (raw _ _ (s t .pre .0) _ (up .relate .ensures .1), node t, omega (arith, up-lower up))
 
 array-write-tail : tie.Need-array-write-tail Inv-loop μ-loop
 array-write-tail c = omega (arith, room (search))
@@ -156,20 +113,20 @@ loop-less c = omega arith
 loop-again : tie.Need-loop-again Inv-loop μ-loop
 loop-again c =
     let up : Up = search in
-    let own : tie.After-owner-of Inv-loop μ-loop = search in
-    let t = turn up in (
-      omega (arith, t .loop-test .taken),
-      kin-more _ _ _ _ _ (l t .loop .inv .1) (room t) _ _ _ _ (named t) (s t .pre .1 .tops _ (node t)) (own .owner-of .ensures)
-          (up .parent-of .ensures) _ (c .tail-of .ensures),
+    let t = turn up in
+    let l : Head = search in (
+      omega (arith, l .loop .inv .3, t .loop-test .taken),
+      up .relate .ensures .1,
+      tails-more _ _ _ (l .loop .inv .2) (room t) _ (up .relate .ensures .0) _ (c .tail-of .ensures),
+      l .loop .inv .3,
     )
 
 returns : tie.Need-returns Inv-loop μ-loop
 returns c =
     let l : Head = search in
-    let read : Read = search in
     let s : Start = search in
-    let e : l .loop .n ≡ nodes (s .args .table .now) = omega (arith, read .last-node .ensures) in
-    kin-all _ _ _ _ (s .pre .0) (rw e at (l .loop .inv .1))
+    let e : l .loop .n ≡ nodes (s .args .table .now) = omega (arith, l .loop .inv .0, l .loop .inv .3) in
+    (tails-all _ _ (rw e at (l .loop .inv .2)), rw e at (l .loop .inv .1))
 
 pub collect-spec : {M : Type 1} → statement M
 collect-spec =
@@ -177,26 +134,15 @@ collect-spec =
     (tie.spec
     Inv-loop
     μ-loop
-    base-requires
-    last-node-requires
+    last-requires
     loop-holds
     add-n
     cast-at
-    mul-namer
-    element-copy-out-namer
-    cast-m
-    mul-root
-    element-copy-out-root
-    mul-mine
-    array-read-mine
-    owner-of-requires
-    mul-owner
-    array-write-owner
-    mul-above
-    array-read-above
-    parent-of-requires
-    mul-parent
-    array-write-parent
+    mul-t16
+    element-copy-out-t19
+    mul-t16-2
+    element-copy-out-t19-2
+    relate-requires
     cast-p
     array-read-tail-of
     tail-of-requires

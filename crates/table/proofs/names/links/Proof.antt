@@ -1,63 +1,116 @@
-use Rattle.table.proofs.Loops.{bumped-few}
+-- `names::links` meets its contract: a turn decodes a node's record and counts what its first and next name.
+-- The invariant: slots, mentions and namers are right up to n. The measure is the nodes left.
 use native.Mathlib.Omega.{arith}
 use borrow.Author.Needs.{needs}
-use mathlib.Core.Path.{_≡_}
-use Rattle.table.specs.Bytes.{functions, nodes}
+use mathlib.Core.Path.{_≡_, _∙_}
 use Prim.Native.Nat.{_+_, _*_, _-_, _≤_}
+use Rattle.table.specs.Bytes.{functions, nodes, first, next}
+use Rattle.table.specs.Working.{IsNode, Filled}
+use Rattle.table.proofs.CellLaws.{filled-node, filled-at}
+use Rattle.table.proofs.Loops.{bumped-few}
 use Rattle.table.proofs.NameLoops.{LinksTo, links-none, links-more, links-all}
-use Rattle.table.specs.Naming.{mentions}
 use Rattle.table.proofs.names.links.Statement.{statement}
 use Rattle.table.proofs.names.links.Tie as tie
 
 abbrev Inv-loop : tie.InvT-loop
-Inv-loop table tops base last mentions₀ namers₀ n₀ mentions namers n = (n ≤ last) × LinksTo table mentions₀ mentions namers n
+Inv-loop table tops cells₀ base last mentions₀ namers₀ n₀ cells mentions namers n =
+    (n ≤ last) × LinksTo table mentions₀ mentions namers n × Filled table (functions table) n 0 cells × (last ≡ nodes table)
 
 abbrev μ-loop : tie.MeasureT-loop
-μ-loop table tops base last mentions₀ namers₀ n₀ mentions namers n = last - n
+μ-loop table tops cells₀ base last mentions₀ namers₀ n₀ cells mentions namers n = last - n
+
+abbrev Start : Type 0
+Start = tie.Start Inv-loop μ-loop
+
+abbrev Head : Type 0
+Head = tie.At-loop Inv-loop μ-loop
+
+abbrev Turn : Type 0
+Turn = tie.In-loop Inv-loop μ-loop
+
+-- a turn: n + 1 is a node, and its slot is filled
+module _ (c : Turn) where
+  abbrev s : Start
+  s = search
+
+  abbrev l : Head
+  l = search
+
+  node : IsNode (s .args .table .now) (l .loop .n + 1)
+  node = (omega arith, omega (arith, l .loop .inv .3, c .loop-test .taken))
+
+abbrev Decoded : Type 0
+Decoded = tie.After-node Inv-loop μ-loop
+
+abbrev turn : Decoded → Turn
+turn c = search
+
+filled : (c : Decoded) → let t = turn c in Filled (s t .args .table .now) (functions (s t .args .table .now)) (l t .loop .n + 1) 0
+    (c .node .last .1 .1 .1 .0)
+filled c =
+    let t = turn c in
+    filled-node _ _ _ _ (omega (arith, node t .1, s t .pre .0 .N-high)) (l t .loop .inv .2) _ (c .node .ensures)
+
+-- and what was read of it
+abbrev Read : Type 0
+Read = tie.After-next Inv-loop μ-loop
+
+abbrev decoded : Read → Decoded
+decoded c = search
+
+abbrev firsts : Read → tie.After-first Inv-loop μ-loop
+firsts c = search
+
+first-read : (c : Read) → let t = turn (decoded c) in
+    firsts c .first .result .0 ≡ first (s t .args .table .now) (l t .loop .n + 1)
+first-read c =
+    let t = turn (decoded c) in
+    firsts c .first .ensures ∙ filled-at _ _ _ _ _ _ (node t .0) (omega (arith, node t .1, s t .pre .0 .N-high)) (filled (decoded c)) 4
+    (omega arith) (omega arith)
+
+next-read : (c : Read) → let t = turn (decoded c) in
+    c .next .result .0 ≡ next (s t .args .table .now) (l t .loop .n + 1)
+next-read c =
+    let t = turn (decoded c) in
+    c .next .ensures ∙ filled-at _ _ _ _ _ _ (node t .0) (omega (arith, node t .1, s t .pre .0 .N-high)) (filled (decoded c)) 5
+    (omega arith) (omega arith)
+
+abbrev place : tie.After-slot2 Inv-loop μ-loop → tie.After-slot Inv-loop μ-loop
+place c = search
+
+abbrev there : tie.After-slot Inv-loop μ-loop → Read
+there c = search
 
 base-requires : tie.Need-base-requires Inv-loop μ-loop
 base-requires c κs =
-    let start : tie.Start Inv-loop μ-loop = search in
-    start .pre .0
+    let s : Start = search in
+    s .pre .0
 
 last-node-requires : tie.Need-last-node-requires Inv-loop μ-loop
 last-node-requires c κs =
-    let start : tie.Start Inv-loop μ-loop = search in
-    start .pre .0
+    let s : Start = search in
+    s .pre .0
 
 loop-holds : tie.Need-loop-holds Inv-loop μ-loop
 loop-holds c =
-    let start : tie.Start Inv-loop μ-loop = search in
-    (omega arith, links-none _ _ (search needs) (search needs) (start .pre .1))
+    let s : Start = search in
+    let read : tie.After-last-node Inv-loop μ-loop = search in
+    (omega arith, links-none _ _ (search needs) (search needs) (s .pre .1), s .pre .2, read .last-node .ensures)
 
 add-n : tie.Need-add-n Inv-loop μ-loop
 add-n c = omega arith
 
-first-at-requires : tie.Need-first-at-requires Inv-loop μ-loop
-first-at-requires c κs =
-    let after-last-node : tie.After-last-node Inv-loop μ-loop = search in
-    let after-base : tie.After-base Inv-loop μ-loop = search in
-    let start : tie.Start Inv-loop μ-loop = search in
-    record {
-      framed = start .pre .0;
-      start = after-base .base .ensures;
-      low = omega arith;
-      high = omega
-          (arith, after-last-node .last-node .ensures);
-    }
+node-requires : tie.Need-node-requires Inv-loop μ-loop
+node-requires c κs =
+    let t : Turn = search in
+    let base : tie.After-base Inv-loop μ-loop = search in
+    record { framed = s t .pre .0; start = base .base .ensures; low = node t .0; high = node t .1 }
 
-next-at-requires : tie.Need-next-at-requires Inv-loop μ-loop
-next-at-requires c κs =
-    let after-last-node : tie.After-last-node Inv-loop μ-loop = search in
-    let after-base : tie.After-base Inv-loop μ-loop = search in
-    let start : tie.Start Inv-loop μ-loop = search in
-    record {
-      framed = start .pre .0;
-      start = after-base .base .ensures;
-      low = omega arith;
-      high = omega
-          (arith, after-last-node .last-node .ensures);
-    }
+first-requires : tie.Need-first-requires Inv-loop μ-loop
+first-requires c κs = search needs
+
+next-requires : tie.Need-next-requires Inv-loop μ-loop
+next-requires c κs = search needs
 
 slot-requires : tie.Need-slot-requires Inv-loop μ-loop
 slot-requires c κs = search needs
@@ -70,17 +123,8 @@ array-read-mentions c = omega arith
 
 add-mentions : tie.Need-add-mentions Inv-loop μ-loop
 add-mentions c =
-    let at-loop : tie.At-loop Inv-loop μ-loop = search in
-    let after-last-node : tie.After-last-node Inv-loop μ-loop = search in
-    let start : tie.Start Inv-loop μ-loop = search in
-    omega (
-      arith,
-      at-loop .loop .inv .1 .few (c .slot .result),
-      after-last-node .last-node .ensures,
-      start .pre .0 .N-high,
-      start .pre .0
-          .F-high,
-    )
+    let t : Turn = search in
+    omega (arith, l t .loop .inv .1 .few (c .slot .result), node t .1, s t .pre .0 .N-high, s t .pre .0 .F-high)
 
 mul-mentions-2 : tie.Need-mul-mentions-2 Inv-loop μ-loop
 mul-mentions-2 c = search needs
@@ -99,20 +143,11 @@ array-read-mentions-2 c = omega arith
 
 add-mentions-2 : tie.Need-add-mentions-2 Inv-loop μ-loop
 add-mentions-2 c =
-    let after-slot : tie.After-slot Inv-loop μ-loop = search in
-    let at-loop : tie.At-loop Inv-loop μ-loop = search in
-    let after-last-node : tie.After-last-node Inv-loop μ-loop = search in
-    let start : tie.Start Inv-loop μ-loop = search in
-    let t = start .args .table .now in
-    omega (
-      arith,
-      bumped-few (at-loop .loop .mentions) (after-slot .slot .result) (functions t + 2 * at-loop .loop .n)
-          (at-loop .loop .inv .1 .few) (c .slot2 .result),
-      after-last-node .last-node .ensures,
-      start .pre .0 .N-high,
-      start .pre .0
-          .F-high,
-    )
+    let t = turn (decoded (there (search))) in
+    let one : tie.After-slot Inv-loop μ-loop = search in
+    let few = bumped-few (l t .loop .mentions) (one .slot .result) (functions (s t .args .table .now) + 2 * l t .loop .n)
+    (l t .loop .inv .1 .few) (c .slot2 .result) in
+    omega (arith, few, node t .1, s t .pre .0 .N-high, s t .pre .0 .F-high)
 
 mul-mentions-4 : tie.Need-mul-mentions-4 Inv-loop μ-loop
 mul-mentions-4 c = search needs
@@ -141,32 +176,26 @@ array-write-namers-2 c = omega arith
 loop-less : tie.Need-loop-less Inv-loop μ-loop
 loop-less c = omega arith
 
-abbrev start-of-at-loop : tie.At-loop Inv-loop μ-loop → tie.Start Inv-loop μ-loop
-start-of-at-loop c = search
-
 loop-again : tie.Need-loop-again Inv-loop μ-loop
 loop-again c =
-    let after-ahead : tie.After-ahead Inv-loop μ-loop = search in
-    let after-slot2 : tie.After-slot2 Inv-loop μ-loop = search in
-    let after-slot : tie.After-slot Inv-loop μ-loop = search in
-    let after-next-at : tie.After-next-at Inv-loop μ-loop = search in
-    let after-first-at : tie.After-first-at Inv-loop μ-loop = search in
-    let at-loop : tie.At-loop Inv-loop μ-loop = search in
-    let start = start-of-at-loop at-loop in (
-      omega arith,
-      links-more _ _ _ _ _ (at-loop .loop .inv .1) _ _ _ _ _ _ (after-first-at .first-at .ensures)
-          (after-next-at .next-at .ensures) (after-slot .slot .ensures .0) (after-slot2 .slot2 .ensures .0) (after-ahead .ahead .ensures .0)
-          (c .ahead2 .ensures .0),
+    let ahead : tie.After-ahead Inv-loop μ-loop = search in
+    let two : tie.After-slot2 Inv-loop μ-loop = search in
+    let one = place two in
+    let d = decoded (there one) in
+    let t = turn d in (
+      omega (arith, node t .1, l t .loop .inv .3),
+      links-more _ _ _ _ _ (l t .loop .inv .1) _ _ _ _ _ _ (first-read (there one)) (next-read (there one)) (one .slot .ensures .0)
+          (two .slot2 .ensures .0) (ahead .ahead .ensures .0) (c .ahead2 .ensures .0),
+      filled d,
+      l t .loop .inv .3,
     )
 
 returns : tie.Need-returns Inv-loop μ-loop
 returns c =
-    let at-loop : tie.At-loop Inv-loop μ-loop = search in
-    let after-last-node : tie.After-last-node Inv-loop μ-loop = search in
-    let start : tie.Start Inv-loop μ-loop = search in
-    let t = start .args .table .now in
-    let e : at-loop .loop .n ≡ nodes t = omega (arith, after-last-node .last-node .ensures) in
-    links-all t _ _ _ (start .pre .0) (start .pre .1) (rw e at (at-loop .loop .inv .1))
+    let l : Head = search in
+    let s : Start = search in
+    let e : l .loop .n ≡ nodes (s .args .table .now) = omega (arith, l .loop .inv .0, l .loop .inv .3) in
+    (links-all _ _ _ _ (s .pre .0) (s .pre .1) (rw e at (l .loop .inv .1)), rw e at (l .loop .inv .2))
 
 pub links-spec : {M : Type 1} → statement M
 links-spec =
@@ -178,8 +207,9 @@ links-spec =
     last-node-requires
     loop-holds
     add-n
-    first-at-requires
-    next-at-requires
+    node-requires
+    first-requires
+    next-requires
     slot-requires
     mul-mentions
     array-read-mentions

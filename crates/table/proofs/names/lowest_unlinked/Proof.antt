@@ -1,64 +1,84 @@
-use borrow.Author.Tests.{not-true, not-false}
+-- `names::lowest_unlinked` meets its contract. The invariant: none of the nodes up to n meets refusal 4. The measure is the nodes left.
 use native.Mathlib.Omega.{arith}
 use borrow.Author.Needs.{needs}
+use borrow.Author.Tests.{not-true, not-false}
 use mathlib.Core.Path.{_≡_, refl, sym, _∙_}
+use Prim.Native.Nat.{_+_, _-_, _≤_, _<_}
 use Rattle.table.specs.Bytes.{nodes}
-use Prim.Native.Nat.{_+_, _-_, _≤_}
 use Rattle.table.specs.Find.{lowest}
 use Rattle.table.specs.Check.{linked}
+use Rattle.table.specs.Working.{IsNode}
 use Rattle.table.proofs.Loops.{lowest-more, lowest-found}
 use Rattle.table.proofs.NameLoops.{told-linked}
 use Rattle.table.proofs.names.lowest_unlinked.Statement.{statement}
 use Rattle.table.proofs.names.lowest_unlinked.Tie as tie
 
 abbrev Inv-loop : tie.InvT-loop
-Inv-loop table names base last end n₀ n = (n ≤ end) × (lowest (linked table) n ≡ 0)
+Inv-loop table cells names last end n₀ n = (n ≤ end) × (lowest (linked table) n ≡ 0) × (end ≡ nodes table)
 
 abbrev μ-loop : tie.MeasureT-loop
-μ-loop table names base last end n₀ n = end - n
+μ-loop table cells names last end n₀ n = end - n
 
-base-requires : tie.Need-base-requires Inv-loop μ-loop
-base-requires c κs =
-    let start : tie.Start Inv-loop μ-loop = search in
-    start .pre .0
+abbrev Start : Type 0
+Start = tie.Start Inv-loop μ-loop
 
-last-node-requires : tie.Need-last-node-requires Inv-loop μ-loop
-last-node-requires c κs =
-    let start : tie.Start Inv-loop μ-loop = search in
-    start .pre .0
+abbrev Head : Type 0
+Head = tie.At-loop Inv-loop μ-loop
+
+abbrev Turn : Type 0
+Turn = tie.In-loop Inv-loop μ-loop
+
+-- a turn: n + 1 is a node
+module _ (c : Turn) where
+  abbrev s : Start
+  s = search
+
+  abbrev l : Head
+  l = search
+
+  node : IsNode (s .args .table .now) (l .loop .n + 1)
+  node = (omega arith, omega (arith, l .loop .inv .2, c .loop-test .taken))
+
+  room : l .loop .n < 512
+  room = omega (arith, node .1, s .pre .0 .N-high)
+
+abbrev Told : Type 0
+Told = tie.After-linked-at Inv-loop μ-loop
+
+abbrev turn : Told → Turn
+turn c = search
+
+-- the test at a node is refusal 4's
+tests : (c : Told) → let t = turn c in c .linked-at .result ≡ linked (s t .args .table .now) (l t .loop .n + 1)
+tests c =
+    let f : tie.After-first Inv-loop μ-loop = search in
+    let n : tie.After-next Inv-loop μ-loop = search in
+    let last : tie.After-last Inv-loop μ-loop = search in
+    let t = turn c in
+    let i = node t in
+    let p = s t .pre in
+    c .linked-at .ensures ∙ told-linked _ _ _ _ _ _ _ (f .first .ensures ∙ p .1 .node _ 4 i (omega arith))
+    (n .next .ensures ∙ p .1 .node _ 5 i (omega arith)) (p .2 .counts _ i) (p .2 .tops _ i)
+    (last .last .ensures ∙ p .1 .own 1 (omega arith))
+
+last-requires : tie.Need-last-requires Inv-loop μ-loop
+last-requires c κs = search needs
 
 loop-holds : tie.Need-loop-holds Inv-loop μ-loop
 unfolding lowest
-loop-holds c = (omega arith, refl)
+loop-holds c =
+    let s : Start = search in
+    let read : tie.After-last Inv-loop μ-loop = search in
+    (omega arith, refl, read .last .ensures ∙ s .pre .1 .own 1 (omega arith))
 
 add-n : tie.Need-add-n Inv-loop μ-loop
 add-n c = omega arith
 
-first-at-requires : tie.Need-first-at-requires Inv-loop μ-loop
-first-at-requires c κs =
-    let after-last-node : tie.After-last-node Inv-loop μ-loop = search in
-    let after-base : tie.After-base Inv-loop μ-loop = search in
-    let start : tie.Start Inv-loop μ-loop = search in
-    record {
-      framed = start .pre .0;
-      start = after-base .base .ensures;
-      low = omega arith;
-      high = omega
-          (arith, after-last-node .last-node .ensures);
-    }
+first-requires : tie.Need-first-requires Inv-loop μ-loop
+first-requires c κs = search needs
 
-next-at-requires : tie.Need-next-at-requires Inv-loop μ-loop
-next-at-requires c κs =
-    let after-last-node : tie.After-last-node Inv-loop μ-loop = search in
-    let after-base : tie.After-base Inv-loop μ-loop = search in
-    let start : tie.Start Inv-loop μ-loop = search in
-    record {
-      framed = start .pre .0;
-      start = after-base .base .ensures;
-      low = omega arith;
-      high = omega
-          (arith, after-last-node .last-node .ensures);
-    }
+next-requires : tie.Need-next-requires Inv-loop μ-loop
+next-requires c κs = search needs
 
 cast-mentions : tie.Need-cast-mentions Inv-loop μ-loop
 cast-mentions c = search needs
@@ -67,10 +87,7 @@ mul-mentions : tie.Need-mul-mentions Inv-loop μ-loop
 mul-mentions c = search needs
 
 element-copy-out-mentions : tie.Need-element-copy-out-mentions Inv-loop μ-loop
-element-copy-out-mentions c =
-    let after-last-node : tie.After-last-node Inv-loop μ-loop = search in
-    let start : tie.Start Inv-loop μ-loop = search in
-    omega (arith, after-last-node .last-node .ensures, start .pre .0 .N-high)
+element-copy-out-mentions c = omega (arith, room (search))
 
 cast-root : tie.Need-cast-root Inv-loop μ-loop
 cast-root c = search needs
@@ -79,58 +96,32 @@ mul-root : tie.Need-mul-root Inv-loop μ-loop
 mul-root c = search needs
 
 element-copy-out-root : tie.Need-element-copy-out-root Inv-loop μ-loop
-element-copy-out-root c =
-    let after-last-node : tie.After-last-node Inv-loop μ-loop = search in
-    let start : tie.Start Inv-loop μ-loop = search in
-    omega (arith, after-last-node .last-node .ensures, start .pre .0 .N-high)
+element-copy-out-root c = omega (arith, room (search))
 
 linked-at-requires : tie.Need-linked-at-requires Inv-loop μ-loop
 linked-at-requires c κs = search needs
 
 returns : tie.Need-returns Inv-loop μ-loop
 returns c =
-    let after-linked-at : tie.After-linked-at Inv-loop μ-loop = search in
-    let after-next-at : tie.After-next-at Inv-loop μ-loop = search in
-    let after-first-at : tie.After-first-at Inv-loop μ-loop = search in
-    let at-loop : tie.At-loop Inv-loop μ-loop = search in
-    let after-last-node : tie.After-last-node Inv-loop μ-loop = search in
-    let start : tie.Start Inv-loop μ-loop = search in
-    let t = start .args .table .now in
-    let nm = start .pre .1 in
-    let n = at-loop .loop .n + 1 in
-    let e = after-linked-at .linked-at .ensures ∙ told-linked t n _ _ _ _ _ (after-first-at .first-at .ensures)
-    (after-next-at .next-at .ensures) (nm .counts n (omega arith, omega (arith, after-last-node .last-node .ensures)))
-    (nm .tops n (omega arith, omega (arith, after-last-node .last-node .ensures))) (after-last-node .last-node .ensures) in
-    sym (lowest-found (linked t) _ (nodes t) (at-loop .loop .inv .1) (sym e ∙ not-true _ (c .if1 .taken)) (omega
-    (arith, after-last-node .last-node .ensures)))
+    let told : Told = search in
+    let t = turn told in
+    sym (lowest-found (linked _) _ _ (l t .loop .inv .1) (sym (tests told) ∙ not-true _ (c .if1 .taken)) (node t .1))
 
 loop-less : tie.Need-loop-less Inv-loop μ-loop
 loop-less c = omega arith
 
 loop-again : tie.Need-loop-again Inv-loop μ-loop
 loop-again c =
-    let after-linked-at : tie.After-linked-at Inv-loop μ-loop = search in
-    let after-next-at : tie.After-next-at Inv-loop μ-loop = search in
-    let after-first-at : tie.After-first-at Inv-loop μ-loop = search in
-    let at-loop : tie.At-loop Inv-loop μ-loop = search in
-    let after-last-node : tie.After-last-node Inv-loop μ-loop = search in
-    let start : tie.Start Inv-loop μ-loop = search in
-    let t = start .args .table .now in
-    let nm = start .pre .1 in
-    let n = at-loop .loop .n + 1 in
-    let e = after-linked-at .linked-at .ensures ∙ told-linked t n _ _ _ _ _ (after-first-at .first-at .ensures)
-    (after-next-at .next-at .ensures) (nm .counts n (omega arith, omega (arith, after-last-node .last-node .ensures)))
-    (nm .tops n (omega arith, omega (arith, after-last-node .last-node .ensures))) (after-last-node .last-node .ensures) in
-    (omega arith, lowest-more (linked t) _ (at-loop .loop .inv .1) (sym e ∙ not-false _ (c .if1 .left)))
+    let told : Told = search in
+    let t = turn told in
+    (omega arith, lowest-more (linked _) _ (l t .loop .inv .1) (sym (tests told) ∙ not-false _ (c .if1 .left)), l t .loop .inv .2)
 
 returns-2 : tie.Need-returns-2 Inv-loop μ-loop
 returns-2 c =
-    let at-loop : tie.At-loop Inv-loop μ-loop = search in
-    let after-last-node : tie.After-last-node Inv-loop μ-loop = search in
-    let start : tie.Start Inv-loop μ-loop = search in
-    let t = start .args .table .now in
-    let e : at-loop .loop .n ≡ nodes t = omega (arith, after-last-node .last-node .ensures) in
-    sym (rw e at (at-loop .loop .inv .1))
+    let l : Head = search in
+    let s : Start = search in
+    let e : l .loop .n ≡ nodes (s .args .table .now) = omega (arith, l .loop .inv .0, l .loop .inv .2) in
+    sym (rw e at (l .loop .inv .1))
 
 pub lowest-unlinked-spec : {M : Type 1} → statement M
 lowest-unlinked-spec =
@@ -138,12 +129,11 @@ lowest-unlinked-spec =
     (tie.spec
     Inv-loop
     μ-loop
-    base-requires
-    last-node-requires
+    last-requires
     loop-holds
     add-n
-    first-at-requires
-    next-at-requires
+    first-requires
+    next-requires
     cast-mentions
     mul-mentions
     element-copy-out-mentions

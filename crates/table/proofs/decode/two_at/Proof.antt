@@ -1,8 +1,9 @@
+-- `decode::two_at` meets its contract.
 use native.Mathlib.Omega.{arith}
 use Rattle.table.specs.Bytes.{twoAt}
 use borrow.Author.Needs.{needs}
-use Rattle.table.proofs.frame.two_at.Statement.{statement}
-use Rattle.table.proofs.frame.two_at.Tie as tie
+use Rattle.table.proofs.decode.two_at.Statement.{statement}
+use Rattle.table.proofs.decode.two_at.Tie as tie
 
 shared-slice-read-two : tie.Need-shared-slice-read-two
 shared-slice-read-two c = search needs

@@ -1,0 +1,386 @@
+-- an array of cells, slot by slot: how far it is filled, what a record put into its slot changes, and what is read then
+use Prim.Native.Nat.{ℕ, zero, suc, _+_, _-_, _*_, _%_, _≤_, _<_}
+use mathlib.Core.Path.{_≡_, refl, subst, sym, ap, ap₂, _∙_}
+use mathlib.Core.List.{List}
+use native.Mathlib.Omega.{arith}
+use native.Mathlib.Decide.{ℕ-discrete, decLt, decLe}
+use native.Mathlib.Nat.{mod-self, mod-eq-of-lt}
+use mathlib.Core.Bool.{Bool, true, false}
+use lib.Dec.{eqb, ltb}
+use lib.ListN.{length, getD, replicate, length-set, length-replicate}
+use lib.Seq.{getD-set-same, getD-set-other}
+use borrow.Author.Tests.{le-leb, lt-leb, lt-ltb, le-ltb, eq-eqb, ne-eqb}
+use Rattle.table.specs.Pick.{pick}
+use Rattle.table.specs.Bytes.{functions, nodes, params, spare, root, kind, extra, word, fourAt, first, next}
+use Rattle.table.specs.Naming.{owner, parent}
+use Rattle.table.specs.Check.{refused, ifAccepted, checkOf}
+use Rattle.table.specs.Decoded.{cellAt, nodeSlot, functionSlot, tableSlot, numberAt, low, high, nodeField, functionField, tableField}
+use Rattle.table.specs.Decoded.{upTo, cellOf, Decoded}
+use Rattle.table.specs.Working.{Taken, IsNode, IsFunction, Framed, CellsTo, Raw, Cells, putCell, withNode, withFunction, filledTo, Filled}
+use Rattle.table.proofs.Loops.{blank-at}
+
+-- by the number of a slot
+by-eight : (P : ℕ → Type 0) → P 0 → P 1 → P 2 → P 3 → P 4 → P 5 → P 6 → P 7 → (k : ℕ) → k < 8 → P k
+by-eight P a b c d e f g h zero l = a
+by-eight P a b c d e f g h (suc zero) l = b
+by-eight P a b c d e f g h (suc (suc zero)) l = c
+by-eight P a b c d e f g h (suc (suc (suc zero))) l = d
+by-eight P a b c d e f g h (suc (suc (suc (suc zero)))) l = e
+by-eight P a b c d e f g h (suc (suc (suc (suc (suc zero))))) l = f
+by-eight P a b c d e f g h (suc (suc (suc (suc (suc (suc zero)))))) l = g
+by-eight P a b c d e f g h (suc (suc (suc (suc (suc (suc (suc zero))))))) l = h
+by-eight P a b c d e f g h (suc (suc (suc (suc (suc (suc (suc (suc k)))))))) l = absurd (omega arith)
+
+-- slot s of an array becomes W, and the others stay
+record Row (s : ℕ) (W : ℕ → ℕ) (cells cells′ : List ℕ) : Type 0 where
+  size : length cells′ ≡ length cells
+  here : (k : ℕ) → k < 8 → cellAt cells′ s k ≡ W k
+  other : (s′ k : ℕ) → (s′ ≡ s → ⊥) → k < 8 → cellAt cells′ s′ k ≡ cellAt cells s′ k
+
+row-start : (s : ℕ) (cells : List ℕ) → Row s (cellAt cells s) cells cells
+row-start s cells = record { size = refl; here = λ k h. refl; other = λ s′ k d h. refl }
+
+row-put : (s : ℕ) (W : ℕ → ℕ) (cells cells′ : List ℕ) → length cells ≡ 4360 → s < 545 → Row s W cells cells′ → (j x : ℕ) → j < 8
+    → Row s (λ k. pick (eqb k j) x (W k)) cells (putCell cells′ s j x)
+unfolding cellAt putCell
+row-put s W cells cells′ z b r j x i = record {
+  size = length-set cells′ (8 * s + j) x ∙ r .size;
+  here = λ k h. here k h (ℕ-discrete k j);
+  other = λ s′ k d h. getD-set-other cells′ (8 * s + j) (8 * s′ + k) x 0 (λ e. d (omega arith)) ∙ r .other s′ k d h;
+}
+  where
+    here : (k : ℕ) → k < 8 → Dec (k ≡ j) → cellAt (putCell cells′ s j x) s k ≡ pick (eqb k j) x (W k)
+    here k h (yes e) = rw (e, eq-eqb j j refl) (getD-set-same cells′ (8 * s + j) x 0 (omega (arith, r .size)))
+    here k h (no e) = rw (ne-eqb k j e) (getD-set-other cells′ (8 * s + j) (8 * s + k) x 0 (λ q. e (omega arith)) ∙ r .here k h)
+
+-- the number that has a slot, and the slot that a number has
+number-zero : (m : ℕ) → numberAt m 0 ≡ m
+number-zero m = refl
+
+number-other : (m s : ℕ) → (s ≡ 0 → ⊥) → numberAt m s ≡ s
+number-other m s d = rw (ne-eqb s 0 d)
+
+numberAt-low : (m s : ℕ) → 1 ≤ m → 1 ≤ numberAt m s
+numberAt-low m s h = go (ℕ-discrete s 0)
+  where
+    go : Dec (s ≡ 0) → 1 ≤ numberAt m s
+    go (yes q) = rw q h
+    go (no q) = omega (arith, number-other m s q)
+
+slot-number : (m j : ℕ) → 1 ≤ j → j ≤ m → numberAt m (j % m) ≡ j
+slot-number m j a b = go (ℕ-discrete j m)
+  where
+    go : Dec (j ≡ m) → numberAt m (j % m) ≡ j
+    go (yes q) = rw (q, mod-self m) refl
+    go (no q) = rw (mod-eq-of-lt {n = j} {m = m} (omega arith)) (number-other m j (λ e. omega arith))
+
+number-slot : (m s j : ℕ) → s < m → numberAt m s ≡ j → s ≡ j % m
+number-slot m s j b e = go (ℕ-discrete s 0)
+  where
+    go : Dec (s ≡ 0) → s ≡ j % m
+    go (yes q) =
+        let p : m ≡ j = rw q at e in
+        q ∙ sym (ap (λ i. i % m) (sym p) ∙ mod-self m)
+    go (no q) = sym (ap (λ i. i % m) (sym e ∙ number-other m s q) ∙ mod-eq-of-lt b)
+
+pub upTo-in : (g : ℕ → ℕ) (m n : ℕ) → n ≤ m → upTo m g n ≡ g n
+upTo-in g m n h = ap (λ b. pick b (g n) 0) (le-leb n m h)
+
+pub upTo-past : (g : ℕ → ℕ) (m n : ℕ) → m < n → upTo m g n ≡ 0
+upTo-past g m n h = ap (λ b. pick b (g n) 0) (lt-leb n m h)
+
+upTo-on : (g : ℕ → ℕ) (m n : ℕ) → (n ≡ m + 1 → ⊥) → upTo m g n ≡ upTo (m + 1) g n
+upTo-on g m n d = go (decLe n m)
+  where
+    go : Dec (n ≤ m) → upTo m g n ≡ upTo (m + 1) g n
+    go (yes h) = upTo-in g m n h ∙ sym (upTo-in g (m + 1) n (omega arith))
+    go (no h) = upTo-past g m n (omega arith) ∙ sym (upTo-past g (m + 1) n (omega arith))
+
+-- which of the three kinds a slot is of
+module _ (t : List ℕ) (f n m : ℕ) where
+  of-node : (s k : ℕ) → s < 512 → filledTo t f n m s k ≡ upTo (pick (ltb k 6) n m) (λ n. nodeField t n k) (numberAt 512 s)
+  of-node s k h = rw (lt-ltb s 512 h)
+
+  of-function : (s k : ℕ) → 512 ≤ s → s < 544 → filledTo t f n m s k ≡ upTo f (λ f. functionField t f k) (numberAt 32 (s - 512))
+  of-function s k h l = rw (le-ltb s 512 h, lt-ltb s 544 l)
+
+  of-table : (s k : ℕ) → 544 ≤ s → filledTo t f n m s k ≡ tableField t k
+  of-table s k h = rw (le-ltb s 512 (omega arith), le-ltb s 544 h)
+
+-- one slot more
+module _ (t cells cells′ : List ℕ) (f n m f′ n′ m′ s₀ : ℕ) (W : ℕ → ℕ) (h : Filled t f n m cells) (row : Row s₀ W cells cells′)
+    (fits : (k : ℕ) → k < 8 → W k ≡ filledTo t f′ n′ m′ s₀ k)
+    (on : (s k : ℕ) → s < 545 → k < 8 → (s ≡ s₀ → ⊥) → filledTo t f n m s k ≡ filledTo t f′ n′ m′ s k) where
+  filled-row : Filled t f′ n′ m′ cells′
+  filled-row = record { size = row .size ∙ h .size; each = λ s k a b. each s k a b (ℕ-discrete s s₀) }
+    where
+      each : (s k : ℕ) → s < 545 → k < 8 → Dec (s ≡ s₀) → cellAt cells′ s k ≡ filledTo t f′ n′ m′ s k
+      each s k a b (yes e) = rw e (row .here k b ∙ fits k b)
+      each s k a b (no e) = row .other s k e b ∙ h .each s k a b ∙ on s k a b e
+
+-- nothing but the sizes
+pub filled-none : (t cells : List ℕ) → cells ≡ replicate 4360 0 → (cells′ : List ℕ)
+    → cells′ ≡ putCell (putCell cells tableSlot 0 (functions t)) tableSlot 1 (nodes t) → Filled t 0 0 0 cells′
+unfolding cellAt
+filled-none t cells e cells′ q = subst (Filled t 0 0 0) (sym q) (record { size = two .size ∙ size; each = λ s k a b. each s k a b (ℕ-discrete s 544) })
+  where
+    size : length cells ≡ 4360
+    size = ap length e ∙ length-replicate {A = ℕ} 4360 0
+
+    one : Row 544 (λ k. pick (eqb k 0) (functions t) (cellAt cells 544 k)) cells (putCell cells 544 0 (functions t))
+    one = row-put 544 _ cells cells size (omega arith) (row-start 544 cells) 0 (functions t) (omega arith)
+
+    two : Row 544 (λ k. pick (eqb k 1) (nodes t) (pick (eqb k 0) (functions t) (cellAt cells 544 k))) cells
+        (putCell (putCell cells 544 0 (functions t)) 544 1 (nodes t))
+    two = row-put 544 _ cells _ size (omega arith) one 1 (nodes t) (omega arith)
+
+    zero-at : (i : ℕ) → getD cells i 0 ≡ 0
+    zero-at i = ap (λ l. getD l i 0) e ∙ blank-at {A = ℕ} 4360 i 0
+
+    none : (b : Bool) → _≡_ {A = ℕ} (pick b 0 0) 0
+    none true = refl
+    none false = refl
+
+    own : (k : ℕ) → k < 8 → pick (eqb k 1) (nodes t) (pick (eqb k 0) (functions t) (cellAt cells 544 k)) ≡ tableField t k
+    own = by-eight (λ k. pick (eqb k 1) (nodes t) (pick (eqb k 0) (functions t) (cellAt cells 544 k)) ≡ tableField t k) refl refl
+        (zero-at _) (zero-at _) (zero-at _) (zero-at _) (zero-at _) (zero-at _)
+
+    past : (s k : ℕ) → s < 544 → Dec (s < 512) → filledTo t 0 0 0 s k ≡ 0
+    past s k a (yes b) = of-node t 0 0 0 s k b
+        ∙ ap (λ x. upTo x (λ n. nodeField t n k) (numberAt 512 s)) (none (ltb k 6))
+        ∙ upTo-past (λ n. nodeField t n k) 0 (numberAt 512 s) (numberAt-low 512 s (omega arith))
+    past s k a (no b) = of-function t 0 0 0 s k (omega arith) a
+        ∙ upTo-past (λ f. functionField t f k) 0 (numberAt 32 (s - 512)) (numberAt-low 32 (s - 512) (omega arith))
+
+    each : (s k : ℕ) → s < 545 → k < 8 → Dec (s ≡ 544)
+        → cellAt (putCell (putCell cells 544 0 (functions t)) 544 1 (nodes t)) s k ≡ filledTo t 0 0 0 s k
+    each s k a b (yes q) = rw q (two .here k b ∙ own k b)
+    each s k a b (no q) = two .other s k q b ∙ zero-at _ ∙ sym (past s k (omega arith) (decLt s 512))
+
+-- a function more
+module _ (t cells : List ℕ) (f : ℕ) (l : f < 32) (h : Filled t f 0 0 cells) where
+  function-row : Row (functionSlot (f + 1)) (λ k. pick (eqb k 2) (root t (f + 1)) (pick (eqb k 1) (spare t (f + 1))
+      (pick (eqb k 0) (params t (f + 1)) (cellAt cells (functionSlot (f + 1)) k)))) cells (withFunction t (f + 1) cells)
+  function-row =
+      let s = functionSlot (f + 1) in
+      let b : s < 545 = omega arith in
+      row-put s _ cells _ (h .size) b (row-put s _ cells _ (h .size) b (row-put s _ cells _ (h .size) b (row-start s cells)
+      0 (params t (f + 1)) (omega arith)) 1 (spare t (f + 1)) (omega arith)) 2 (root t (f + 1)) (omega arith)
+
+  -- f + 1 is the function whose slot this is
+  own-function : (g k : ℕ) → filledTo t g 0 0 (functionSlot (f + 1)) k ≡ upTo g (λ f. functionField t f k) (f + 1)
+  own-function g k =
+      let s = functionSlot (f + 1) in
+      of-function t g 0 0 s k (omega arith) (omega arith)
+      ∙ ap (λ n. upTo g (λ f. functionField t f k) n) (ap (numberAt 32) less ∙ slot-number 32 (f + 1) (omega arith) (omega arith))
+    where
+      less : functionSlot (f + 1) - 512 ≡ (f + 1) % 32
+      less = omega arith
+
+  pub filled-function : (cells′ : List ℕ) → cells′ ≡ withFunction t (f + 1) cells → Filled t (f + 1) 0 0 cells′
+  filled-function cells′ e = subst (Filled t (f + 1) 0 0) (sym e) (filled-row t cells _ f 0 0 (f + 1) 0 0 (functionSlot (f + 1)) _ h function-row
+      (λ k b. fits k b ∙ sym (own-function (f + 1) k ∙ upTo-in (λ f. functionField t f k) (f + 1) (f + 1) (omega arith))) on)
+    where
+      -- nothing stood there before
+      blank : (k : ℕ) → k < 8 → cellAt cells (functionSlot (f + 1)) k ≡ 0
+      blank k b = h .each (functionSlot (f + 1)) k (omega arith) b ∙ own-function f k
+          ∙ upTo-past (λ f. functionField t f k) f (f + 1) (omega arith)
+
+      fits : (k : ℕ) → k < 8 → pick (eqb k 2) (root t (f + 1)) (pick (eqb k 1) (spare t (f + 1))
+          (pick (eqb k 0) (params t (f + 1)) (cellAt cells (functionSlot (f + 1)) k))) ≡ functionField t (f + 1) k
+      fits = by-eight (λ k. pick (eqb k 2) (root t (f + 1)) (pick (eqb k 1) (spare t (f + 1))
+          (pick (eqb k 0) (params t (f + 1)) (cellAt cells (functionSlot (f + 1)) k))) ≡ functionField t (f + 1) k) refl refl refl
+          (blank 3 (omega arith)) (blank 4 (omega arith)) (blank 5 (omega arith)) (blank 6 (omega arith)) (blank 7 (omega arith))
+
+      on : (s k : ℕ) → s < 545 → k < 8 → (s ≡ functionSlot (f + 1) → ⊥) → filledTo t f 0 0 s k ≡ filledTo t (f + 1) 0 0 s k
+      on s k a b d = go (decLt s 512) (decLt s 544)
+        where
+          go : Dec (s < 512) → Dec (s < 544) → filledTo t f 0 0 s k ≡ filledTo t (f + 1) 0 0 s k
+          go (yes x) y = of-node t f 0 0 s k x ∙ sym (of-node t (f + 1) 0 0 s k x)
+          go (no x) (yes y) = of-function t f 0 0 s k (omega arith) y
+              ∙ upTo-on (λ f. functionField t f k) f (numberAt 32 (s - 512))
+              (λ e. let q = number-slot 32 (s - 512) (f + 1) (omega arith) e in d (omega arith))
+              ∙ sym (of-function t (f + 1) 0 0 s k (omega arith) y)
+          go (no x) (no y) = of-table t f 0 0 s k (omega arith) ∙ sym (of-table t (f + 1) 0 0 s k (omega arith))
+
+-- a node more: its record, or its function and parent
+module _ (t cells : List ℕ) (F n m j : ℕ) (low : 1 ≤ j) (high : j ≤ 512) (h : Filled t F n m cells) where
+  -- j is the node whose slot this is
+  own-node : (n m k : ℕ) → filledTo t F n m (nodeSlot j) k ≡ upTo (pick (ltb k 6) n m) (λ n. nodeField t n k) j
+  own-node n m k = of-node t F n m (nodeSlot j) k (omega arith)
+      ∙ ap (λ i. upTo (pick (ltb k 6) n m) (λ n. nodeField t n k) i) (slot-number 512 j low high)
+
+  -- what is filled already
+  pub filled-at : (k : ℕ) → k < 8 → j ≤ pick (ltb k 6) n m → cellAt cells (nodeSlot j) k ≡ nodeField t j k
+  filled-at k b i = h .each (nodeSlot j) k (omega arith) b ∙ own-node n m k ∙ upTo-in (λ n. nodeField t n k) (pick (ltb k 6) n m) j i
+
+  -- and what isn't
+  filled-blank : (k : ℕ) → k < 8 → pick (ltb k 6) n m < j → cellAt cells (nodeSlot j) k ≡ 0
+  filled-blank k b i = h .each (nodeSlot j) k (omega arith) b ∙ own-node n m k ∙ upTo-past (λ n. nodeField t n k) (pick (ltb k 6) n m) j i
+
+  node-on : (n′ m′ : ℕ) → ((k : ℕ) (i : ℕ) → (i ≡ j → ⊥) → upTo (pick (ltb k 6) n m) (λ n. nodeField t n k) i
+      ≡ upTo (pick (ltb k 6) n′ m′) (λ n. nodeField t n k) i)
+      → (s k : ℕ) → s < 545 → k < 8 → (s ≡ nodeSlot j → ⊥) → filledTo t F n m s k ≡ filledTo t F n′ m′ s k
+  node-on n′ m′ on s k a b d = go (decLt s 512) (decLt s 544)
+    where
+      go : Dec (s < 512) → Dec (s < 544) → filledTo t F n m s k ≡ filledTo t F n′ m′ s k
+      go (yes x) y = of-node t F n m s k x ∙ on k (numberAt 512 s) (λ e. d (number-slot 512 s j x e)) ∙ sym (of-node t F n′ m′ s k x)
+      go (no x) (yes y) = of-function t F n m s k (omega arith) y ∙ sym (of-function t F n′ m′ s k (omega arith) y)
+      go (no x) (no y) = of-table t F n m s k (omega arith) ∙ sym (of-table t F n′ m′ s k (omega arith))
+
+-- by which of its numbers are filled
+by-part : (P : ℕ → Type 0) (k n m : ℕ) → P n → P m → P (pick (ltb k 6) n m)
+by-part P k n m a b = go (ltb k 6)
+  where
+    go : (x : Bool) → P (pick x n m)
+    go true = a
+    go false = b
+
+pub filled-node : (t cells : List ℕ) (F n : ℕ) → n < 512 → Filled t F n 0 cells
+    → (cells′ : List ℕ) → cells′ ≡ withNode t (n + 1) cells → Filled t F (n + 1) 0 cells′
+filled-node t cells F n l h cells′ e = subst (Filled t F (n + 1) 0) (sym e) (filled-row t cells _ F n 0 F (n + 1) 0 (nodeSlot (n + 1)) W h row (λ k b. fits k b ∙ sym (full k))
+    (node-on t cells F n 0 (n + 1) (omega arith) (omega arith) h (n + 1) 0 on))
+  where
+    W : ℕ → ℕ
+    W k = pick (eqb k 5) (next t (n + 1)) (pick (eqb k 4) (first t (n + 1)) (pick (eqb k 3) (high t (n + 1)) (pick (eqb k 2) (low t (n + 1))
+        (pick (eqb k 1) (extra t (n + 1)) (pick (eqb k 0) (kind t (n + 1)) (cellAt cells (nodeSlot (n + 1)) k))))))
+
+    row : Row (nodeSlot (n + 1)) W cells (withNode t (n + 1) cells)
+    row =
+        let s = nodeSlot (n + 1) in
+        let b : s < 545 = omega arith in
+        let z = h .size in
+        let r₁ = row-put s _ cells _ z b (row-start s cells) 0 (kind t (n + 1)) (omega arith) in
+        let r₂ = row-put s _ cells _ z b r₁ 1 (extra t (n + 1)) (omega arith) in
+        let r₃ = row-put s _ cells _ z b r₂ 2 (low t (n + 1)) (omega arith) in
+        let r₄ = row-put s _ cells _ z b r₃ 3 (high t (n + 1)) (omega arith) in
+        let r₅ = row-put s _ cells _ z b r₄ 4 (first t (n + 1)) (omega arith) in
+        row-put s _ cells _ z b r₅ 5 (next t (n + 1)) (omega arith)
+
+    -- its own slot: the record, and nothing yet of function and parent
+    own : ℕ → ℕ
+    own k = pick (ltb k 6) (nodeField t (n + 1) k) 0
+
+    full : (k : ℕ) → filledTo t F (n + 1) 0 (nodeSlot (n + 1)) k ≡ own k
+    full k = own-node t cells F n 0 (n + 1) (omega arith) (omega arith) h (n + 1) 0 k ∙ go (ltb k 6)
+      where
+        go : (x : Bool) → upTo (pick x (n + 1) 0) (λ n. nodeField t n k) (n + 1) ≡ pick x (nodeField t (n + 1) k) 0
+        go true = upTo-in (λ n. nodeField t n k) (n + 1) (n + 1) (omega arith)
+        go false = upTo-past (λ n. nodeField t n k) 0 (n + 1) (omega arith)
+
+    blank : (k : ℕ) → k < 8 → pick (ltb k 6) n 0 ≤ n → cellAt cells (nodeSlot (n + 1)) k ≡ 0
+    blank k b i = filled-blank t cells F n 0 (n + 1) (omega arith) (omega arith) h k b (omega arith)
+
+    fits : (k : ℕ) → k < 8 → W k ≡ own k
+    fits = by-eight (λ k. W k ≡ own k) refl refl refl refl refl refl (blank 6 (omega arith) (omega arith)) (blank 7 (omega arith) (omega arith))
+
+    on : (k i : ℕ) → (i ≡ n + 1 → ⊥) → upTo (pick (ltb k 6) n 0) (λ n. nodeField t n k) i
+        ≡ upTo (pick (ltb k 6) (n + 1) 0) (λ n. nodeField t n k) i
+    on k i d = go (ltb k 6)
+      where
+        go : (x : Bool) → upTo (pick x n 0) (λ n. nodeField t n k) i ≡ upTo (pick x (n + 1) 0) (λ n. nodeField t n k) i
+        go true = upTo-on (λ n. nodeField t n k) n i d
+        go false = refl
+
+-- and its function and parent
+pub filled-kin : (t cells : List ℕ) (F N n x y : ℕ) → n < 512 → n + 1 ≤ N → Filled t F N n cells → x ≡ owner t (n + 1) → y ≡ parent t (n + 1)
+    → Filled t F N (n + 1) (putCell (putCell cells (nodeSlot (n + 1)) 6 x) (nodeSlot (n + 1)) 7 y)
+filled-kin t cells F N n x y l i h ex ey = filled-row t cells _ F N n F N (n + 1) (nodeSlot (n + 1)) W h row (λ k b. fits k b ∙ sym (full k))
+    (node-on t cells F N n (n + 1) (omega arith) (omega arith) h N (n + 1) on)
+  where
+    W : ℕ → ℕ
+    W k = pick (eqb k 7) y (pick (eqb k 6) x (cellAt cells (nodeSlot (n + 1)) k))
+
+    row : Row (nodeSlot (n + 1)) W cells (putCell (putCell cells (nodeSlot (n + 1)) 6 x) (nodeSlot (n + 1)) 7 y)
+    row =
+        let s = nodeSlot (n + 1) in
+        let b : s < 545 = omega arith in
+        row-put s _ cells _ (h .size) b (row-put s _ cells _ (h .size) b (row-start s cells) 6 x (omega arith)) 7 y (omega arith)
+
+    full : (k : ℕ) → filledTo t F N (n + 1) (nodeSlot (n + 1)) k ≡ nodeField t (n + 1) k
+    full k = own-node t cells F N n (n + 1) (omega arith) (omega arith) h N (n + 1) k
+        ∙ upTo-in (λ n. nodeField t n k) _ (n + 1) (by-part (λ m. n + 1 ≤ m) k N (n + 1) i (omega arith))
+
+    old : (k : ℕ) → k < 8 → n + 1 ≤ pick (ltb k 6) N n → cellAt cells (nodeSlot (n + 1)) k ≡ nodeField t (n + 1) k
+    old = filled-at t cells F N n (n + 1) (omega arith) (omega arith) h
+
+    fits : (k : ℕ) → k < 8 → W k ≡ nodeField t (n + 1) k
+    fits = by-eight (λ k. W k ≡ nodeField t (n + 1) k) (old 0 (omega arith) i) (old 1 (omega arith) i) (old 2 (omega arith) i)
+        (old 3 (omega arith) i) (old 4 (omega arith) i) (old 5 (omega arith) i) ex ey
+
+    on : (k j : ℕ) → (j ≡ n + 1 → ⊥) → upTo (pick (ltb k 6) N n) (λ n. nodeField t n k) j
+        ≡ upTo (pick (ltb k 6) N (n + 1)) (λ n. nodeField t n k) j
+    on k j d = go (ltb k 6)
+      where
+        go : (x : Bool) → upTo (pick x N n) (λ n. nodeField t n k) j ≡ upTo (pick x N (n + 1)) (λ n. nodeField t n k) j
+        go true = refl
+        go false = upTo-on (λ n. nodeField t n k) n j d
+
+-- what is read of an array that is filled so far
+pub function-filled : (t cells : List ℕ) (F n m : ℕ) → Filled t F n m cells → (f k : ℕ) → 1 ≤ f → f ≤ F → f ≤ 32 → k < 8
+    → cellAt cells (functionSlot f) k ≡ functionField t f k
+function-filled t cells F n m h f k low high small b =
+    let less : functionSlot f - 512 ≡ f % 32 = omega arith in
+    h .each (functionSlot f) k (omega arith) b ∙ of-function t F n m (functionSlot f) k (omega arith) (omega arith)
+    ∙ ap (λ j. upTo F (λ f. functionField t f k) j) (ap (numberAt 32) less ∙ slot-number 32 f low small)
+    ∙ upTo-in (λ f. functionField t f k) F f high
+
+module _ (t cells : List ℕ) (fr : Framed t) where
+  functions-filled : (n m : ℕ) → Filled t (functions t) n m cells → (f k : ℕ) → IsFunction t f → k < 8
+      → cellAt cells (functionSlot f) k ≡ functionField t f k
+  functions-filled n m h f k i b =
+      function-filled t cells (functions t) n m h f k (i .0) (i .1) (omega (arith, i .1, fr .F-high)) b
+
+  pub sizes-filled : (f n m : ℕ) → Filled t f n m cells → (k : ℕ) → k < 8 → cellAt cells tableSlot k ≡ tableField t k
+  sizes-filled f n m h k b = h .each tableSlot k (omega arith) b ∙ of-table t f n m tableSlot k (omega arith)
+
+  pub raw : (m : ℕ) → Filled t (functions t) (nodes t) m cells → Raw t cells
+  raw m h = record {
+    size = h .size;
+    node = λ n k i b. filled-at t cells (functions t) (nodes t) m n (i .0) (omega (arith, i .1, fr .N-high)) h k (omega arith)
+        (rw (lt-ltb k 6 b) (i .1));
+    function = functions-filled (nodes t) m h;
+    own = sizes-filled (functions t) (nodes t) m h;
+  }
+
+  pub all-read : Filled t (functions t) (nodes t) (nodes t) cells → Cells t cells
+  all-read h = record {
+    size = h .size;
+    node = λ n k i b. filled-at t cells (functions t) (nodes t) (nodes t) n (i .0) (omega (arith, i .1, fr .N-high)) h k b
+        (by-part (λ m. n ≤ m) k (nodes t) (nodes t) (i .1) (i .1));
+    function = functions-filled (nodes t) (nodes t) h;
+    own = sizes-filled (functions t) (nodes t) (nodes t) h;
+  }
+
+  -- an accepted table, decoded
+  module _ (e : Taken t) where
+    pick-same : (x : Bool) (n : ℕ) → pick x n n ≡ n
+    pick-same true n = refl
+    pick-same false n = refl
+
+    all-filled : (s k : ℕ) → filledTo t (functions t) (nodes t) (nodes t) s k ≡ ifAccepted (checkOf t) (cellOf t s k) 0
+    unfolding cellOf
+    all-filled s k = same ∙ sym (ap (λ v. ifAccepted v (cellOf t s k) 0) e)
+      where
+        same : filledTo t (functions t) (nodes t) (nodes t) s k ≡ cellOf t s k
+        same = rw (pick-same (ltb k 6) (nodes t))
+
+    pub decoded : Filled t (functions t) (nodes t) (nodes t) cells → Decoded t cells
+    decoded h = record { size = h .size; each = λ s k a b. h .each s k a b ∙ all-filled s k }
+
+    pub filled : Decoded t cells → Filled t (functions t) (nodes t) (nodes t) cells
+    filled h = record { size = h .size; each = λ s k a b. h .each s k a b ∙ sym (all-filled s k) }
+
+-- a refused one, all zeros
+pub decoded-refused : (t : List ℕ) (k p : ℕ) → checkOf t ≡ refused k p → Decoded t (replicate 4360 0)
+unfolding cellAt
+decoded-refused t k p e = record {
+  size = length-replicate {A = ℕ} 4360 0;
+  each = λ s i a b. blank-at {A = ℕ} 4360 (8 * s + i) 0 ∙ sym (ap (λ v. ifAccepted v (cellOf t s i) 0) e);
+}
+
+-- the word is its two halves
+pub word-read : (t cells : List ℕ) (top : ℕ) → 4 ≤ top → CellsTo t cells top → (n : ℕ) → IsNode t n
+    → cellAt cells (nodeSlot n) 2 + 65536 * cellAt cells (nodeSlot n) 3 ≡ word t n
+unfolding word fourAt low high
+word-read t cells top b h n i = ap₂ (λ x y. x + 65536 * y) (h .node n 2 i (omega arith)) (h .node n 3 i (omega arith))

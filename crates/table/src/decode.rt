@@ -1,0 +1,69 @@
+// Records of a table of the right size put into their slots.
+use crate::Function;
+use crate::Node;
+use crate::decoded;
+use crate::decoded::Cells;
+ghost use mathlib.Core.Path.{_≡_};
+ghost use Prim.Native.Nat.{_+_, _*_, _<_};
+ghost use lib.ListN.{length};
+ghost use Rattle.table.specs.Bytes.{twoAt, functions, nodes};
+ghost use Rattle.table.specs.Decoded.{tableSlot};
+ghost use Rattle.table.specs.Working.{Framed, IsFunction, At, putCell, withNode, withFunction};
+
+fn wide(x: u8) -> u16
+    ensures { λ r. ⌜ r ≡ x ⌝ }
+{
+    x as u16
+}
+
+// The number of two bytes, the lower one first.
+pub(crate) fn two(low: u8, high: u8) -> u16
+    ensures { λ r. ⌜ r ≡ low + 256 * high ⌝ }
+{
+    (low as u16) + 256 * (high as u16)
+}
+
+// The two bytes at a place that is inside.
+pub(crate) fn two_at(table: &[u8], at: usize) -> u16
+    requires { ⌜ at + 1 < length (now table) ⌝ }
+    ensures { λ r. ⌜ r ≡ twoAt (now (table .entry)) at ⌝ }
+{
+    two(table[at], table[at + 1])
+}
+
+// F and N.
+pub(crate) fn sizes(table: &[u8], cells: &mut Cells)
+    requires { ⌜ Framed (now table) ⌝ }
+    ensures { λ _. ⌜ now (cells .exit)
+        ≡ putCell (putCell (now (cells .entry)) tableSlot 0 (functions (now (table .entry)))) tableSlot 1 (nodes (now (table .entry))) ⌝ }
+{
+    decoded::put(cells, 544, 0, two_at(table, 0));
+    decoded::put(cells, 544, 1, two_at(table, 2));
+}
+
+pub(crate) fn function(table: &[u8], f: Function, cells: &mut Cells)
+    requires { ⌜ Framed (now table) × IsFunction (now table) (f .0) ⌝ }
+    ensures { λ _. ⌜ now (cells .exit) ≡ withFunction (now (table .entry)) (f .0) (now (cells .entry)) ⌝ }
+{
+    let at = 4 * (f.0 as usize);
+    let slot = decoded::function_slot(f);
+    decoded::put(cells, slot, 0, wide(table[at]));
+    decoded::put(cells, slot, 1, wide(table[at + 1]));
+    decoded::put(cells, slot, 2, two_at(table, at + 2));
+}
+
+// Node n, of a table whose node records begin at `base`.
+pub(crate) fn node(table: &[u8], base: usize, n: Node, cells: &mut Cells)
+    requires { ⌜ At (now table) base (n .0) ⌝ }
+    ensures { λ _. ⌜ now (cells .exit) ≡ withNode (now (table .entry)) (n .0) (now (cells .entry)) ⌝ }
+{
+    let k = n.0 as usize;
+    let at = base + 10 * k - 10;
+    let slot = decoded::node_slot(n);
+    decoded::put(cells, slot, 0, wide(table[at]));
+    decoded::put(cells, slot, 1, wide(table[at + 1]));
+    decoded::put(cells, slot, 2, two_at(table, at + 2));
+    decoded::put(cells, slot, 3, two_at(table, at + 4));
+    decoded::put(cells, slot, 4, two_at(table, at + 6));
+    decoded::put(cells, slot, 5, two_at(table, at + 8));
+}
