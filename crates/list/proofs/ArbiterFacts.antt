@@ -13,7 +13,7 @@ use Rattle.list.specs.Conflict.{C, C*, PC, A, A*}
 use Rattle.table.specs.Pick.{mixed, pick, Range}
 use Rattle.list.specs.CallSets.{callee-at, sets, Listed}
 use Rattle.list.proofs.ListedCalls.{Calling, Calling*, C-all, C-all*, sets-all}
-use Rattle.list.specs.Arbiters.{Test, nothing, joined, anyUpTo, callsIn, callsIn*, meeting, parallel, conflicts, conflicts*}
+use Rattle.list.specs.Arbiters.{Test, noCalls, joined, anyUpTo, callsIn, callsIn*, meeting, parallel, conflicts, conflicts*}
 use Rattle.list.specs.Arbiters.{callsOf, listedIn}
 
 -- a test that passes exactly if P holds
@@ -61,7 +61,7 @@ any-in (suc k) p i a b e = go (ℕ-discrete i (suc k)) (p (suc k)) refl (λ h. a
 module _ (N : ℕ) (calleeᵇ callee : ℕ → ℕ) (same : (n : ℕ) → calleeᵇ n ≡ callee n) (Bᵇ : ℕ → Test) (B : ℕ → Calls)
     (decided : (g m : ℕ) → Decides (Bᵇ g m) (B g m)) (ranged : (g m : ℕ) → B g m → Range N m) where
   mutual
-    unfolding callsIn nothing joined
+    unfolding callsIn noCalls joined
 
     pub C-decides : (e : Expr) (m : ℕ) → Decides (callsIn N calleeᵇ Bᵇ e m) (C callee B e m)
     C-decides (const n v) m = no-decides
@@ -105,7 +105,7 @@ module _ (N : ℕ) (calleeᵇ callee : ℕ → ℕ) (same : (n : ℕ) → callee
 
   PC-decides : (tᵇ : Test) (t : Calls) (es : Exprs) → ((m : ℕ) → Decides (tᵇ m) (t m)) → ((m : ℕ) → t m → Range N m)
       → Calling* (Range N) es → (m : ℕ) → Decides (parallel N calleeᵇ Bᵇ tᵇ es m) (PC callee B t es m)
-  unfolding parallel nothing joined
+  unfolding parallel noCalls joined
   PC-decides tᵇ t none y r k m = no-decides
   PC-decides tᵇ t (some e es) y r k m =
       or-decides (meeting N calleeᵇ Bᵇ (callsIn N calleeᵇ Bᵇ e) (joined tᵇ (callsIn* N calleeᵇ Bᵇ es)) m)
@@ -117,16 +117,16 @@ module _ (N : ℕ) (calleeᵇ callee : ℕ → ℕ) (same : (n : ℕ) → callee
       (λ i. or-decides (tᵇ i) (callsIn N calleeᵇ Bᵇ e i) (y i) (C-decides e i))
       (λ i h. ⊎-elim (λ u. r i u) (λ u. C-all (Range N) callee B ranged e (λ c g j. k c g (inl j)) i u) h) (λ c g j. k c g (inr j)) m)
 
-  pub first-decides : (es : Exprs) → Calling* (Range N) es → (m : ℕ) → Decides (parallel N calleeᵇ Bᵇ nothing es m) (PC callee B ∅ es m)
-  unfolding nothing
-  first-decides es k m = PC-decides nothing ∅ es (λ i. no-decides) (λ i h. absurd h) k m
+  pub first-decides : (es : Exprs) → Calling* (Range N) es → (m : ℕ) → Decides (parallel N calleeᵇ Bᵇ noCalls es m) (PC callee B ∅ es m)
+  unfolding noCalls
+  first-decides es k m = PC-decides noCalls ∅ es (λ i. no-decides) (λ i h. absurd h) k m
 
   kids : (es : Exprs) → Calling* (Range N) es → (m : ℕ) → Decides (conflicts* N calleeᵇ Bᵇ es m) (A* callee B es m)
-      → Decides (parallel N calleeᵇ Bᵇ nothing es m || conflicts* N calleeᵇ Bᵇ es m) ((PC callee B ∅ es ∪ A* callee B es) m)
-  kids es r m x = or-decides (parallel N calleeᵇ Bᵇ nothing es m) (conflicts* N calleeᵇ Bᵇ es m) (first-decides es r m) x
+      → Decides (parallel N calleeᵇ Bᵇ noCalls es m || conflicts* N calleeᵇ Bᵇ es m) ((PC callee B ∅ es ∪ A* callee B es) m)
+  kids es r m x = or-decides (parallel N calleeᵇ Bᵇ noCalls es m) (conflicts* N calleeᵇ Bᵇ es m) (first-decides es r m) x
 
   mutual
-    unfolding conflicts nothing joined
+    unfolding conflicts noCalls joined
 
     pub A-decides : (e : Expr) → Calling (Range N) e → (m : ℕ) → Decides (conflicts N calleeᵇ Bᵇ e m) (A callee B e m)
     A-decides (const n v) r m = no-decides
@@ -139,7 +139,7 @@ module _ (N : ℕ) (calleeᵇ callee : ℕ → ℕ) (same : (n : ℕ) → callee
         (or-decides (conflicts N calleeᵇ Bᵇ b m) (conflicts N calleeᵇ Bᵇ c m) (A-decides b (λ x f i. r x f (inr (inl i))) m)
         (A-decides c (λ x f i. r x f (inr (inr i))) m))
     A-decides (bind n ds b) r m =
-        or-decides (parallel N calleeᵇ Bᵇ nothing ds m || conflicts* N calleeᵇ Bᵇ ds m) (conflicts N calleeᵇ Bᵇ b m)
+        or-decides (parallel N calleeᵇ Bᵇ noCalls ds m || conflicts* N calleeᵇ Bᵇ ds m) (conflicts N calleeᵇ Bᵇ b m)
         (kids ds (λ x f i. r x f (inl i)) m (A-decides* ds (λ x f i. r x f (inl i)) m)) (A-decides b (λ x f i. r x f (inr i)) m)
     A-decides (bound n d) r m = no-decides
 

@@ -17,11 +17,12 @@ use Rattle.table.specs.Expressions.{exprAt, bodyOf}
 use Rattle.table.specs.Working.{IsNode, IsFunction}
 use Rattle.table.proofs.CallPlaces.{call-node}
 use Rattle.table.proofs.LaidOut.{laid, call-here}
-use Rattle.list.specs.Arbiters.{Test, nothing, joined, callsIn, callsIn*, parallel, conflicts, conflicts*, callsOf}
+use Rattle.list.specs.Arbiters.{Test, noCalls, joined, callsIn, callsIn*, parallel, conflicts, conflicts*, callsOf}
 use Rattle.list.specs.Arbiters.{listedIn}
 use Rattle.list.specs.CallSets.{callee, callee-at, sets}
 use Rattle.list.specs.Tags.{calleeOf, listed}
-use Rattle.list.specs.Working.{Callee, Taken, callsBy, callsAt, conflictsAt}
+use Rattle.table.specs.Working.{Taken}
+use Rattle.list.specs.Working.{Callee, callsBy, callsAt, conflictsAt}
 use Rattle.list.proofs.ListedCalls.{Calling, C-all, sets-all, listed-all}
 use Rattle.list.proofs.ArbiterFacts.{C-decides, sets-decides, any-in}
 use Rattle.list.proofs.Callees.{callee-word, listed-exactly}
@@ -37,7 +38,7 @@ or-right false b e = e
 -- sets that agree on the callees of an expression
 module _ (N : ℕ) (target : ℕ → ℕ) (B B′ : ℕ → Test) (m : ℕ) where
   mutual
-    unfolding callsIn joined nothing
+    unfolding callsIn joined noCalls
 
     over : (e : Expr) → ((c g : ℕ) → CallIn c g e → B g m ≡ B′ g m) → callsIn N target B e m ≡ callsIn N target B′ e m
     over (const n v) f = refl
@@ -97,7 +98,7 @@ module _ (N : ℕ) (target : ℕ → ℕ) (B : ℕ → Test) (m : ℕ) (u : Expr
   K* es = conflicts* N target B es m
 
   abbrev P : Exprs → Bool
-  P es = parallel N target B nothing es m
+  P es = parallel N target B noCalls es m
 
   mutual
     unfolding conflicts joined

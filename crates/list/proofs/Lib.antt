@@ -16,7 +16,6 @@ pub mod SiblingLaws
 pub mod ChainLaws
 pub mod ListLaws
 pub mod SiteLaws
-pub mod CellLaws
 pub mod NodeWalks
 pub mod WalkMeasure
 pub mod TagFacts
@@ -24,7 +23,7 @@ pub mod Totals
 pub mod RecordLoops
 pub mod RecordVerdicts
 pub mod RecordSlice
-pub mod Owners
+pub mod TagsFit
 pub mod TagLoops
 pub mod TagVerdicts
 pub mod PaperList

@@ -18,7 +18,8 @@ use Rattle.table.specs.Working.{IsFunction}
 use Rattle.table.proofs.Passed.{passed}
 use Rattle.list.specs.Arbiters.{Test, listedIn}
 use Rattle.list.specs.Tags.{tagged, listed, bitsFrom, bytesFrom, tagLength, tagsOf}
-use Rattle.list.specs.Working.{bitAt, Bit, Taken, callsBy, conflictsAt, Seen, Memo}
+use Rattle.table.specs.Working.{Taken}
+use Rattle.list.specs.Working.{bitAt, Bit, callsBy, conflictsAt, Seen, Memo}
 use Rattle.list.proofs.BitLaws.{none-tagged, tagged-bit, zeros-at}
 use Rattle.list.proofs.ArbiterFacts.{any-out}
 use Rattle.list.proofs.ParallelLaws.{by-true}

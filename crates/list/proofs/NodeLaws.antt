@@ -17,16 +17,19 @@ use Rattle.table.proofs.Links.{link}
 use Rattle.table.proofs.Family.{first-node, next-node, owner-root, owner-first, owner-next, owner-in}
 use Rattle.table.proofs.Tree.{exprs-none, exprs-some, defs-none, defs-some}
 use Rattle.table.proofs.View.{View, is-const, is-param, is-prim, is-call, is-self, is-cond, is-bind, is-bound, view, kids-three}
-use Rattle.list.specs.Arbiters.{Test, nothing, joined, callsIn, parallel, conflicts}
+use Rattle.list.specs.Arbiters.{Test, noCalls, joined, callsIn, parallel, conflicts}
 use Rattle.list.specs.Tags.{calleeOf}
 use Rattle.list.specs.CallSets.{callee}
-use Rattle.list.specs.Working.{Taken, callsBy, callsAt, callsAt*, conflictsAt, conflictsAt*, parallelAt, calledIn}
-use Rattle.list.specs.Working.{twiceIn, entryAt, siblings, kidsAt, Within, Beside, Reach, Cells, Cell, Ready}
+use Rattle.table.specs.Decoded.{cellAt, nodeSlot, nodeField}
+use Rattle.table.specs.Working.{Taken}
+use Rattle.list.specs.Working.{callsBy, callsAt, callsAt*, conflictsAt, conflictsAt*, parallelAt, calledIn}
+use Rattle.list.specs.Working.{twiceIn, entryAt, siblings, kidsAt, Within, Beside, Ready}
 use Rattle.list.proofs.Meets.{or-no}
 use Rattle.list.proofs.CallLaws.{or-left, or-right, calls-called, node-listed}
 use Rattle.list.proofs.ParallelLaws.{called-none}
 use Rattle.list.proofs.WalkLaws.{joined-is, or-swap}
 use Rattle.list.proofs.Callees.{callee-word}
+use Rattle.list.proofs.SiteLaws.{call-low}
 
 -- the calls s and the conflicts x of an expression
 pub record Is (t : List ℕ) (e : Expr) (s x : Test) : Type 0 where
@@ -34,17 +37,17 @@ pub record Is (t : List ℕ) (e : Expr) (s x : Test) : Type 0 where
   pub conflicts : (m : ℕ) → conflictsAt t e m ≡ x m
 
 module _ (t : List ℕ) where
-  is-nothing : (e : Expr) → (n v : ℕ) → e ≡ const n v → Is t e nothing nothing
+  is-noCalls : (e : Expr) → (n v : ℕ) → e ≡ const n v → Is t e noCalls noCalls
   unfolding callsAt callsIn conflictsAt conflicts
-  is-nothing e n v p = record { calls = λ m. ap (λ u. callsAt t u m) p; conflicts = λ m. ap (λ u. conflictsAt t u m) p }
+  is-noCalls e n v p = record { calls = λ m. ap (λ u. callsAt t u m) p; conflicts = λ m. ap (λ u. conflictsAt t u m) p }
 
-  is-nothing-param : (e : Expr) → (n v : ℕ) → e ≡ param n v → Is t e nothing nothing
+  is-noCalls-param : (e : Expr) → (n v : ℕ) → e ≡ param n v → Is t e noCalls noCalls
   unfolding callsAt callsIn conflictsAt conflicts
-  is-nothing-param e n v p = record { calls = λ m. ap (λ u. callsAt t u m) p; conflicts = λ m. ap (λ u. conflictsAt t u m) p }
+  is-noCalls-param e n v p = record { calls = λ m. ap (λ u. callsAt t u m) p; conflicts = λ m. ap (λ u. conflictsAt t u m) p }
 
-  is-nothing-bound : (e : Expr) → (n v : ℕ) → e ≡ bound n v → Is t e nothing nothing
+  is-noCalls-bound : (e : Expr) → (n v : ℕ) → e ≡ bound n v → Is t e noCalls noCalls
   unfolding callsAt callsIn conflictsAt conflicts
-  is-nothing-bound e n v p = record { calls = λ m. ap (λ u. callsAt t u m) p; conflicts = λ m. ap (λ u. conflictsAt t u m) p }
+  is-noCalls-bound e n v p = record { calls = λ m. ap (λ u. callsAt t u m) p; conflicts = λ m. ap (λ u. conflictsAt t u m) p }
 
   is-operation : (e : Expr) (n op : ℕ) (es : Exprs) → e ≡ prim n op es
       → Is t e (callsAt* t es) (joined (parallelAt t es) (conflictsAt* t es))
@@ -62,7 +65,7 @@ module _ (t : List ℕ) where
 
   is-choice : (e : Expr) (n : ℕ) (a b c : Expr) → e ≡ cond n a b c
       → Is t e (callsAt* t (some a (some b (some c none)))) (conflictsAt* t (some a (some b (some c none))))
-  unfolding callsAt callsAt* callsIn conflictsAt conflictsAt* conflicts joined nothing
+  unfolding callsAt callsAt* callsIn conflictsAt conflictsAt* conflicts joined noCalls
   is-choice e n a b c p = record {
     calls = λ m. ap (λ u. callsAt t u m) p ∙ ap (λ z. callsAt t a m || (callsAt t b m || z)) (sym (or-no (callsAt t c m)));
     conflicts = λ m. ap (λ u. conflictsAt t u m) p
@@ -93,11 +96,11 @@ module _ (t : List ℕ) where
 
   -- siblings, link by link
   pub none-calls : (m : ℕ) → callsAt* t none m ≡ false
-  unfolding callsAt* callsIn nothing
+  unfolding callsAt* callsIn noCalls
   none-calls m = refl
 
   pub none-conflicts : (m : ℕ) → conflictsAt* t none m ≡ false
-  unfolding conflictsAt* conflicts nothing
+  unfolding conflictsAt* conflicts noCalls
   none-conflicts m = refl
 
   pub none-twice : (h : ℕ) → twiceIn t none h ≡ false
@@ -105,7 +108,7 @@ module _ (t : List ℕ) where
   none-twice h = refl
 
   pub none-parallel : (m : ℕ) → parallelAt t none m ≡ false
-  unfolding parallelAt parallel nothing
+  unfolding parallelAt parallel noCalls
   none-parallel m = refl
 
   pub some-calls : (e : Expr) (es : Exprs) (m : ℕ) → callsAt* t (some e es) m ≡ joined (callsAt t e) (callsAt* t es) m
@@ -122,11 +125,11 @@ module _ (t : List ℕ) where
   some-twice e es h = refl
 
   pub lone-calls : (e : Expr) (m : ℕ) → callsAt* t (some e none) m ≡ callsAt t e m
-  unfolding callsAt callsAt* callsIn joined nothing
+  unfolding callsAt callsAt* callsIn joined noCalls
   lone-calls e m = or-no (callsAt t e m)
 
   pub lone-conflicts : (e : Expr) (m : ℕ) → conflictsAt* t (some e none) m ≡ conflictsAt t e m
-  unfolding conflictsAt conflictsAt* conflicts joined nothing
+  unfolding conflictsAt conflictsAt* conflicts joined noCalls
   lone-conflicts e m = or-no (conflictsAt t e m)
 
   pub lone-twice : (e : Expr) (h : ℕ) → twiceIn t (some e none) h ≡ false
@@ -149,18 +152,18 @@ module _ (t : List ℕ) (f n : ℕ) (at : Within t f n) where
   v = view t ok n i
 
   -- a leaf
-  pub leaf : (kind t n ≡ 3 → ⊥) → (kind t n ≡ 4 → ⊥) → (kind t n ≡ 5 → ⊥) → (kind t n ≡ 6 → ⊥) → Is t (exprAt t n) nothing nothing
+  pub leaf : (kind t n ≡ 3 → ⊥) → (kind t n ≡ 4 → ⊥) → (kind t n ≡ 5 → ⊥) → (kind t n ≡ 6 → ⊥) → Is t (exprAt t n) noCalls noCalls
   leaf a b c d = go v
     where
-      go : View t n → Is t (exprAt t n) nothing nothing
-      go (is-const k z e) = is-nothing t (exprAt t n) n (word t n) e
-      go (is-param k z l e) = is-nothing-param t (exprAt t n) n (extra t n) e
+      go : View t n → Is t (exprAt t n) noCalls noCalls
+      go (is-const k z e) = is-noCalls t (exprAt t n) n (word t n) e
+      go (is-param k z l e) = is-noCalls-param t (exprAt t n) n (extra t n) e
       go (is-prim k q e) = absurd (a k)
       go (is-call k l h q e) = absurd (b k)
       go (is-self k w l q e) = absurd (b k)
       go (is-cond k x y w z e) = absurd (c k)
       go (is-bind k x y q e) = absurd (d k)
-      go (is-bound k z s e) = is-nothing-bound t (exprAt t n) n (word t n) e
+      go (is-bound k z s e) = is-noCalls-bound t (exprAt t n) n (word t n) e
 
   -- an operation, a call: what it enters, and what the children call, side by side
   pub apart : 3 ≤ kind t n → kind t n ≤ 4 → Is t (exprAt t n) (joined (entryAt t n) (callsAt* t (kidsAt t false n)))
@@ -376,18 +379,12 @@ pub owner-few : (t : List ℕ) (f n : ℕ) → Within t f n → (1 ≤ f) × (f 
 owner-few t f n at =
     subst (IsFunction t) (at .own) (owner-in t (passed t (functions t) (nodes t) (at .taken) .0 .linking) n (at .node))
 
--- the record of a node is in the table
-pub reach-in : (t : List ℕ) → Taken t → (n : ℕ) → IsNode t n → Reach t n
-reach-in t ok n i =
-    let p = passed t (functions t) (nodes t) ok .0 in
-    record {
-      framed = record { F-low = p .F-low; F-high = p .F-high; N-low = p .N-low; N-high = p .N-high; size = p .size };
-      node = i;
-    }
+-- what was read of a node
+pub told : (t : List ℕ) (f n : ℕ) (sites cells : List ℕ) → Ready t sites cells → Within t f n → (k r : ℕ) → k < 8
+    → r ≡ cellAt cells (nodeSlot n) k → r ≡ nodeField t n k
+told t f n sites cells y at k r l e = e ∙ y .read .node n k (at .node) l
 
--- the fields of a node are among the cells
-pub cell-in : (t cells : List ℕ) → Taken t → Cells t cells → (n : ℕ) → IsNode t n → Cell t cells n
-cell-in t cells ok k n i = record { read = k; node = i; few = omega (arith, i .1, few t ok .1) }
-
-pub cell : (t : List ℕ) (f n : ℕ) (sites cells : List ℕ) → Ready t sites cells → Within t f n → Cell t cells n
-cell t f n sites cells k at = cell-in t cells (at .taken) (k .read) n (at .node)
+-- a call's word is its low half
+pub told-callee : (t : List ℕ) (f n : ℕ) (sites cells : List ℕ) → Ready t sites cells → Within t f n → kind t n ≡ 4 → (r : ℕ)
+    → r ≡ cellAt cells (nodeSlot n) 2 → r ≡ word t n
+told-callee t f n sites cells y at k r e = e ∙ y .read .node n 2 (at .node) (omega arith) ∙ call-low t (at .taken) n (at .node) k

@@ -11,9 +11,10 @@ use Rattle.table.specs.Bytes.{root, kind, word, first}
 use Rattle.table.specs.Expressions.{exprAt, finalAt}
 use Rattle.table.specs.Working.{IsFunction}
 use Rattle.list.specs.declared.walk.Siblings.{Siblings}
-use Rattle.list.specs.Arbiters.{Test, nothing, joined}
+use Rattle.list.specs.Arbiters.{Test, noCalls, joined}
 use Rattle.list.specs.Tags.{tagged, calleeOf}
-use Rattle.list.specs.Working.{Taken, callsBy, callsAt, callsAt*, conflictsAt, conflictsAt*, parallelAt, siblings, kidsAt, Seen}
+use Rattle.table.specs.Working.{Taken}
+use Rattle.list.specs.Working.{callsBy, callsAt, callsAt*, conflictsAt, conflictsAt*, parallelAt, siblings, kidsAt, Seen}
 use Rattle.list.specs.Working.{entryAt, Adds, Kept, Memo, Grown, Walk, Onto, OntoNode, OntoKids, Within, KindTo, Chained, Sided}
 use Rattle.list.proofs.WalkLaws.{walk-none, walk-same, walk-entry, walk-body}
 use Rattle.list.proofs.OntoLaws.{onto-one, onto-walk, onto-same, onto-two}
@@ -30,18 +31,18 @@ module _ (t : List ℕ) (f n : ℕ) (at : Within t f n) where
   pub call-kind : (k : ℕ) → KindTo t n k 4 → (k ≡ 3 → ⊥) → kind t n ≡ 4
   call-kind k e q = sym (e .is) ∙ omega (arith, e .low, e .high, q)
 
-  none-there : (m : ℕ) → nothing m ≡ false
-  none-there = unfold nothing in (λ m. refl)
+  none-there : (m : ℕ) → noCalls m ≡ false
+  none-there = unfold noCalls in (λ m. refl)
 
   enter-none : (set b c r : List ℕ) → calleeOf t n ≡ 0 → length set ≡ 64 → Memo t b c r
-      → Walk t (entryAt t n) nothing 0 set set b c c r r
-  enter-none set b c r z l memo = walk-none t (entryAt t n) nothing set b c r (entry-none t n z) none-there l memo
+      → Walk t (entryAt t n) noCalls 0 set set b c c r r
+  enter-none set b c r z l memo = walk-none t (entryAt t n) noCalls set b c r (entry-none t n z) none-there l memo
 
   at-leaf : (k : ℕ) (set b c r : List ℕ) → k ≡ kind t n → (k ≡ 3 → ⊥) → (k ≡ 4 → ⊥) → (k ≡ 5 → ⊥) → (k ≡ 6 → ⊥) → length set ≡ 64
       → Memo t b c r → Walk t (callsAt t (exprAt t n)) (conflictsAt t (exprAt t n)) 0 set set b c c r r
   at-leaf k set b c r e x y z w l memo =
-      by-is nothing nothing 0 set set b c c r r (leaf t f n at (λ q. x (e ∙ q)) (λ q. y (e ∙ q)) (λ q. z (e ∙ q)) (λ q. w (e ∙ q)))
-      (walk-none t nothing nothing set b c r none-there none-there l memo)
+      by-is noCalls noCalls 0 set set b c c r r (leaf t f n at (λ q. x (e ∙ q)) (λ q. y (e ∙ q)) (λ q. z (e ∙ q)) (λ q. w (e ∙ q)))
+      (walk-none t noCalls noCalls set b c r none-there none-there l memo)
 
   -- kinds below 3 and above 6 are leaves
   pub at-low : (k : ℕ) (set b c r : List ℕ) → k ≡ kind t n → k < 3 → length set ≡ 64 → Memo t b c r
@@ -56,18 +57,18 @@ module _ (t : List ℕ) (f n : ℕ) (at : Within t f n) where
 
   -- an operation, a call: what it enters, then its children
   pub at-apart : (k mask mask′ mask″ : ℕ) (set set′ set″ b′ b″ c c′ c″ r r′ r″ : List ℕ) → KindTo t n k 6 → (k ≡ 5 → ⊥) → (k ≡ 6 → ⊥)
-      → Onto t (entryAt t n) nothing mask mask′ set set′ b′ c c′ r r′ → OntoKids t n mask′ mask″ set′ set″ b″ c′ c″ r′ r″
+      → Onto t (entryAt t n) noCalls mask mask′ set set′ b′ c c′ r r′ → OntoKids t n mask′ mask″ set′ set″ b″ c′ c″ r′ r″
       → OntoNode t n mask mask″ set set″ b″ c c″ r r″
   at-apart k mask mask′ mask″ set set′ set″ b′ b″ c c′ c″ r r′ r″ e x y v w =
       let es = kidsAt t false n in
       let held = joined (parallelAt t es) (conflictsAt* t es) in
       let is = apart t f n at (omega (arith, e .is, e .low)) (omega (arith, e .is, e .high, x, y)) in
-      onto-same t (joined (entryAt t n) (callsAt* t es)) (joined nothing held) mask set set″ b″ c c″ r r″ (callsAt t (exprAt t n))
+      onto-same t (joined (entryAt t n) (callsAt* t es)) (joined noCalls held) mask set set″ b″ c c″ r r″ (callsAt t (exprAt t n))
       (conflictsAt t (exprAt t n)) mask″ (is .calls) (λ m. is .conflicts m ∙ none-joined held m)
-      (onto-two t (entryAt t n) nothing mask set set′ b′ c c′ r r′ (callsAt* t es) held mask′ mask″ set″ b″ c″ r″ v w)
+      (onto-two t (entryAt t n) noCalls mask set set′ b′ c c′ r r′ (callsAt* t es) held mask′ mask″ set″ b″ c″ r″ v w)
     where
-      none-joined : (x : Test) (m : ℕ) → x m ≡ joined nothing x m
-      none-joined x = unfold joined nothing in (λ m. refl)
+      none-joined : (x : Test) (m : ℕ) → x m ≡ joined noCalls x m
+      none-joined x = unfold joined noCalls in (λ m. refl)
 
   pub at-choice : (k d : ℕ) (s : Siblings) (set set′ b′ c c′ r r′ : List ℕ) → k ≡ kind t n → k ≡ 5 → d ≡ first t n
       → Chained t f d false s set set′ b′ c c′ r r′
@@ -94,11 +95,11 @@ module _ (t : List ℕ) (f n : ℕ) (at : Within t f n) where
 
   -- an operation and a self call enter nothing
   pub at-same : (k : ℕ) (set b c r : List ℕ) → KindTo t n k 4 → k ≡ 3 → length set ≡ 64 → Memo t b c r
-      → Walk t (entryAt t n) nothing 0 set set b c c r r
+      → Walk t (entryAt t n) noCalls 0 set set b c c r r
   at-same k set b c r e q = enter-none set b c r (enters-none t f n at (sym (e .is) ∙ q))
 
   pub at-again : (k w : ℕ) (set b c r : List ℕ) → KindTo t n k 4 → (k ≡ 3 → ⊥) → w ≡ word t n → w ≡ f → length set ≡ 64 → Memo t b c r
-      → Walk t (entryAt t n) nothing 0 set set b c c r r
+      → Walk t (entryAt t n) noCalls 0 set set b c c r r
   at-again k w set b c r e q u y = enter-none set b c r (enters-again t f n at (call-kind k e q) (sym u ∙ y))
 
   -- the callee's number
@@ -112,12 +113,12 @@ module _ (t : List ℕ) (f n : ℕ) (at : Within t f n) where
   -- a call of another function
   pub at-entry : (k w v : ℕ) (set set′ set″ b c c′ r r′ : List ℕ) → KindTo t n k 4 → (k ≡ 3 → ⊥) → w ≡ word t n → (w ≡ f → ⊥) → v ≡ 2 ^ w
       → Memo t b c′ r′ × Grown c c′ r r′ × Seen c′ w → Adds (λ m. tagged b (512 * w + m)) set set′ → Adds (eqb n) set′ set″
-      → Walk t (entryAt t n) nothing (bitOr (getD c′ w 0) v) set set″ b c c′ r r′
+      → Walk t (entryAt t n) noCalls (bitOr (getD c′ w 0) v) set set″ b c c′ r r′
   at-entry k w v set set′ set″ b c c′ r r′ e q u y h body add put =
       let g = entering t f n at (call-kind k e q) (λ z. y (u ∙ z)) in
       let i = callee-there k w e q u y in
-      subst (λ z. Walk t (entryAt t n) nothing (bitOr (getD c′ w 0) z) set set″ b c c′ r r′) (sym h)
-      (walk-same t (joined (eqb n) (callsBy t w)) (entryAt t n) nothing nothing (bitOr (getD c′ w 0) (2 ^ w)) set set″ b c c′ r r′
+      subst (λ z. Walk t (entryAt t n) noCalls (bitOr (getD c′ w 0) z) set set″ b c c′ r r′) (sym h)
+      (walk-same t (joined (eqb n) (callsBy t w)) (entryAt t n) noCalls noCalls (bitOr (getD c′ w 0) (2 ^ w)) set set″ b c c′ r r′
       (entry-is t n w (g .target ∙ sym u) (i .0 .0)) (λ m. refl)
       (walk-entry t n w set set′ set″ b c c′ r r′ (at .node) (i .0) (g .target ∙ sym u) (body .0) (body .1) (body .2) add put))
 

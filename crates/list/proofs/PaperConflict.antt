@@ -8,7 +8,7 @@ use Rattle.table.specs.Syntax.{Exprs, none, some}
 use Rattle.list.specs.Sets.{Calls, ∅, _∪_, shared}
 use Rattle.list.specs.Conflict.{C, C*, PC}
 use Rattle.list.specs.Paper.{setOf, paperPC}
-use Rattle.list.specs.Arbiters.{Test, nothing, parallel}
+use Rattle.list.specs.Arbiters.{Test, noCalls, parallel}
 use Rattle.list.proofs.ListedCalls.{Calling*}
 use Rattle.list.proofs.ArbiterFacts.{Decides, first-decides}
 
@@ -73,7 +73,7 @@ module _ (callee : ℕ → ℕ) (B : ℕ → Calls) where
 module _ (N : ℕ) (calleeᵇ callee : ℕ → ℕ) (same : (n : ℕ) → calleeᵇ n ≡ callee n) (Bᵇ : ℕ → Test) (B : ℕ → Calls)
     (decided : (g m : ℕ) → Decides (Bᵇ g m) (B g m)) (ranged : (g m : ℕ) → B g m → Range N m) where
   pub decides-paper : (es : Exprs) → Calling* (Range N) es → (α : ℕ)
-      → Decides (parallel N calleeᵇ Bᵇ nothing es α) (paperPC callee B es α)
+      → Decides (parallel N calleeᵇ Bᵇ noCalls es α) (paperPC callee B es α)
   decides-paper es k α =
       let d = first-decides N calleeᵇ callee same Bᵇ B decided ranged es k α in
       ((λ e. to-paper callee B es α (d .0 e)), (λ x. d .1 (from-paper callee B es α x)))

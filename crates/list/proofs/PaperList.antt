@@ -17,13 +17,14 @@ use Rattle.list.specs.Conflict.{C, C*, PC, A, A*}
 use Rattle.list.specs.Paper.{_≐_, paperPC, paperA, paperA*, PaperC, bodySets, PaperListed}
 use Rattle.list.specs.CallSets.{callee-at, Listed}
 use Rattle.list.specs.Tags.{calleeOf, listed}
-use Rattle.list.specs.Working.{Taken, callsBy, callsAt}
+use Rattle.table.specs.Working.{Taken}
+use Rattle.list.specs.Working.{callsBy, callsAt}
 use Rattle.list.proofs.ListedCalls.{Calling, sets-all}
 use Rattle.list.proofs.ArbiterFacts.{Decides, C-decides, sets-decides}
 use Rattle.list.proofs.PaperConflict.{to-paper, from-paper}
 use Rattle.list.proofs.Callees.{callee-word, listed-exactly}
 use Rattle.list.proofs.CallLaws.{body-set}
-use Rattle.list.proofs.TagVerdicts.{taken-by}
+use Rattle.table.proofs.SurveyLaws.{taken-by}
 
 -- what is proved of an accepted table, by `paper-list` at the end
 pub record PaperList (t : List ℕ) : Type 1 where

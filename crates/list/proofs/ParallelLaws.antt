@@ -12,7 +12,7 @@ use Rattle.table.specs.Syntax.{Exprs, none, some}
 use Rattle.table.specs.Bytes.{nodes, kind, word}
 use Rattle.table.specs.Naming.{owner}
 use Rattle.table.specs.Working.{IsNode}
-use Rattle.list.specs.Arbiters.{Test, nothing, joined, anyUpTo, callsIn, meeting, parallel}
+use Rattle.list.specs.Arbiters.{Test, noCalls, joined, anyUpTo, callsIn, meeting, parallel}
 use Rattle.list.specs.Tags.{tagged, isCall, calleeOf}
 use Rattle.list.specs.Working.{bitAt, Bit, Callee, callsBy, callsAt, callsAt*, parallelAt, calledIn, twiceIn, meetOf, site, Sited}
 use Rattle.list.proofs.Meets.{or-no, none-of}
@@ -152,7 +152,7 @@ module _ (t : List ℕ) where
 
     after-set : (s : Test) (es : Exprs) → (callsAt* t es m ≡ true → Range (nodes t) m)
         → parallel (nodes t) (calleeOf t) (callsBy t) s es m ≡ callsAt* t es m && (twiceIn t es h || calledIn t s h)
-    unfolding parallel meeting twiceIn callsAt callsAt* callsIn calledIn joined nothing
+    unfolding parallel meeting twiceIn callsAt callsAt* callsIn calledIn joined noCalls
     after-set s none r = refl
     after-set s (some e es) r =
         ap₂ (λ p q. (callsAt t e m && p) || q) (called-two s (callsAt* t es) h)
@@ -167,11 +167,11 @@ module _ (t : List ℕ) where
     pub parallel-is : (es : Exprs) → (callsAt* t es m ≡ true → Range (nodes t) m) → parallelAt t es m ≡ callsAt* t es m && twiceIn t es h
     unfolding parallelAt
     parallel-is es r =
-        after-set nothing es r ∙ ap (λ p. callsAt* t es m && (twiceIn t es h || p)) (called-none nothing h none-there)
+        after-set noCalls es r ∙ ap (λ p. callsAt* t es m && (twiceIn t es h || p)) (called-none noCalls h none-there)
         ∙ ap (λ p. callsAt* t es m && p) (or-no (twiceIn t es h))
       where
-        none-there : (m : ℕ) → nothing m ≡ false
-        none-there = unfold nothing in (λ m. refl)
+        none-there : (m : ℕ) → noCalls m ≡ false
+        none-there = unfold noCalls in (λ m. refl)
 
     -- what the code computes: the set against the sites of the functions called twice
     pub meet-parallel : (es : Exprs) (own sites : List ℕ) (twice : ℕ) → Bit m → Sited t sites

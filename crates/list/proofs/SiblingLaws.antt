@@ -13,7 +13,7 @@ use Rattle.table.specs.Naming.{owner}
 use Rattle.table.specs.Expressions.{exprAt, finalAt}
 use Rattle.table.specs.Working.{IsNode}
 use Rattle.list.specs.declared.walk.Siblings.{Siblings}
-use Rattle.list.specs.Arbiters.{Test, nothing, joined}
+use Rattle.list.specs.Arbiters.{Test, noCalls, joined}
 use Rattle.list.specs.Working.{bitAt, Callee, callsAt, callsAt*, conflictsAt, conflictsAt*, calledIn, twiceIn, siblings}
 use Rattle.list.specs.Working.{Memo, Walk, OntoNode, Within, Chained}
 use Rattle.list.proofs.BitLaws.{or-bit, and-bit, zero-bit}
@@ -25,7 +25,7 @@ use Rattle.list.proofs.NodeLaws.{none-calls, none-conflicts, none-twice
 use Rattle.list.proofs.NodeLaws.{ends-defs, ends-plain, goes-on, final-here, final-next, next-there}
 
 -- of the expressions `all` those before `es` have been walked: they have the calls s and the conflicts x
-pub record Left (t : List ℕ) (all es : Exprs) (once twice : ℕ) (set set′ b′ q q′ r r′ : List ℕ) : Type 0 where
+pub record Ahead (t : List ℕ) (all es : Exprs) (once twice : ℕ) (set set′ b′ q q′ r r′ : List ℕ) : Type 0 where
   pub s : Test
   pub x : Test
   pub walk : Walk t s x once set set′ b′ q q′ r r′
@@ -54,24 +54,24 @@ shuffle false false false true k = refl
 shuffle false false false false k = refl
 
 module _ (t : List ℕ) where
-  left-all : (all : Exprs) (set b q r : List ℕ) → length set ≡ 64 → Memo t b q r → Left t all all 0 0 set set b q q r r
+  left-all : (all : Exprs) (set b q r : List ℕ) → length set ≡ 64 → Memo t b q r → Ahead t all all 0 0 set set b q q r r
   left-all all set b q r l k = record {
-    s = nothing;
-    x = nothing;
-    walk = walk-none t nothing nothing set b q r none-there none-there l k;
+    s = noCalls;
+    x = noCalls;
+    walk = walk-none t noCalls noCalls set b q r none-there none-there l k;
     calls = λ m. sym (ap (λ p. p || callsAt* t all m) (none-there m));
     conflicts = λ m. sym (ap (λ p. p || conflictsAt* t all m) (none-there m));
     twofold = λ h c. sym
         (ap (λ p. p || (twiceIn t all h || (p && calledIn t (callsAt* t all) h))) (zero-bit h) ∙ or-no (twiceIn t all h));
   }
     where
-      none-there : (m : ℕ) → nothing m ≡ false
-      none-there = unfold nothing in (λ m. refl)
+      none-there : (m : ℕ) → noCalls m ≡ false
+      none-there = unfold noCalls in (λ m. refl)
 
   left-more : (all : Exprs) (e : Expr) (es : Exprs) (once twice mask : ℕ) (set set′ set″ b′ b″ q q′ q″ r r′ r″ : List ℕ)
-      → Left t all (some e es) once twice set set′ b′ q q′ r r′
+      → Ahead t all (some e es) once twice set set′ b′ q q′ r r′
       → Walk t (callsAt t e) (conflictsAt t e) mask set′ set″ b″ q′ q″ r′ r″
-      → Left t all es (bitOr once mask) (bitOr twice (bitAnd once mask)) set set″ b″ q q″ r r″
+      → Ahead t all es (bitOr once mask) (bitOr twice (bitAnd once mask)) set set″ b″ q q″ r r″
   left-more all e es once twice mask set set′ set″ b′ b″ q q′ q″ r r′ r″ l w = record {
     s = joined (l .s) (callsAt t e);
     x = joined (l .x) (conflictsAt t e);
@@ -99,31 +99,31 @@ module _ (t : List ℕ) where
         (sym (or-bit once mask h ∙ ap (λ p. bitAt once h || p) (w .functions h c)));
   }
 
-  left-none : (all : Exprs) (once twice : ℕ) (set set′ b′ q q′ r r′ : List ℕ) → Left t all none once twice set set′ b′ q q′ r r′
+  left-none : (all : Exprs) (once twice : ℕ) (set set′ b′ q q′ r r′ : List ℕ) → Ahead t all none once twice set set′ b′ q q′ r r′
       → Walk t (callsAt* t all) (conflictsAt* t all) once set set′ b′ q q′ r r′
   left-none all once twice set set′ b′ q q′ r r′ l =
       walk-same t (l .s) (callsAt* t all) (l .x) (conflictsAt* t all) once set set′ b′ q q′ r r′
       (λ m. l .calls m ∙ ap (λ p. l .s m || p) (none-calls t m) ∙ or-no (l .s m))
       (λ m. l .conflicts m ∙ ap (λ p. l .x m || p) (none-conflicts t m) ∙ or-no (l .x m)) (l .walk)
 
-  twice-none : (all : Exprs) (once twice : ℕ) (set set′ b′ q q′ r r′ : List ℕ) → Left t all none once twice set set′ b′ q q′ r r′
+  twice-none : (all : Exprs) (once twice : ℕ) (set set′ b′ q q′ r r′ : List ℕ) → Ahead t all none once twice set set′ b′ q q′ r r′
       → (h : ℕ) → Callee h → bitAt twice h ≡ twiceIn t all h
   twice-none all once twice set set′ b′ q q′ r r′ l h c =
       sym (l .twofold h c ∙ ap₂ (λ a b. bitAt twice h || (a || (bitAt once h && b))) (none-twice t h) (called-none t
       (callsAt* t none) h (none-calls t))
-      ∙ nothing-left (bitAt twice h) (bitAt once h))
+      ∙ noCalls-left (bitAt twice h) (bitAt once h))
     where
-      nothing-left : (w o : Bool) → w || (false || (o && false)) ≡ w
-      nothing-left true o = refl
-      nothing-left false true = refl
-      nothing-left false false = refl
+      noCalls-left : (w o : Bool) → w || (false || (o && false)) ≡ w
+      noCalls-left true o = refl
+      noCalls-left false true = refl
+      noCalls-left false false = refl
 
 -- the siblings from c on have been walked up to node n, which is next
 pub record Along (t : List ℕ) (f c : ℕ) (defs : Bool) (n once twice : ℕ) (set set′ b′ q q′ r r′ : List ℕ) : Type 0 where
   pub here : Within t f n
   pub low : c ≤ n
   pub final : finalAt t c ≡ finalAt t n
-  pub left : Left t (siblings t defs c) (siblings t defs n) once twice set set′ b′ q q′ r r′
+  pub left : Ahead t (siblings t defs c) (siblings t defs n) once twice set set′ b′ q q′ r r′
 
 abbrev found : (once twice : ℕ) → Node → Siblings
 found o w x = record { once = o; twice = w; last = x }
@@ -144,7 +144,7 @@ module _ (t : List ℕ) (f c : ℕ) (defs : Bool) where
           low = omega (arith, a .low, u .1, y);
           final = a .final ∙ final-next t f n (a .here) z ∙ ap (finalAt t) (sym y);
           left = left-more t (siblings t defs c) (exprAt t n) (siblings t defs d) once twice mask set set′ set″ b′ b″ q q′ q″ r r′ r″
-              (subst (λ es. Left t (siblings t defs c) es once twice set set′ b′ q q′ r r′)
+              (subst (λ es. Ahead t (siblings t defs c) es once twice set set′ b′ q q′ r r′)
               (goes-on t f n (a .here) defs z ∙ ap (λ k. some (exprAt t n) (siblings t defs k)) (sym y)) (a .left))
               (onto-walk t (callsAt t (exprAt t n)) (conflictsAt t (exprAt t n)) mask set′ set″ b″ q′ q″ r′ r″ w);
         }
@@ -159,8 +159,8 @@ module _ (t : List ℕ) (f c : ℕ) (defs : Bool) where
           (a .here .node, a .here .own, a .low, a .final ∙ final-here t f n (a .here) z);
     }
       where
-        l : Left t (siblings t defs c) none once twice set set′ b′ q q′ r r′
-        l = subst (λ es. Left t (siblings t defs c) es once twice set set′ b′ q q′ r r′)
+        l : Ahead t (siblings t defs c) none once twice set set′ b′ q q′ r r′
+        l = subst (λ es. Ahead t (siblings t defs c) es once twice set set′ b′ q q′ r r′)
             (ap (λ b. siblings t b n) d ∙ ends-defs t f n (a .here) z) (a .left)
 
     -- the last sibling
@@ -173,8 +173,8 @@ module _ (t : List ℕ) (f c : ℕ) (defs : Bool) where
       last = λ p. absurd (true≢false (sym p ∙ d));
     }
       where
-        l : Left t (siblings t defs c) none (bitOr once mask) (bitOr twice (bitAnd once mask)) set set″ b″ q q″ r r″
+        l : Ahead t (siblings t defs c) none (bitOr once mask) (bitOr twice (bitAnd once mask)) set set″ b″ q q″ r r″
         l = left-more t (siblings t defs c) (exprAt t n) none once twice mask set set′ set″ b′ b″ q q′ q″ r r′ r″
-            (subst (λ es. Left t (siblings t defs c) es once twice set set′ b′ q q′ r r′)
+            (subst (λ es. Ahead t (siblings t defs c) es once twice set set′ b′ q q′ r r′)
             (ap (λ b. siblings t b n) d ∙ ends-plain t f n (a .here) z) (a .left))
             (onto-walk t (callsAt t (exprAt t n)) (conflictsAt t (exprAt t n)) mask set′ set″ b″ q′ q″ r′ r″ w)

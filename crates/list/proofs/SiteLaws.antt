@@ -9,13 +9,15 @@ use lib.Dec.{eqb, leb}
 use lib.ListN.{replicate}
 use borrow.Author.Tests.{le-leb, lt-leb, eq-eqb, ne-eqb}
 use Rattle.table.proofs.Tests.{and-no}
-use Rattle.table.specs.Bytes.{functions, nodes, kind, word}
+use Rattle.table.specs.Bytes.{fourAt, functions, nodes, kind, word}
+use Rattle.table.specs.Decoded.{low, high}
 use Rattle.table.specs.Naming.{owner}
 use Rattle.table.specs.Working.{IsNode}
 use Rattle.table.proofs.Passed.{passed}
 use Rattle.table.proofs.Family.{owner-in}
 use Rattle.table.proofs.View.{View, is-const, is-param, is-prim, is-call, is-self, is-cond, is-bind, is-bound, view}
-use Rattle.list.specs.Working.{Taken, site, SitedTo, PutAt}
+use Rattle.table.specs.Working.{Taken}
+use Rattle.list.specs.Working.{site, SitedTo, PutAt}
 use Rattle.list.proofs.BitLaws.{none-tagged}
 
 -- a call's word is a function
@@ -34,6 +36,13 @@ word-few t ok n i e =
     go (is-cond k a b c z q) l = absurd (omega (arith, k, e))
     go (is-bind k a b c q) l = absurd (omega (arith, k, e))
     go (is-bound k z s q) l = absurd (omega (arith, k, e))
+
+-- so its low half is all of it
+pub call-low : (t : List ℕ) → Taken t → (n : ℕ) → IsNode t n → kind t n ≡ 4 → low t n ≡ word t n
+call-low t ok n i k = omega (arith, word-few t ok n i k, halves)
+  where
+    halves : word t n ≡ low t n + 65536 * high t n
+    halves = unfold word fourAt low high in refl
 
 module _ (t : List ℕ) where
   pub sites-none : SitedTo t 0 (replicate 2112 0)

@@ -11,18 +11,14 @@ use borrow.Author.Tests.{eq-eqb, ne-eqb}
 use Rattle.table.specs.Bytes.{functions, nodes}
 use Rattle.table.specs.Find.{lowest, all}
 use Rattle.table.specs.Check.{Verdict, accepted, refused, stage, checkOf}
-use Rattle.table.specs.Survey.{ifAccepted}
-use Rattle.table.proofs.Passed.{passed}
+use Rattle.table.specs.Check.{ifAccepted}
 use Rattle.list.specs.Tags.{tagged, listed, tagLength, nonePast, tagFits, tagsRefusal, tagsOf, after, checkWith, fillVerdict}
 use Rattle.list.specs.Tags.{filledTags}
-use Rattle.list.specs.Working.{Bit, Taken}
+use Rattle.table.specs.Working.{Taken}
+use Rattle.list.specs.Working.{Bit}
 use Rattle.list.proofs.ListLaws.{tags-are}
 
 -- the accepted table's own numbers
-pub taken-by : (t : List ℕ) (F N : ℕ) → accepted F N ≡ checkOf t → Taken t × (F ≡ functions t) × (N ≡ nodes t)
-taken-by t F N e =
-    let p = passed t F N (sym e) in
-    (sym e ∙ ap₂ accepted (sym (p .1)) (sym (p .2)), sym (p .1), sym (p .2))
 
 module _ (t tags : List ℕ) where
   -- a tag list that was handed in

@@ -17,7 +17,7 @@ use Rattle.table.proofs.Passed.{passed}
 use Rattle.list.specs.Arbiters.{Test}
 use Rattle.list.specs.Tags.{calleeOf, listed, bitsFrom, bytesFrom, tagLength, tagsOf, bitsSet}
 use Rattle.list.specs.Records.{recordAt, callsFrom, recordsFrom, recordsOf}
-use Rattle.list.specs.Working.{Taken}
+use Rattle.table.specs.Working.{Taken}
 use Rattle.list.proofs.TagFacts.{half-of, low-of}
 use Rattle.list.proofs.CallLaws.{listed-called}
 

@@ -16,9 +16,10 @@ use Rattle.table.specs.Syntax.{Exprs}
 use Rattle.table.specs.Bytes.{nodes, functions}
 use Rattle.table.specs.Expressions.{bodyOf}
 use Rattle.table.specs.Working.{IsNode, IsFunction}
-use Rattle.list.specs.Arbiters.{Test, nothing, joined}
+use Rattle.list.specs.Arbiters.{Test, noCalls, joined}
 use Rattle.list.specs.Tags.{tagged, calleeOf, listed}
-use Rattle.list.specs.Working.{bitAt, Bit, Callee, Taken, callsBy, callsAt, callsAt*, conflictsAt, conflictsAt*, parallelAt}
+use Rattle.table.specs.Working.{Taken}
+use Rattle.list.specs.Working.{bitAt, Bit, Callee, callsBy, callsAt, callsAt*, conflictsAt, conflictsAt*, parallelAt}
 use Rattle.list.specs.Working.{calledIn, twiceIn, meetOf, Sited, Seen, Adds, Kept, Memo, Grown, Walk}
 use Rattle.list.proofs.BitLaws.{or-bit, zero-bit, pow-bit, none-tagged}
 use Rattle.list.proofs.Meets.{or-no, adds-none, adds-two, adds-same}
@@ -118,7 +119,7 @@ module _ (t : List ℕ) where
   -- a call of another function: itself, and its callee's body, which has been walked
   pub walk-entry : (n g : ℕ) (set set′ set″ b c c′ f f′ : List ℕ) → IsNode t n → IsFunction t g → calleeOf t n ≡ g → Memo t b c′ f′
       → Grown c c′ f f′ → Seen c′ g → Adds (λ m. tagged b (512 * g + m)) set set′ → Adds (eqb n) set′ set″
-      → Walk t (joined (eqb n) (callsBy t g)) nothing (bitOr (getD c′ g 0) (2 ^ g)) set set″ b c c′ f f′
+      → Walk t (joined (eqb n) (callsBy t g)) noCalls (bitOr (getD c′ g 0) (2 ^ g)) set set″ b c c′ f f′
   walk-entry n g set set′ set″ b c c′ f f′ i j e k grow seen add put = record {
     memo = k;
     grown = grow;
@@ -132,8 +133,8 @@ module _ (t : List ℕ) where
     finds = λ m b q. absurd (true≢false (sym q ∙ none-there m));
   }
     where
-      none-there : (m : ℕ) → nothing m ≡ false
-      none-there = unfold nothing in (λ m. refl)
+      none-there : (m : ℕ) → noCalls m ≡ false
+      none-there = unfold noCalls in (λ m. refl)
 
       turn : (g h : ℕ) → eqb g h ≡ eqb h g
       turn g h = go (ℕ-discrete g h)

@@ -8,8 +8,8 @@ use Rattle.table.specs.Pick.{pick}
 abbrev pub Test : Type 0
 Test = ℕ → Bool
 
-unfoldable pub nothing : Test
-nothing n = false
+unfoldable pub noCalls : Test
+noCalls n = false
 
 -- in one of the two
 unfoldable pub joined : Test → Test → Test
@@ -23,20 +23,20 @@ anyUpTo (suc k) p = p (suc k) || anyUpTo k p
 module _ (N : ℕ) (callee : ℕ → ℕ) (B : ℕ → Test) where
   -- C: `B g` is that of the body of g
   unfoldable mutual
-    unfolding nothing joined
+    unfolding noCalls joined
 
     pub callsIn : Expr → Test
-    callsIn (const n v) = nothing
-    callsIn (param n i) = nothing
+    callsIn (const n v) = noCalls
+    callsIn (param n i) = noCalls
     callsIn (prim n op es) = callsIn* es
     callsIn (call n g es) = joined (callsIn* es) (joined (eqb n) (B g))
     callsIn (self n es) = callsIn* es
     callsIn (cond n a b c) = joined (callsIn a) (joined (callsIn b) (callsIn c))
     callsIn (bind n ds b) = joined (callsIn* ds) (callsIn b)
-    callsIn (bound n d) = nothing
+    callsIn (bound n d) = noCalls
 
     pub callsIn* : Exprs → Test
-    callsIn* none = nothing
+    callsIn* none = noCalls
     callsIn* (some e es) = joined (callsIn e) (callsIn* es)
 
   -- the calls of s whose function is called in t too
@@ -46,26 +46,26 @@ module _ (N : ℕ) (callee : ℕ → ℕ) (B : ℕ → Test) where
 
   -- PC of the sets of es, where t joins the sets before them
   unfoldable pub parallel : Test → Exprs → Test
-  unfolding nothing joined meeting callsIn
-  parallel t none = nothing
+  unfolding noCalls joined meeting callsIn
+  parallel t none = noCalls
   parallel t (some e es) = joined (meeting (callsIn e) (joined t (callsIn* es))) (parallel (joined t (callsIn e)) es)
 
   -- A, the calls in conflict
   unfoldable mutual
-    unfolding nothing joined parallel
+    unfolding noCalls joined parallel
 
     pub conflicts : Expr → Test
-    conflicts (const n v) = nothing
-    conflicts (param n i) = nothing
-    conflicts (prim n op es) = joined (parallel nothing es) (conflicts* es)
-    conflicts (call n g es) = joined (parallel nothing es) (conflicts* es)
-    conflicts (self n es) = joined (parallel nothing es) (conflicts* es)
+    conflicts (const n v) = noCalls
+    conflicts (param n i) = noCalls
+    conflicts (prim n op es) = joined (parallel noCalls es) (conflicts* es)
+    conflicts (call n g es) = joined (parallel noCalls es) (conflicts* es)
+    conflicts (self n es) = joined (parallel noCalls es) (conflicts* es)
     conflicts (cond n a b c) = joined (conflicts a) (joined (conflicts b) (conflicts c))
-    conflicts (bind n ds b) = joined (joined (parallel nothing ds) (conflicts* ds)) (conflicts b)
-    conflicts (bound n d) = nothing
+    conflicts (bind n ds b) = joined (joined (parallel noCalls ds) (conflicts* ds)) (conflicts b)
+    conflicts (bound n d) = noCalls
 
     pub conflicts* : Exprs → Test
-    conflicts* none = nothing
+    conflicts* none = noCalls
     conflicts* (some e es) = joined (conflicts e) (conflicts* es)
 
 module _ (N : ℕ) (callee : ℕ → ℕ) (body : ℕ → Expr) where

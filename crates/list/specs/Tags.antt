@@ -11,8 +11,10 @@ use Rattle.list.specs.Arbiters.{Test, listedIn}
 use Rattle.table.specs.Bytes.{functions, nodes, kind, word}
 use Rattle.table.specs.Find.{one, lowest, all}
 use Rattle.table.specs.Naming.{owner}
-use Rattle.table.specs.Check.{Verdict, accepted, refused, stage, checkOf}
-use Rattle.table.specs.Survey.{ifAccepted}
+use Rattle.table.specs.declared.Findings.{Findings}
+use Rattle.table.specs.Check.{Verdict, accepted, refused, stage, ifAccepted, checkOf}
+use Rattle.table.specs.Decoded.{Decoded}
+use Rattle.table.specs.Survey.{verdictOf}
 use Rattle.table.specs.Expressions.{bodyOf}
 
 -- node n is bit (n - 1) mod 8 of byte (n - 1) / 8; past the end every byte reads 0
@@ -67,6 +69,11 @@ after (refused number place) rest = refused number place
 -- the table, then its tags
 unfoldable pub checkWith : List ℕ → List ℕ → Verdict
 checkWith t tags = after (checkOf t) λ _. tagsRefusal t tags
+
+-- both checked, and the table decoded
+pub record SurveyedWith (t tags : List ℕ) (r : Findings) : Type 0 where
+  pub checked : verdictOf (r .checked) ≡ checkWith t tags
+  pub cells : Decoded t (r .cells)
 
 -- a tag list that is lent to be filled: 10 looks at its length alone
 unfoldable pub fillVerdict : List ℕ → ℕ → Verdict

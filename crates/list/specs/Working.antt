@@ -7,15 +7,15 @@ use lib.Dec.{eqb, leb}
 use lib.ListN.{length, getD, take, drop, replicate}
 use Rattle.table.specs.Pick.{pick, Range}
 use Rattle.table.specs.Syntax.{Expr, Exprs, none, some}
-use Rattle.table.specs.Bytes.{functions, nodes, kind, word, first, next}
+use Rattle.table.specs.Bytes.{functions, nodes, kind, word, first}
 use Rattle.table.specs.Naming.{owner}
-use Rattle.table.specs.Check.{accepted, checkOf}
+use Rattle.table.specs.Check.{accepted, ifAccepted}
 use Rattle.table.specs.Expressions.{exprsAt, exprAt, bodyOf, defsAt, finalAt}
-use Rattle.table.specs.Working.{IsNode, IsFunction, Framed}
-use Rattle.table.specs.Survey.{verdictOf, ifAccepted}
+use Rattle.table.specs.Working.{IsNode, IsFunction, Taken, Cells}
+use Rattle.table.specs.Survey.{verdictOf}
 use Rattle.list.specs.declared.Listing.{Listing}
 use Rattle.list.specs.declared.walk.Siblings.{Siblings}
-use Rattle.list.specs.Arbiters.{Test, nothing, joined, anyUpTo, callsIn, callsIn*, parallel, conflicts, conflicts*, callsOf}
+use Rattle.list.specs.Arbiters.{Test, noCalls, joined, anyUpTo, callsIn, callsIn*, parallel, conflicts, conflicts*, callsOf}
 use Rattle.list.specs.Tags.{tagged, calleeOf, listed}
 use Rattle.list.specs.Records.{noRecord, recordsOf, recordsVerdict}
 
@@ -29,14 +29,6 @@ Bit m = Range 512 m
 
 abbrev pub Callee : ℕ → Type 0
 Callee h = Range 31 h
-
-abbrev pub Taken : List ℕ → Type 0
-Taken t = checkOf t ≡ accepted (functions t) (nodes t)
-
--- a node whose record is in the table
-pub record Reach (t : List ℕ) (n : ℕ) : Type 0 where
-  pub framed : Framed t
-  pub node : IsNode t n
 
 -- C of a body, C and A of an expression and of a chain, in a table
 unfoldable pub callsBy : List ℕ → ℕ → Test
@@ -55,7 +47,7 @@ unfoldable pub conflictsAt* : List ℕ → Exprs → Test
 conflictsAt* t = conflicts* (nodes t) (calleeOf t) (callsBy t)
 
 unfoldable pub parallelAt : List ℕ → Exprs → Test
-parallelAt t = parallel (nodes t) (calleeOf t) (callsBy t) nothing
+parallelAt t = parallel (nodes t) (calleeOf t) (callsBy t) noCalls
 
 -- h is called in s
 unfoldable pub calledIn : List ℕ → Test → Test
@@ -90,23 +82,6 @@ pub record SitedTo (t : List ℕ) (k : ℕ) (sites : List ℕ) : Type 0 where
 
 abbrev pub Sited : List ℕ → List ℕ → Type 0
 Sited t sites = SitedTo t (nodes t) sites
-
--- of the nodes up to k the fields, from 4 n on of node n: its kind, its word if it is a call, its first child, its next sibling
-pub record CellsTo (t : List ℕ) (k : ℕ) (cells : List ℕ) : Type 0 where
-  pub size : length cells ≡ 2052
-  pub kinds : (n : ℕ) → Range k n → getD cells (4 * n) 0 ≡ kind t n
-  pub words : (n : ℕ) → Range k n → kind t n ≡ 4 → getD cells (4 * n + 1) 0 ≡ word t n
-  pub firsts : (n : ℕ) → Range k n → getD cells (4 * n + 2) 0 ≡ first t n
-  pub nexts : (n : ℕ) → Range k n → getD cells (4 * n + 3) 0 ≡ next t n
-
-abbrev pub Cells : List ℕ → List ℕ → Type 0
-Cells t cells = CellsTo t (nodes t) cells
-
--- a node whose fields are among the cells
-pub record Cell (t cells : List ℕ) (n : ℕ) : Type 0 where
-  pub read : Cells t cells
-  pub node : IsNode t n
-  pub few : n ≤ 512
 
 -- what the walk has at hand beside the table
 pub record Ready (t sites cells : List ℕ) : Type 0 where
@@ -210,7 +185,7 @@ pub record Sided (t : List ℕ) (f n : ℕ) (defs : Bool) (r : Siblings) (set se
       × (finalAt t (first t n) ≡ exprAt t (r .last .0))
 
 -- the records of an accepted table, or none, beside what the lent list of len records is told
-pub record Finds (t : List ℕ) (len : ℕ) (r : Listing) : Type 0 where
+pub record Offers (t : List ℕ) (len : ℕ) (r : Listing) : Type 0 where
   pub told : verdictOf (r .checked) ≡ recordsVerdict t len
   pub size : length (r .items) ≡ 512
   pub fits : r .count ≤ len

@@ -1,51 +1,50 @@
 // The arbiter list of an accepted table as a packed set: every body is walked, main's first, and each once.
 use crate::bits;
-use crate::cells;
 use crate::walk;
 use table::Function;
 use table::Node;
-use table::read;
+use table::decoded;
+use table::decoded::Cells;
 ghost use mathlib.Core.Path.{_≡_};
 ghost use Prim.Native.Nat.{ℕ};
 ghost use lib.ListN.{length};
+ghost use Rattle.table.specs.Working.{Read};
 ghost use Rattle.list.specs.Tags.{tagged, listed};
-ghost use Rattle.list.specs.Working.{Bit, Taken, Cells, Sited};
+ghost use Rattle.list.specs.Working.{Bit, Sited};
 
 // The calls of each function, self calls too.
-fn sites(table: &[u8], cells: &[u16; 2052]) -> [u8; 2112]
-    requires { ⌜ Taken (now table) × Cells (now table) (now cells) ⌝ }
+fn sites(table: &[u8], cells: &Cells) -> [u8; 2112]
+    requires { ⌜ Read (now table) (now cells) ⌝ }
     ensures { λ r. ⌜ Sited (now (table .entry)) r ⌝ }
 {
     let mut row = [0u8; 2112];
-    let last = read::nodes(table);
+    let last = decoded::last(cells);
     let mut n: u16 = 0;
     while n < last.0 {
         n += 1;
         let node = Node(n);
-        if cells::kind(table, cells, node) == 4 {
-            let word = cells::word(table, cells, node);
-            bits::put_at(&mut row, Function(word), node);
+        if decoded::kind(cells, node) == 4 {
+            bits::put_at(&mut row, decoded::callee(cells, node), node);
         }
     }
     row
 }
 
 // The calls that are in conflict in one of the bodies.
-pub(crate) fn arbiters(table: &[u8]) -> [u8; 64]
-    requires { ⌜ Taken (now table) ⌝ }
+pub(crate) fn arbiters(table: &[u8], cells: &Cells) -> [u8; 64]
+    requires { ⌜ Read (now table) (now cells) ⌝ }
     ensures { λ r. ⌜ (length r ≡ 64) × ((m : ℕ) → Bit m → tagged r m ≡ listed (now (table .entry)) m) ⌝ }
 {
-    let cells = cells::collect(table);
-    let row = sites(table, &cells);
+    let row = sites(table, cells);
     let mut bodies = [0u8; 2112];
     let mut called = [0u32; 33];
     let mut found = [0u8; 64];
-    let main = read::functions(table);
+    let main = decoded::main(cells);
     let mut f: u16 = main.0;
     while 0 < f {
         walk::body_walk(
             &table,
-            &cells,
+            cells,
             &row,
             Function(f),
             &mut bodies,

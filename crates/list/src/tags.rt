@@ -1,17 +1,17 @@
 // Tag lists: node n is bit (n - 1) mod 8 of byte (n - 1) / 8.
 use table::Checked;
-use table::Function;
 use table::Node;
-use table::read;
+use table::decoded;
+use table::decoded::Cells;
 ghost use mathlib.Core.Path.{_≡_};
 ghost use mathlib.Core.Bool.{not};
 ghost use Prim.Native.Nat.{_+_, _-_, _*_, _≤_};
 ghost use lib.ListN.{length, take};
-ghost use Rattle.table.specs.Bytes.{functions, nodes};
+ghost use Rattle.table.specs.Bytes.{nodes};
 ghost use Rattle.table.specs.Find.{lowest, all};
-ghost use Rattle.table.specs.Survey.{verdictOf, ownersOf};
+ghost use Rattle.table.specs.Survey.{verdictOf};
+ghost use Rattle.table.specs.Working.{Read};
 ghost use Rattle.list.specs.Tags.{tagged, tagFits, tagsRefusal};
-ghost use Rattle.list.specs.Working.{Taken};
 
 // Whether a tag list marks node n; past its end it marks nothing.
 pub(crate) fn marks(tags: &[u8], n: Node) -> bool
@@ -48,21 +48,19 @@ fn none_past(tags: &[u8], last: Node) -> bool
 }
 
 // The lowest node that is tagged and is no call, or is a self call; 0 where there is none.
-fn lowest_unfit(table: &[u8], tags: &[u8], owner: [Function; 513], last: Node) -> Node
-    requires { ⌜ Taken (now table) × (owner ≡ ownersOf (now table)) × (last .0 ≡ nodes (now table)) ⌝ }
+fn lowest_unfit(table: &[u8], cells: &Cells, tags: &[u8]) -> Node
+    requires { ⌜ Read (now table) (now cells) ⌝ }
     ensures { λ r. ⌜ r .0 ≡ lowest (tagFits (now (table .entry)) (now (tags .entry))) (nodes (now (table .entry))) ⌝ }
 {
+    let last = decoded::last(cells);
     let mut n: u16 = 0;
     while n < last.0 {
         n += 1;
         if marks(tags, Node(n)) {
-            let kind = read::kind(table, Node(n));
-            if kind != 4 {
+            if decoded::kind(cells, Node(n)) != 4 {
                 return Node(n);
             }
-            let word = read::word(table, Node(n));
-            let own = owner[n as usize];
-            if word == (own.0 as u32) {
+            if decoded::callee(cells, Node(n)).0 == decoded::owner(cells, Node(n)).0 {
                 return Node(n);
             }
         }
@@ -71,16 +69,11 @@ fn lowest_unfit(table: &[u8], tags: &[u8], owner: [Function; 513], last: Node) -
 }
 
 // A tag list beside an accepted table: 10, all its cases.
-pub(crate) fn held(
-    table: &[u8],
-    tags: &[u8],
-    owner: [Function; 513],
-    main: Function,
-    last: Node,
-) -> Checked
-    requires { ⌜ Taken (now table) × (owner ≡ ownersOf (now table)) × (main .0 ≡ functions (now table)) × (last .0 ≡ nodes (now table)) ⌝ }
+pub(crate) fn held(table: &[u8], cells: &Cells, tags: &[u8]) -> Checked
+    requires { ⌜ Read (now table) (now cells) ⌝ }
     ensures { λ r. ⌜ verdictOf r ≡ tagsRefusal (now (table .entry)) (now (tags .entry)) ⌝ }
 {
+    let last = decoded::last(cells);
     let count = last.0 as usize;
     if tags.len() != (count + 7) / 8 {
         return Checked::Refused(10, Node(0));
@@ -88,11 +81,11 @@ pub(crate) fn held(
     if !none_past(tags, last) {
         return Checked::Refused(10, Node(0));
     }
-    let place = lowest_unfit(table, tags, owner, last);
+    let place = lowest_unfit(table, cells, tags);
     if place.0 != 0 {
         return Checked::Refused(10, place);
     }
-    Checked::Accepted(main, last)
+    Checked::Accepted(decoded::main(cells), last)
 }
 
 // The first bytes of a set.

@@ -2,17 +2,17 @@
 // Node walk and chain walk call each other, into the bodies of callees too; each body is walked once, and what it came to is kept.
 // What is called last gets the functions met so far, `mask`, and the table behind a thin reference: so LLVM makes a loop of such calls.
 use crate::bits;
-use crate::cells;
 use table::Function;
 use table::Node;
-use table::read;
+use table::decoded;
+use table::decoded::Cells;
 ghost use mathlib.Core.Path.{_≡_};
 ghost use mathlib.Core.Bool.{false};
 ghost use lib.ListN.{length};
 ghost use Rattle.table.specs.Bytes.{first};
-ghost use Rattle.table.specs.Working.{IsFunction};
-ghost use Rattle.list.specs.Arbiters.{nothing};
-ghost use Rattle.list.specs.Working.{Taken, entryAt, Seen, Memo, Grown, Ready, Onto, OntoNode, OntoKids};
+ghost use Rattle.table.specs.Working.{Taken, IsFunction};
+ghost use Rattle.list.specs.Arbiters.{noCalls};
+ghost use Rattle.list.specs.Working.{entryAt, Seen, Memo, Grown, Ready, Onto, OntoNode, OntoKids};
 ghost use Rattle.list.specs.Working.{Within, KindTo, Beside, Sided, Chained};
 
 // Of a chain of siblings: the functions called in one of them, and in two of them; the body of a let.
@@ -25,7 +25,7 @@ pub struct Siblings {
 // The calls at and below node n of function f go to `set`, its conflicts to `found`; the functions called there come back, put to `mask`.
 fn node_walk(
     table: &&[u8],
-    cells: &[u16; 2052],
+    cells: &Cells,
     sites: &[u8; 2112],
     f: Function,
     n: Node,
@@ -42,7 +42,7 @@ fn node_walk(
     ensures { λ r. ⌜ OntoNode (now (now (table .entry))) (n .0) mask r (now (set .entry)) (now (set .exit))
         (now (bodies .exit)) (now (called .entry)) (now (called .exit)) (now (found .entry)) (now (found .exit)) ⌝ }
 {
-    let kind = cells::kind(*table, cells, n);
+    let kind = decoded::kind(cells, n);
     if kind < 3 {
         return mask;
     }
@@ -67,7 +67,7 @@ fn node_walk(
 // A node that has more to it, by its kind.
 fn inner_walk(
     table: &&[u8],
-    cells: &[u16; 2052],
+    cells: &Cells,
     sites: &[u8; 2112],
     f: Function,
     n: Node,
@@ -87,7 +87,7 @@ fn inner_walk(
         (now (bodies .exit)) (now (called .entry)) (now (called .exit)) (now (found .entry)) (now (found .exit)) ⌝ }
 {
     if kind == 5 {
-        let first = cells::first(*table, cells, n);
+        let first = decoded::first(cells, n);
         let r = chain_walk(
             table,
             cells,
@@ -138,7 +138,7 @@ fn inner_walk(
 // What node n, a primitive or a call, calls besides its children: where it calls another function, itself and the calls of that body.
 fn enter_walk(
     table: &&[u8],
-    cells: &[u16; 2052],
+    cells: &Cells,
     sites: &[u8; 2112],
     f: Function,
     n: Node,
@@ -154,29 +154,28 @@ fn enter_walk(
     requires { ⌜ KindTo (now (now table)) (n .0) kind 4 ⌝ }
     requires { ⌜ Ready (now (now table)) (now sites) (now cells) ⌝ }
     requires { ⌜ Memo (now (now table)) (now bodies) (now called) (now found) ⌝ }
-    ensures { λ r. ⌜ Onto (now (now (table .entry))) (entryAt (now (now (table .entry))) (n .0)) nothing mask r (now (set .entry))
+    ensures { λ r. ⌜ Onto (now (now (table .entry))) (entryAt (now (now (table .entry))) (n .0)) noCalls mask r (now (set .entry))
         (now (set .exit)) (now (bodies .exit)) (now (called .entry)) (now (called .exit)) (now (found .entry)) (now (found .exit)) ⌝ }
 {
     if kind == 3 {
         return mask;
     }
-    let word = cells::word(*table, cells, n);
-    if word == f.0 {
+    let g = decoded::callee(cells, n);
+    if g.0 == f.0 {
         return mask;
     }
-    let g = Function(word);
     body_walk(table, cells, sites, g, bodies, called, found);
     bits::join_at(set, bodies, g);
     bits::put(set, n);
-    let at = word as usize;
+    let at = g.0 as usize;
     let below = called[at];
-    mask | (below | (1u32 << word))
+    mask | (below | (1u32 << g.0))
 }
 
 // The children of node n, side by side. One alone is held against nothing, and needs no set of its own.
 fn kids_walk(
     table: &&[u8],
-    cells: &[u16; 2052],
+    cells: &Cells,
     sites: &[u8; 2112],
     f: Function,
     n: Node,
@@ -194,11 +193,11 @@ fn kids_walk(
     ensures { λ r. ⌜ OntoKids (now (now (table .entry))) (n .0) mask r (now (set .entry)) (now (set .exit))
         (now (bodies .exit)) (now (called .entry)) (now (called .exit)) (now (found .entry)) (now (found .exit)) ⌝ }
 {
-    let first = cells::first(*table, cells, n);
+    let first = decoded::first(cells, n);
     if first.0 == 0 {
         return mask;
     }
-    let next = cells::next(*table, cells, first);
+    let next = decoded::next(cells, first);
     if next.0 == 0 {
         return node_walk(
             table,
@@ -220,7 +219,7 @@ fn kids_walk(
 // The children of node n, of which there are some: their sets are held against each other. Of a let (defs) the definientia alone.
 fn side_walk(
     table: &&[u8],
-    cells: &[u16; 2052],
+    cells: &Cells,
     sites: &[u8; 2112],
     f: Function,
     n: Node,
@@ -238,7 +237,7 @@ fn side_walk(
     ensures { λ r. ⌜ Sided (now (now (table .entry))) (f .0) (n .0) defs r (now (set .entry)) (now (set .exit))
         (now (bodies .exit)) (now (called .entry)) (now (called .exit)) (now (found .entry)) (now (found .exit)) ⌝ }
 {
-    let first = cells::first(*table, cells, n);
+    let first = decoded::first(cells, n);
     let mut own = [0u8; 64];
     let r = chain_walk(
         table,
@@ -260,7 +259,7 @@ fn side_walk(
 // Node c and the siblings after it; of a let (defs) the last one, its body, is left out and named.
 fn chain_walk(
     table: &&[u8],
-    cells: &[u16; 2052],
+    cells: &Cells,
     sites: &[u8; 2112],
     f: Function,
     c: Node,
@@ -280,13 +279,13 @@ fn chain_walk(
     let mut at = c;
     let mut once: u32 = 0;
     let mut twice: u32 = 0;
-    let mut next = cells::next(*table, cells, at);
+    let mut next = decoded::next(cells, at);
     while next.0 != 0 {
         let mask = node_walk(table, cells, sites, f, at, 0, bodies, called, found, set);
         twice = twice | (once & mask);
         once = once | mask;
         at = next;
-        next = cells::next(*table, cells, at);
+        next = decoded::next(cells, at);
     }
     if defs {
         return Siblings {
@@ -306,7 +305,7 @@ fn chain_walk(
 // Walks the body of g, unless that was done before, and keeps its set and the functions called in it.
 pub(crate) fn body_walk(
     table: &&[u8],
-    cells: &[u16; 2052],
+    cells: &Cells,
     sites: &[u8; 2112],
     g: Function,
     bodies: &mut [u8; 2112],
@@ -323,7 +322,7 @@ pub(crate) fn body_walk(
     if called[at] != 0 {
         return;
     }
-    let root = read::root(*table, g);
+    let root = decoded::root(cells, g);
     let mut set = [0u8; 64];
     let mask = node_walk(
         table,

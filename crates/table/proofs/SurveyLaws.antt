@@ -11,6 +11,7 @@ use Rattle.table.proofs.Tests.{true-T}
 use Rattle.table.specs.declared.Function.{Function}
 use Rattle.table.specs.declared.Node.{Node}
 use Rattle.table.specs.declared.faults.Fault.{Fault}
+use Rattle.table.specs.declared.Findings.{Findings}
 use Rattle.table.specs.declared.Checked.{Checked}
 use Rattle.table.specs.declared.Checked.the-variants.{Accepted, Refused}
 use Rattle.table.specs.Pick.{pick}
@@ -164,3 +165,10 @@ cells-read t cells e d = record { taken = e; told = all-read t cells fr (filled 
   where
     fr : Framed t
     fr = taken-framed t e
+
+-- a survey that says accepted
+pub survey-taken : (t : List ℕ) (r : Findings) (f : Function) (n : Node) → Surveyed t r → r .checked ≡ Accepted f n
+    → Read t (r .cells) × (f .0 ≡ functions t) × (n .0 ≡ nodes t)
+survey-taken t r f n s e =
+    let k = taken-by t (f .0) (n .0) (sym (ap verdictOf e) ∙ s .checked) in
+    (cells-read t (r .cells) (k .0) (s .cells), k .1, k .2)

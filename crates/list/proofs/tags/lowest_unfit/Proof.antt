@@ -1,138 +1,162 @@
--- `tags::lowest_unfit` meets its contract
-use mathlib.Core.Path.{_≡_, sym, ap, _∙_}
-use Prim.Native.Nat.{_+_, _-_, _≤_}
-use native.Mathlib.Omega.{arith}
+-- `tags::lowest_unfit` meets its contract. The invariant: the tags up to n fit. The measure is the nodes left.
 use borrow.Author.Needs.{needs}
-use Rattle.table.specs.Bytes.{nodes}
+use Prim.Native.Nat.{_+_, _-_, _≤_, _<_}
+use mathlib.Core.Path.{_≡_, sym, ap, _∙_}
+use mathlib.Core.Bool.{true}
+use native.Mathlib.Omega.{arith}
+use Rattle.table.specs.Bytes.{nodes, kind, word}
+use Rattle.table.specs.Naming.{owner}
 use Rattle.table.specs.Find.{lowest}
-use Rattle.list.specs.Tags.{tagFits}
-use Rattle.list.proofs.NodeLaws.{few}
+use Rattle.table.specs.Working.{IsNode}
 use Rattle.table.proofs.Loops.{lowest-more, lowest-found}
+use Rattle.list.specs.Tags.{tagFits, tagged}
+use Rattle.list.proofs.NodeLaws.{few}
+use Rattle.list.proofs.SiteLaws.{call-low}
 use Rattle.list.proofs.TagLoops.{lowest-none}
-use Rattle.list.proofs.Owners.{owner-of, untagged, tag-other, tag-again, tag-call}
+use Rattle.list.proofs.TagsFit.{untagged, tag-other, tag-again, tag-call}
 use Rattle.list.proofs.tags.lowest_unfit.Statement.{statement}
 use Rattle.list.proofs.tags.lowest_unfit.Tie as tie
 
 abbrev Inv-loop : tie.InvT-loop
-Inv-loop table tags last owner n₀ n = (n ≤ nodes table) × (lowest (tagFits table tags) n ≡ 0)
+Inv-loop table cells tags last n₀ n =
+    (n ≤ nodes table) × (lowest (tagFits table tags) n ≡ 0) × (last .0 ≡ nodes table)
 
 abbrev μ-loop : tie.MeasureT-loop
-μ-loop table tags last owner n₀ n = nodes table - n
+μ-loop table cells tags last n₀ n = nodes table - n
+
+abbrev Start : Type 0
+Start = tie.Start Inv-loop μ-loop
+
+abbrev Head : Type 0
+Head = tie.At-loop Inv-loop μ-loop
+
+abbrev Turn : Type 0
+Turn = tie.Then1 Inv-loop μ-loop
+
+-- a turn: n + 1 is a node
+module _ (c : Turn) where
+  abbrev s : Start
+  s = search
+
+  abbrev l : Head
+  l = search
+
+  node : IsNode (s .args .table .now) (l .loop .n + 1)
+  node = (omega arith, omega (arith, l .loop .inv .2, c .if1 .taken))
+
+  room : l .loop .n < 512
+  room = omega (arith, node .1, few _ (s .pre .taken) .1)
+
+abbrev tag-turn : tie.Then2 Inv-loop μ-loop → Turn
+tag-turn c = search
+
+marked : (c : tie.Then2 Inv-loop μ-loop) → tagged (s (tag-turn c) .args .tags .now) (l (tag-turn c) .loop .n + 1) ≡ true
+marked c =
+    let told : tie.After-marks Inv-loop μ-loop = search in
+    sym (told .marks .ensures) ∙ c .if2 .taken
+
+abbrev turn : tie.After-kind Inv-loop μ-loop → Turn
+turn c = search
+
+kinded : (c : tie.After-kind Inv-loop μ-loop) → c .kind .result ≡ kind (s (turn c) .args .table .now) (l (turn c) .loop .n + 1)
+kinded c = c .kind .ensures ∙ s (turn c) .pre .told .node _ 0 (node (turn c)) (omega arith)
+
+abbrev kind-read : tie.Else3 Inv-loop μ-loop → tie.After-kind Inv-loop μ-loop
+kind-read c = search
+
+a-call : (c : tie.Else3 Inv-loop μ-loop) → kind (s (turn (kind-read c)) .args .table .now) (l (turn (kind-read c)) .loop .n + 1) ≡ 4
+a-call c = sym (kinded (kind-read c)) ∙ c .if3 .left
+
+abbrev is-call : tie.After-callee Inv-loop μ-loop → tie.Else3 Inv-loop μ-loop
+is-call c = search
+
+callees : (c : tie.After-callee Inv-loop μ-loop) → let t = turn (kind-read (is-call c)) in
+    c .callee .result .0 ≡ word (s t .args .table .now) (l t .loop .n + 1)
+callees c =
+    let t = turn (kind-read (is-call c)) in
+    c .callee .ensures ∙ s t .pre .told .node _ 2 (node t) (omega arith) ∙ call-low _ (s t .pre .taken) _ (node t) (a-call (is-call c))
+
+abbrev callee-read : tie.After-owner Inv-loop μ-loop → tie.After-callee Inv-loop μ-loop
+callee-read c = search
+
+owners : (c : tie.After-owner Inv-loop μ-loop) → let t = turn (kind-read (is-call (callee-read c))) in
+    c .owner .result .0 ≡ owner (s t .args .table .now) (l t .loop .n + 1)
+owners c =
+    let t = turn (kind-read (is-call (callee-read c))) in
+    c .owner .ensures ∙ s t .pre .told .node _ 6 (node t) (omega arith)
+
+last-requires : tie.Need-last-requires Inv-loop μ-loop
+last-requires c κs = search needs
 
 loop-holds : tie.Need-loop-holds Inv-loop μ-loop
-loop-holds c = (omega arith, lowest-none _)
+loop-holds c =
+    let s : Start = search in
+    let read : tie.After-last Inv-loop μ-loop = search in
+    (omega arith, lowest-none _, read .last .ensures ∙ s .pre .told .own 1 (omega arith))
 
 add-n : tie.Need-add-n Inv-loop μ-loop
-add-n c =
-    let at-loop : tie.At-loop Inv-loop μ-loop = search in
-    let start : tie.Start Inv-loop μ-loop = search in
-    omega (arith, at-loop .loop .inv .0, start .pre .2, few _ (start .pre .0) .1)
+add-n c = omega (arith, room c)
 
 marks-requires : tie.Need-marks-requires Inv-loop μ-loop
 marks-requires c κs = omega arith
 
 kind-requires : tie.Need-kind-requires Inv-loop μ-loop
-kind-requires c κs = tt
+kind-requires c κs = search needs
 
 returns : tie.Need-returns Inv-loop μ-loop
 returns c =
-    let after-kind : tie.After-kind Inv-loop μ-loop = search in
-    let then2 : tie.Then2 Inv-loop μ-loop = search in
-    let after-marks : tie.After-marks Inv-loop μ-loop = search in
-    let at-loop : tie.At-loop Inv-loop μ-loop = search in
-    let start : tie.Start Inv-loop μ-loop = search in
-    let a = start .args in
-    let p = start .pre in
-    let n = at-loop .loop .n in
-    sym (lowest-found (tagFits _ _) n (nodes _) (at-loop .loop .inv .1) (tag-other _ _ (n + 1) (sym (after-marks .marks .ensures) ∙ then2
-    .if2 .taken) (λ q. c .if3 .taken (after-kind .kind .ensures ∙ q))) (omega (arith, p .2)))
+    let t : Turn = search in
+    sym (lowest-found (tagFits _ _) _ _ (l t .loop .inv .1) (tag-other _ _ _ (marked (search)) (λ q. c .if3 .taken (kinded (search) ∙ q)))
+    (node t .1))
 
-word-requires : tie.Need-word-requires Inv-loop μ-loop
-word-requires c κs = tt
+callee-requires : tie.Need-callee-requires Inv-loop μ-loop
+callee-requires c κs = search needs
 
-cast-own : tie.Need-cast-own Inv-loop μ-loop
-cast-own c = search needs
-
-mul-own : tie.Need-mul-own Inv-loop μ-loop
-mul-own c =
-    let at-loop : tie.At-loop Inv-loop μ-loop = search in
-    let start : tie.Start Inv-loop μ-loop = search in
-    record { fits = omega (arith, at-loop .loop .inv .0, start .pre .2, few _ (start .pre .0) .1) }
-
-array-copy-out-own : tie.Need-array-copy-out-own Inv-loop μ-loop
-array-copy-out-own c =
-    let at-loop : tie.At-loop Inv-loop μ-loop = search in
-    let start : tie.Start Inv-loop μ-loop = search in
-    omega (arith, at-loop .loop .inv .0, start .pre .2, few _ (start .pre .0) .1)
-
-cast-if4 : tie.Need-cast-if4 Inv-loop μ-loop
-cast-if4 c = search needs
+owner-requires : tie.Need-owner-requires Inv-loop μ-loop
+owner-requires c κs = search needs
 
 returns-2 : tie.Need-returns-2 Inv-loop μ-loop
 returns-2 c =
-    let after-word : tie.After-word Inv-loop μ-loop = search in
-    let then2 : tie.Then2 Inv-loop μ-loop = search in
-    let after-marks : tie.After-marks Inv-loop μ-loop = search in
-    let at-loop : tie.At-loop Inv-loop μ-loop = search in
-    let start : tie.Start Inv-loop μ-loop = search in
-    let a = start .args in
-    let t = a .table .now in
-    let p = start .pre in
-    let n = at-loop .loop .n in
-    sym (lowest-found (tagFits t _) n (nodes t) (at-loop .loop .inv .1) (tag-again t _ (n + 1) (sym (after-marks .marks .ensures) ∙ then2
-    .if2 .taken) (sym (after-word .word .ensures) ∙ c .if4 .taken ∙ owner-of t (p .0) _ (p .1) (n + 1) _ (omega (arith, p .2))
-    (omega (arith, p .2, few t (p .0) .1)))) (omega (arith, p .2)))
+    let both : tie.After-owner Inv-loop μ-loop = search in
+    let t : Turn = search in
+    sym (lowest-found (tagFits _ _) _ _ (l t .loop .inv .1) (tag-again _ _ _ (marked (search))
+    (sym (callees (callee-read both)) ∙ c .if4 .taken ∙ owners both)) (node t .1))
 
 loop-less : tie.Need-loop-less Inv-loop μ-loop
 loop-less c =
-    let start : tie.Start Inv-loop μ-loop = search in
-    let p = start .pre in
-    omega (arith, p .2)
+    let t : Turn = search in
+    omega (arith, l t .loop .inv .2)
 
 loop-again : tie.Need-loop-again Inv-loop μ-loop
 loop-again c =
-    let after-word : tie.After-word Inv-loop μ-loop = search in
-    let else3 : tie.Else3 Inv-loop μ-loop = search in
-    let after-kind : tie.After-kind Inv-loop μ-loop = search in
-    let at-loop : tie.At-loop Inv-loop μ-loop = search in
-    let start : tie.Start Inv-loop μ-loop = search in
-    let a = start .args in
-    let t = a .table .now in
-    let p = start .pre in
-    let n = at-loop .loop .n in (
-      omega (arith, p .2),
-      lowest-more (tagFits t _) n (at-loop .loop .inv .1) (tag-call t _ (n + 1) (sym (after-kind .kind .ensures) ∙
-          else3 .if3 .left) (λ q. c .if4 .left (after-word .word .ensures ∙ q ∙ sym (owner-of t (p .0) _ (p .1) (n + 1) _ (omega
-          (arith, p .2)) (omega (arith, p .2, few t (p .0) .1)))))),
+    let both : tie.After-owner Inv-loop μ-loop = search in
+    let t : Turn = search in (
+      node t .1,
+      lowest-more (tagFits _ _) _ (l t .loop .inv .1) (tag-call _ _ _ (a-call (is-call (callee-read both)))
+          (λ q. c .if4 .left (callees (callee-read both) ∙ q ∙ sym (owners both)))),
+      l t .loop .inv .2,
     )
 
 loop-less-2 : tie.Need-loop-less-2 Inv-loop μ-loop
 loop-less-2 c =
-    let start : tie.Start Inv-loop μ-loop = search in
-    let p = start .pre in
-    omega (arith, p .2)
+    let t : Turn = search in
+    omega (arith, l t .loop .inv .2)
 
 loop-again-2 : tie.Need-loop-again-2 Inv-loop μ-loop
 loop-again-2 c =
-    let after-marks : tie.After-marks Inv-loop μ-loop = search in
-    let at-loop : tie.At-loop Inv-loop μ-loop = search in
-    let start : tie.Start Inv-loop μ-loop = search in
-    let a = start .args in
-    let p = start .pre in
-    let n = at-loop .loop .n in (
-      omega (arith, p .2),
-      lowest-more (tagFits _ _) n (at-loop .loop .inv .1) (untagged _ _ (n + 1) (sym (after-marks .marks .ensures) ∙ c
-          .if2 .left)),
+    let told : tie.After-marks Inv-loop μ-loop = search in
+    let t : Turn = search in (
+      node t .1,
+      lowest-more (tagFits _ _) _ (l t .loop .inv .1) (untagged _ _ _ (sym (told .marks .ensures) ∙ c .if2 .left)),
+      l t .loop .inv .2,
     )
 
 returns-3 : tie.Need-returns-3 Inv-loop μ-loop
 returns-3 c =
-    let at-loop : tie.At-loop Inv-loop μ-loop = search in
-    let start : tie.Start Inv-loop μ-loop = search in
-    let a = start .args in
-    let p = start .pre in
-    let e : at-loop .loop .n ≡ nodes (a .table .now) = omega (arith, p .2, at-loop .loop .inv .0) in
-    sym (sym (ap (lowest (tagFits (a .table .now) (a .tags .now))) e) ∙ at-loop .loop .inv .1)
+    let l : Head = search in
+    let s : Start = search in
+    let e : l .loop .n ≡ nodes (s .args .table .now) = omega (arith, l .loop .inv .0, l .loop .inv .2) in
+    sym (sym (ap (lowest (tagFits (s .args .table .now) (s .args .tags .now))) e) ∙ l .loop .inv .1)
 
 pub lowest-unfit-spec : {M : Type 1} → statement M
 lowest-unfit-spec =
@@ -140,16 +164,14 @@ lowest-unfit-spec =
     (tie.spec
     Inv-loop
     μ-loop
+    last-requires
     loop-holds
     add-n
     marks-requires
     kind-requires
     returns
-    word-requires
-    cast-own
-    mul-own
-    array-copy-out-own
-    cast-if4
+    callee-requires
+    owner-requires
     returns-2
     loop-less
     loop-again

@@ -42,7 +42,7 @@ pub +body-walk+chain-walk+enter-walk+inner-walk+kids-walk+node-walk+side-walk-sp
     (λ t. chain-lts.spec (chain.given t) (measures.chain-walk-at t) chain-walk.Post chain.Inv-loop chain.μ-loop
     (chain.next-requires t) (chain.loop-holds t) (chain.node-walk-requires t) (chain.next-requires-2 t) (chain.loop-less t)
     (chain.loop-again t) (chain.returns t) (chain.node-walk-requires-2 t) (chain.returns-2 t))
-    (λ t. enter-lts.spec (enter.given t) (measures.enter-walk-at t) enter-walk.Post (enter.returns t) (enter.word-requires t)
+    (λ t. enter-lts.spec (enter.given t) (measures.enter-walk-at t) enter-walk.Post (enter.returns t) (enter.callee-requires t)
     (enter.returns-2 t) (enter.body-walk-requires t) (enter.join-at-requires t) (enter.put-requires t) (enter.cast-at t)
     (enter.mul-below t) (enter.element-copy-out-below t) (enter.cast-result t) (enter.shl-result t) (enter.returns-3 t))
     (λ t. inner-lts.spec (inner.given t) (measures.inner-walk-at t) inner-walk.Post (inner.first-requires t)
