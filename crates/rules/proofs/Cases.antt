@@ -5,7 +5,7 @@ use mathlib.Core.Path.{_≡_, refl, subst, sym, ap, _∙_}
 use mathlib.Core.List.{List, [], _∷_, _++_}
 use mathlib.Core.Logic.{inl, inr}
 use lib.ListN.{length, replicate}
-use Rattle.list.specs.Arbiters.{nothing, joined, anyUpTo, callsIn, meeting, parallel, conflicts, callsOf, listedIn}
+use Rattle.list.specs.Arbiters.{noCalls, joined, anyUpTo, callsIn, meeting, parallel, conflicts, callsOf, listedIn}
 use Rattle.list.specs.Tags.{tagged, isCall, calleeOf, listed, bitsFrom, bytesFrom, tagLength, tagsOf, nonePast, tagFits, tagsRefusal}
 use Rattle.list.specs.Tags.{after, checkWith}
 use Rattle.rules.specs.Operations.{lastValue, wrap, operate}
@@ -20,7 +20,7 @@ use Rattle.table.specs.Designs.{twice, pair, layered, mult, nested, fir}
 use Rattle.table.proofs.CheckedDesigns.{syntax-open, check-open}
 use Rattle.rules.proofs.Demands.{under-any-tags}
 
--- the state that a start makes, from one in which nothing is open
+-- the state that a start makes, from one in which noCalls is open
 abbrev pub from : (t tags args : List ℕ) → State512
 from t tags args = stateOf (startOf t tags args) zeros
 
@@ -73,7 +73,7 @@ reads t tags args ns k v s e =
 
 -- what closed evaluation has to see through
 unfoldable pub list-open : Unit {0}
-unfolding syntax-open nothing joined anyUpTo callsIn meeting parallel conflicts callsOf listedIn isCall calleeOf listed bitsFrom bytesFrom
+unfolding syntax-open noCalls joined anyUpTo callsIn meeting parallel conflicts callsOf listedIn isCall calleeOf listed bitsFrom bytesFrom
     tagLength tagsOf
 list-open = tt
 
@@ -196,7 +196,7 @@ starts-refused : (startOf nested (0 ∷ []) (9 ∷ []) ≡ turned 9 2) × (start
 unfolding circuit-open
 starts-refused = (refl, refl, refl, refl, refl, refl)
 
--- a step under tags that are not taken is refused, and changes nothing
+-- a step under tags that are not taken is refused, and changes noCalls
 steps-refused : playsOf pair (from pair (0 ∷ []) (9 ∷ []))
     (record { tags = []; node = 2 } ∷ record { tags = 0 ∷ []; node = 2 } ∷ record { tags = 0b0000_0010 ∷ []; node = 3 }
     ∷ record { tags = 0b0000_0100 ∷ []; node = 3 } ∷ []) .answers
