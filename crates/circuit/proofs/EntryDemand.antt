@@ -7,8 +7,8 @@ use Rattle.rules.specs.Step.{refused}
 use Rattle.rules.specs.Circuit.{started, startOf, playOf}
 use Rattle.circuit.specs.Meaning.{listsOf, replyOf, openingOf}
 use Rattle.circuit.specs.Entries.{StepsOf, answersOf, lastState, DemandOfEntries}
-use Rattle.circuit.specs.declared.State.{State}
-use Rattle.circuit.specs.declared.Stepped.{Stepped}
+use Rattle.circuit.specs.declared.types.State.{State}
+use Rattle.circuit.specs.declared.types.Stepped.{Stepped}
 use Rattle.rules.proofs.Demands as Demands
 
 played-entries : (t tags : List ℕ) (s : State) (ns : List ℕ) (rs : List Stepped) → StepsOf t tags s ns rs

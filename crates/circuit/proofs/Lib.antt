@@ -1,5 +1,5 @@
 pub mod MeaningFacts
-pub mod CellLaws
+pub mod StoreLaws
 pub mod ChainLaws
 pub mod OperationLaws
 pub mod ActBy

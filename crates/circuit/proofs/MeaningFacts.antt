@@ -9,21 +9,21 @@ use Rattle.rules.specs.Circuit.{started, turned}
 use Rattle.rules.specs.Circuit as Circuit
 use Rattle.rules.specs.Runs.{whole, stopped, gave, atRest, spent, barred, names, nothing, unasked}
 use Rattle.rules.specs.Runs as Runs
-use Rattle.circuit.specs.declared.State.{State}
-use Rattle.circuit.specs.declared.Answer.{Answer}
-use Rattle.circuit.specs.declared.Answer.the-variants as Answer
-use Rattle.circuit.specs.declared.Stepped.{Stepped}
-use Rattle.circuit.specs.declared.Opening.{Opening}
-use Rattle.circuit.specs.declared.Opening.the-variants as Opening
-use Rattle.circuit.specs.declared.Started.{Started}
-use Rattle.circuit.specs.declared.Halt.{Halt}
-use Rattle.circuit.specs.declared.Halt.the-variants as Halt
-use Rattle.circuit.specs.declared.Ran.{Ran}
-use Rattle.circuit.specs.declared.Ended.{Ended}
-use Rattle.circuit.specs.declared.Ended.the-variants as Ended
-use Rattle.circuit.specs.declared.Driven.{Driven}
-use Rattle.circuit.specs.declared.Found.{Found}
-use Rattle.circuit.specs.declared.Found.the-variants as Found
+use Rattle.circuit.specs.declared.types.State.{State}
+use Rattle.circuit.specs.declared.types.Answer.{Answer}
+use Rattle.circuit.specs.declared.types.Answer.the-variants as Answer
+use Rattle.circuit.specs.declared.types.Stepped.{Stepped}
+use Rattle.circuit.specs.declared.types.Opening.{Opening}
+use Rattle.circuit.specs.declared.types.Opening.the-variants as Opening
+use Rattle.circuit.specs.declared.types.Started.{Started}
+use Rattle.circuit.specs.declared.types.Halt.{Halt}
+use Rattle.circuit.specs.declared.types.Halt.the-variants as Halt
+use Rattle.circuit.specs.declared.types.Ran.{Ran}
+use Rattle.circuit.specs.declared.types.Ended.{Ended}
+use Rattle.circuit.specs.declared.types.Ended.the-variants as Ended
+use Rattle.circuit.specs.declared.types.Driven.{Driven}
+use Rattle.circuit.specs.declared.types.Found.{Found}
+use Rattle.circuit.specs.declared.types.Found.the-variants as Found
 use Rattle.circuit.specs.Meaning.{numbers, listsOf, replyOf, steppedOf, openingOf, StartedAs, haltOf, ranOf, endedOf, drivenOf}
 use Rattle.circuit.specs.Meaning.{foundOf}
 

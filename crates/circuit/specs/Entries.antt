@@ -8,10 +8,10 @@ use Rattle.rules.specs.Step.{Reply, refused}
 use Rattle.rules.specs.Circuit.{startOf, stepOf, playOf}
 use Rattle.rules.specs.Demand.{DemandThree}
 use Rattle.circuit.specs.Meaning.{listsOf, replyOf, steppedOf, StartedAs}
-use Rattle.circuit.specs.declared.State.{State}
-use Rattle.circuit.specs.declared.Opening.the-variants as Opening
-use Rattle.circuit.specs.declared.Started.{Started}
-use Rattle.circuit.specs.declared.Stepped.{Stepped}
+use Rattle.circuit.specs.declared.types.State.{State}
+use Rattle.circuit.specs.declared.types.Opening.the-variants as Opening
+use Rattle.circuit.specs.declared.types.Started.{Started}
+use Rattle.circuit.specs.declared.types.Stepped.{Stepped}
 
 -- rs is what step returned at the numbers ns, one after the other from s on, each with the state that the one before returned
 abbrev pub StepsOf : (t tags : List ℕ) → State → List ℕ → List Stepped → Type 0

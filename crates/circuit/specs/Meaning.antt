@@ -8,21 +8,21 @@ use Rattle.rules.specs.State.{State512}
 use Rattle.rules.specs.Step.{Reply, taken, answered, refused, Stepped}
 use Rattle.rules.specs.Circuit.{Started, started, turned, stateOf}
 use Rattle.rules.specs.Runs.{Halt, whole, stopped, Ran, Ended, gave, atRest, spent, barred, Driven, Found, names, nothing, unasked}
-use Rattle.circuit.specs.declared.State.{State}
-use Rattle.circuit.specs.declared.Answer.{Answer}
-use Rattle.circuit.specs.declared.Answer.the-variants as Answer
-use Rattle.circuit.specs.declared.Stepped.{Stepped as SteppedCode}
-use Rattle.circuit.specs.declared.Opening.{Opening}
-use Rattle.circuit.specs.declared.Opening.the-variants as Opening
-use Rattle.circuit.specs.declared.Started.{Started as StartedCode}
-use Rattle.circuit.specs.declared.Halt.{Halt as HaltCode}
-use Rattle.circuit.specs.declared.Halt.the-variants as HaltCode
-use Rattle.circuit.specs.declared.Ran.{Ran as RanCode}
-use Rattle.circuit.specs.declared.Ended.{Ended as EndedCode}
-use Rattle.circuit.specs.declared.Ended.the-variants as EndedCode
-use Rattle.circuit.specs.declared.Driven.{Driven as DrivenCode}
-use Rattle.circuit.specs.declared.Found.{Found as FoundCode}
-use Rattle.circuit.specs.declared.Found.the-variants as FoundCode
+use Rattle.circuit.specs.declared.types.State.{State}
+use Rattle.circuit.specs.declared.types.Answer.{Answer}
+use Rattle.circuit.specs.declared.types.Answer.the-variants as Answer
+use Rattle.circuit.specs.declared.types.Stepped.{Stepped as SteppedCode}
+use Rattle.circuit.specs.declared.types.Opening.{Opening}
+use Rattle.circuit.specs.declared.types.Opening.the-variants as Opening
+use Rattle.circuit.specs.declared.types.Started.{Started as StartedCode}
+use Rattle.circuit.specs.declared.types.Halt.{Halt as HaltCode}
+use Rattle.circuit.specs.declared.types.Halt.the-variants as HaltCode
+use Rattle.circuit.specs.declared.types.Ran.{Ran as RanCode}
+use Rattle.circuit.specs.declared.types.Ended.{Ended as EndedCode}
+use Rattle.circuit.specs.declared.types.Ended.the-variants as EndedCode
+use Rattle.circuit.specs.declared.types.Driven.{Driven as DrivenCode}
+use Rattle.circuit.specs.declared.types.Found.{Found as FoundCode}
+use Rattle.circuit.specs.declared.types.Found.the-variants as FoundCode
 
 -- node numbers
 abbrev pub numbers : List Node → List ℕ

@@ -1,11 +1,12 @@
 // The state that a start makes.
-use crate::Opening;
-use crate::Started;
-use crate::State;
-use crate::cells;
+use crate::types::Opening;
+use crate::types::Started;
+use crate::types::State;
+use crate::store;
 use table::Function;
 use table::Node;
-use table::read;
+use table::decoded;
+use table::decoded::Cells;
 ghost use mathlib.Core.Path.{_≡_};
 ghost use lib.ListN.{getD};
 ghost use Prim.Native.Nat.{_≤_};
@@ -14,7 +15,7 @@ ghost use Rattle.table.specs.Expressions.{bodyOf};
 ghost use Rattle.rules.specs.State.{blank, fill, circuitStart};
 ghost use Rattle.rules.specs.Circuit.{turned, started};
 ghost use Rattle.circuit.specs.Meaning.{StartedAs};
-ghost use Rattle.circuit.specs.declared.State.{State as StateOf};
+ghost use Rattle.circuit.specs.declared.types.State.{State as StateOf};
 ghost use Rattle.circuit.specs.Plan.{Fair};
 
 fn argument(args: &[u32], i: usize) -> u32
@@ -50,15 +51,15 @@ pub(crate) fn closed(number: u8, place: Node, old: State) -> Started
 }
 
 // All zero but main's registers and root.
-pub(crate) fn opened(table: &[u8], args: &[u32]) -> Started
-    requires { ⌜ Fair (now table) ⌝ }
+pub(crate) fn opened(table: &[u8], cells: &Cells, args: &[u32]) -> Started
+    requires { ⌜ Read (now table) (now cells) ⌝ }
     ensures { λ r. ⌜ ((old : StateOf) → StartedAs old r (started (circuitStart (functions (now (table .entry)))
         (bodyOf (now (table .entry))) (now (args .entry))))) ⌝ }
 {
-    let main = read::functions(table);
-    let root = read::root(table, main);
+    let main = decoded::main(cells);
+    let root = decoded::root(cells, main);
     let mut status = [0u8; 512];
-    cells::set_status(&mut status, root, 1);
+    store::set_status(&mut status, root, 1);
     let registers = registers(main, args);
     let state = State {
         status,

@@ -1,11 +1,11 @@
 // The query and the run with a budget, of a table and tags that were checked and a state that passed 24.
-use crate::Driven;
-use crate::Ended;
-use crate::Found;
-use crate::State;
+use crate::types::Driven;
+use crate::types::Ended;
+use crate::types::Found;
+use crate::types::State;
 use crate::arrays;
 use crate::candidates;
-use crate::cells;
+use crate::store;
 use crate::groups;
 use crate::search;
 use crate::turn;
@@ -18,7 +18,7 @@ ghost use Rattle.circuit.specs.Meaning.{listsOf, drivenOf, foundOf, ende
 ghost use Rattle.circuit.specs.Plan.{Owners, Agreed, Stands, FindsIn, EndsIn};
 
 // None once main's root is done, else the first node that has a move.
-pub(crate) fn query(table: &[u8], tags: &[u8], s: State) -> Found
+pub(crate) fn query(table: &[u8], cells: &Cells, tags: &[u8], s: State) -> Found
     requires { ⌜ Agreed (now table) (now tags) × Stands (now table) (listsOf s) ⌝ }
     ensures { λ r. ⌜ FindsIn (now (table .entry)) (now (tags .entry)) (listsOf s) (foundOf r) ⌝ }
 {
@@ -30,10 +30,10 @@ pub(crate) fn query(table: &[u8], tags: &[u8], s: State) -> Found
     let raw = s.occupant;
     let plain = arrays::plain(raw);
     let top = turn::top(table);
-    if cells::status_at(&status, top) == 3 {
+    if store::status_at(&status, top) == 3 {
         return Found::Nothing;
     }
-    let n = search::find(table, &own, &status, &second, &value, &registers, &plain);
+    let n = search::find(table, cells, &status, &second, &value, &registers, &plain);
     if n.0 == 0 {
         return Found::Nothing;
     }
@@ -43,8 +43,8 @@ pub(crate) fn query(table: &[u8], tags: &[u8], s: State) -> Found
 // How the run stands: answered, then at rest, then spent.
 fn end_of(
     table: &[u8],
+    cells: &Cells,
     tags: &[u8],
-    own: &[u16; 513],
     status: &[u8; 512],
     second: &[bool; 512],
     value: &[u32; 512],
@@ -59,10 +59,10 @@ fn end_of(
         (now (value .entry))
         (now (registers .entry)) (now (occupant .entry))) (endedOf r) ⌝ }
 {
-    if cells::status_at(status, top) == 3 {
-        return Ended::Answered(cells::value_at(value, top));
+    if store::status_at(status, top) == 3 {
+        return Ended::Answered(store::value_at(value, top));
     }
-    let n = search::find(table, own, status, second, value, registers, occupant);
+    let n = search::find(table, cells, status, second, value, registers, occupant);
     if n.0 == 0 {
         return Ended::AtRest;
     }
@@ -70,12 +70,12 @@ fn end_of(
 }
 
 // Possible steps, as many as the budget at most.
-pub(crate) fn drive(table: &[u8], tags: &[u8], s: State, budget: u32) -> Driven
+pub(crate) fn drive(table: &[u8], cells: &Cells, tags: &[u8], s: State, budget: u32) -> Driven
     requires { ⌜ Agreed (now table) (now tags) × Stands (now table) (listsOf s) ⌝ }
     ensures { λ r. ⌜ Picks (now (table .entry)) (now (tags .entry)) (listsOf s) budget (drivenOf r) ⌝ }
 {
     let own = arrays::owners(table);
-    let g = groups::group(table, &own);
+    let g = groups::group(table, cells, &own);
     let heads = g.heads;
     let links = g.links;
     let top = turn::top(table);
@@ -92,7 +92,7 @@ pub(crate) fn drive(table: &[u8], tags: &[u8], s: State, budget: u32) -> Driven
     while candidates::going(&status, top, taken, budget, rest) {
         let n = candidates::candidate(
             table,
-            &own,
+            cells,
             &status,
             &second,
             &value,
@@ -103,7 +103,7 @@ pub(crate) fn drive(table: &[u8], tags: &[u8], s: State, budget: u32) -> Driven
         );
         let code = candidates::attempt(
             table,
-            &own,
+            cells,
             &heads,
             &links,
             &mut status,
@@ -115,7 +115,7 @@ pub(crate) fn drive(table: &[u8], tags: &[u8], s: State, budget: u32) -> Driven
         );
         if code == 2 {
             taken += 1;
-            height = candidates::follow(table, &own, &status, &mut stack, height, n);
+            height = candidates::follow(table, cells, &status, &mut stack, height, n);
         } else {
             rest = height == 0;
             height = candidates::less(height);
@@ -123,6 +123,7 @@ pub(crate) fn drive(table: &[u8], tags: &[u8], s: State, budget: u32) -> Driven
     }
     let ended = end_of(
         table,
+        cells,
         tags,
         &own,
         &status,

@@ -1,11 +1,12 @@
 // A run that picks its own steps. The next one is looked for where the last one was: below a node that began, turned or entered, then at
 // that node itself. Where this finds none, all nodes are looked through; what the run says rests on that alone.
-use crate::cells;
+use crate::store;
 use crate::changes;
 use crate::search;
 use table::Function;
 use table::Node;
-use table::read;
+use table::decoded;
+use table::decoded::Cells;
 ghost use mathlib.Core.Path.{_≡_};
 ghost use mathlib.Core.Bool.{not, _&&_};
 ghost use lib.Dec.{eqb, ltb};
@@ -39,7 +40,7 @@ fn push_open(status: &[u8; 512], stack: &mut [u16; 1024], height: usize, n: Node
     requires { ⌜ (n .0 ≤ 512) × (height ≤ 1024) ⌝ }
     ensures { λ r. ⌜ r ≤ 1024 ⌝ }
 {
-    if cells::status_at(status, n) == 1 {
+    if store::status_at(status, n) == 1 {
         return push(stack, height, n);
     }
     height
@@ -48,26 +49,27 @@ fn push_open(status: &[u8; 512], stack: &mut [u16; 1024], height: usize, n: Node
 // Those of a chain that are open.
 fn push_chain(
     table: &[u8],
+    cells: &Cells,
     status: &[u8; 512],
     stack: &mut [u16; 1024],
     height: usize,
     c: Node,
 ) -> usize
-    requires { ⌜ Fair (now table) × (c .0 ≤ nodes (now table)) × (height ≤ 1024) ⌝ }
+    requires { ⌜ Read (now table) (now cells) × (c .0 ≤ nodes (now table)) × (height ≤ 1024) ⌝ }
     ensures { λ r. ⌜ r ≤ 1024 ⌝ }
 {
     let mut h = height;
     let mut at = c.0;
     while at != 0 {
         h = push_open(status, stack, h, Node(at));
-        let on = read::next(table, Node(at));
+        let on = decoded::next(cells, Node(at));
         at = on.0;
     }
     h
 }
 
 // Whether a candidate is a node of function f.
-fn owned(own: &[u16; 513], n: Node, f: Function) -> bool {
+fn owned(cells: &Cells, n: Node, f: Function) -> bool {
     if 512 < n.0 {
         return false;
     }
@@ -75,7 +77,7 @@ fn owned(own: &[u16; 513], n: Node, f: Function) -> bool {
 }
 
 // Without the candidates on top that are nodes of f: a self call starts these anew.
-fn drop_own(own: &[u16; 513], stack: &[u16; 1024], height: usize, f: Function) -> usize
+fn drop_own(cells: &Cells, stack: &[u16; 1024], height: usize, f: Function) -> usize
     requires { ⌜ height ≤ 1024 ⌝ }
     ensures { λ r. ⌜ r ≤ 1024 ⌝ }
 {
@@ -93,55 +95,56 @@ fn drop_own(own: &[u16; 513], stack: &[u16; 1024], height: usize, f: Function) -
 // The candidates after a step at node n, which was the topmost if there was any.
 pub(crate) fn follow(
     table: &[u8],
-    own: &[u16; 513],
+    cells: &Cells,
     status: &[u8; 512],
     stack: &mut [u16; 1024],
     height: usize,
     n: Node,
 ) -> usize
-    requires { ⌜ Fair (now table) × Owners (now table) (now own) × IsNode (now table) (n .0) × (height ≤ 1024) ⌝ }
+    requires { ⌜ Read (now table) (now cells) × IsNode (now table) (n .0) × (height ≤ 1024) ⌝ }
     ensures { λ r. ⌜ r ≤ 1024 ⌝ }
 {
     let h = less(height);
-    let s = cells::status_at(status, n);
+    let s = store::status_at(status, n);
     if s == 3 {
         return h;
     }
     if s == 2 {
         let above = push(stack, h, n);
-        let c = read::first(table, n);
-        let below = push_chain(table, status, stack, above, c);
-        return push_callee(table, status, stack, below, n);
+        let c = decoded::first(cells, n);
+        let below = push_chain(table, cells, status, stack, above, c);
+        return push_callee(table, cells, status, stack, below, n);
     }
     let f = own[n.0 as usize];
     let kept = drop_own(own, stack, h, Function(f));
-    let r = read::root(table, Function(f));
+    let r = decoded::root(cells, Function(f));
     push(stack, kept, r)
 }
 
 // The root that a call has opened.
 fn push_callee(
     table: &[u8],
+    cells: &Cells,
     status: &[u8; 512],
     stack: &mut [u16; 1024],
     height: usize,
     n: Node,
 ) -> usize
-    requires { ⌜ Fair (now table) × IsNode (now table) (n .0) × (height ≤ 1024) ⌝ }
+    requires { ⌜ Read (now table) (now cells) × IsNode (now table) (n .0) × (height ≤ 1024) ⌝ }
     ensures { λ r. ⌜ r ≤ 1024 ⌝ }
 {
-    if read::kind(table, n) != 4 {
+    if decoded::kind(cells, n) != 4 {
         return height;
     }
-    let g = read::word(table, n);
-    let r = read::root(table, Function(g as u16));
+    let g = decoded::word(cells, n);
+    let r = decoded::root(cells, Function(g as u16));
     push_open(status, stack, height, r)
 }
 
 // The topmost candidate; where there is none, the first node that has a move.
 pub(crate) fn candidate(
     table: &[u8],
-    own: &[u16; 513],
+    cells: &Cells,
     status: &[u8; 512],
     second: &[bool; 512],
     value: &[u32; 512],
@@ -150,7 +153,7 @@ pub(crate) fn candidate(
     stack: &[u16; 1024],
     height: usize,
 ) -> Node
-    requires { ⌜ Fair (now table) × Owners (now table) (now own) × (height ≤ 1024) ⌝ }
+    requires { ⌜ Read (now table) (now cells) × (height ≤ 1024) ⌝ }
     ensures { λ r. ⌜ (height ≡ 0 → FoundAt (now (table .entry)) (stateAs (now (status .entry)) (now (second .entry)) (now (value .entry))
         (now (registers .entry)) (now (occupant .entry))) (r .0)) ⌝ }
 {
@@ -158,13 +161,13 @@ pub(crate) fn candidate(
         let n = stack[height - 1];
         return Node(n);
     }
-    search::find(table, own, status, second, value, registers, occupant)
+    search::find(table, cells, status, second, value, registers, occupant)
 }
 
 // Takes the step of a candidate, if it is a node and has one: 2 if so.
 pub(crate) fn attempt(
     table: &[u8],
-    own: &[u16; 513],
+    cells: &Cells,
     heads: &[u16; 33],
     links: &[u16; 513],
     status: &mut [u8; 512],
@@ -174,7 +177,7 @@ pub(crate) fn attempt(
     occupant: &mut [u16; 32],
     n: Node,
 ) -> u8
-    requires { ⌜ Fair (now table) × Owners (now table) (now own) × Grouped (now table) (now heads) (now links) ⌝ }
+    requires { ⌜ Read (now table) (now cells) × Grouped (now table) (now heads) (now links) ⌝ }
     ensures { λ r. ⌜ Tried (now (table .entry)) (stateAs (now (status .entry)) (now (second .entry)) (now (value .entry))
         (now (registers .entry)) (now (occupant .entry))) (n .0) r
         (stateAs (now (status .exit)) (now (second .exit)) (now (value .exit)) (now (registers .exit)) (now (occupant .exit))) ⌝ }
@@ -182,13 +185,14 @@ pub(crate) fn attempt(
     if n.0 == 0 {
         return 0;
     }
-    let last = read::nodes(table);
+    let last = decoded::last(cells);
     if last.0 < n.0 {
         return 0;
     }
     let f = own[n.0 as usize];
     changes::take(
         table,
+        cells,
         Function(f),
         heads,
         links,
@@ -210,7 +214,7 @@ pub(crate) fn going(status: &[u8; 512], top: Node, taken: u32, budget: u32, rest
         return false;
     }
     if taken < budget {
-        return cells::status_at(status, top) != 3;
+        return store::status_at(status, top) != 3;
     }
     false
 }

@@ -1,8 +1,9 @@
 // What a step reads and opens along a chain of siblings.
-use crate::cells;
+use crate::store;
 use crate::operations;
 use table::Node;
-use table::read;
+use table::decoded;
+use table::decoded::Cells;
 ghost use mathlib.Core.Path.{_≡_};
 ghost use mathlib.Core.List.{map};
 ghost use Prim.Native.Nat.{_≤_};
@@ -13,93 +14,93 @@ ghost use Rattle.rules.specs.Operations.{operate};
 ghost use Rattle.circuit.specs.Plan.{Fair, allDone, initial, lastFrom};
 
 // Whether the node at c and all that follow it are done.
-pub(crate) fn all_done(table: &[u8], status: &[u8; 512], c: Node) -> bool
-    requires { ⌜ Fair (now table) × (c .0 ≤ nodes (now table)) ⌝ }
+pub(crate) fn all_done(table: &[u8], cells: &Cells, status: &[u8; 512], c: Node) -> bool
+    requires { ⌜ Read (now table) (now cells) × (c .0 ≤ nodes (now table)) ⌝ }
     ensures { λ r. ⌜ r ≡ allDone (entry (now (status .entry)) 0) (chain (now (table .entry)) (c .0)) ⌝ }
 {
     let mut at = c.0;
     while at != 0 {
-        if cells::status_at(status, Node(at)) != 3 {
+        if store::status_at(status, Node(at)) != 3 {
             return false;
         }
-        let on = read::next(table, Node(at));
+        let on = decoded::next(cells, Node(at));
         at = on.0;
     }
     true
 }
 
 // The same without the last one.
-pub(crate) fn defs_done(table: &[u8], status: &[u8; 512], c: Node) -> bool
-    requires { ⌜ Fair (now table) × (1 ≤ c .0) × (c .0 ≤ nodes (now table)) ⌝ }
+pub(crate) fn defs_done(table: &[u8], cells: &Cells, status: &[u8; 512], c: Node) -> bool
+    requires { ⌜ Read (now table) (now cells) × (1 ≤ c .0) × (c .0 ≤ nodes (now table)) ⌝ }
     ensures { λ r. ⌜ r ≡ allDone (entry (now (status .entry)) 0) (initial (chain (now (table .entry)) (c .0))) ⌝ }
 {
     let mut at = c.0;
-    let mut on = read::next(table, c).0;
+    let mut on = decoded::next(cells, c).0;
     while on != 0 {
-        if cells::status_at(status, Node(at)) != 3 {
+        if store::status_at(status, Node(at)) != 3 {
             return false;
         }
         at = on;
-        on = read::next(table, Node(at)).0;
+        on = decoded::next(cells, Node(at)).0;
     }
     true
 }
 
 // The last node of a chain, 0 of an empty one.
-pub(crate) fn last_of(table: &[u8], c: Node) -> Node
-    requires { ⌜ Fair (now table) × (c .0 ≤ nodes (now table)) ⌝ }
+pub(crate) fn last_of(table: &[u8], cells: &Cells, c: Node) -> Node
+    requires { ⌜ Read (now table) (now cells) × (c .0 ≤ nodes (now table)) ⌝ }
     ensures { λ r. ⌜ (r .0 ≡ lastFrom 0 (chain (now (table .entry)) (c .0))) × (r .0 ≤ nodes (now (table .entry))) ⌝ }
 {
     let mut at: u16 = 0;
     let mut on = c.0;
     while on != 0 {
         at = on;
-        on = read::next(table, Node(at)).0;
+        on = decoded::next(cells, Node(at)).0;
     }
     Node(at)
 }
 
 // An operation on the values of the children from c on.
-pub(crate) fn operation(table: &[u8], value: &[u32; 512], op: u8, c: Node) -> u32
-    requires { ⌜ Fair (now table) × (c .0 ≤ nodes (now table)) ⌝ }
+pub(crate) fn operation(table: &[u8], cells: &Cells, value: &[u32; 512], op: u8, c: Node) -> u32
+    requires { ⌜ Read (now table) (now cells) × (c .0 ≤ nodes (now table)) ⌝ }
     ensures { λ r. ⌜ r ≡ operate op (map (entry (now (value .entry)) 0) (chain (now (table .entry)) (c .0))) ⌝ }
 {
     if c.0 == 0 {
         return operations::of_two(op, 0, 0, 0);
     }
     if 9 < op {
-        let last = last_of(table, c);
-        return operations::of_two(op, 0, 0, cells::value_at(value, last));
+        let last = last_of(table, cells, c);
+        return operations::of_two(op, 0, 0, store::value_at(value, last));
     }
-    let x = cells::value_at(value, c);
-    let d = read::next(table, c);
-    let y = cells::value_at(value, d);
+    let x = store::value_at(value, c);
+    let d = decoded::next(cells, c);
+    let y = store::value_at(value, d);
     operations::of_two(op, x, y, 0)
 }
 
 // Opens the node at c and all that follow it.
-pub(crate) fn open_all(table: &[u8], status: &mut [u8; 512], c: Node)
-    requires { ⌜ Fair (now table) × (c .0 ≤ nodes (now table)) ⌝ }
+pub(crate) fn open_all(table: &[u8], cells: &Cells, status: &mut [u8; 512], c: Node)
+    requires { ⌜ Read (now table) (now cells) × (c .0 ≤ nodes (now table)) ⌝ }
     ensures { λ _. ⌜ now (status .exit) ≡ opened (now (status .entry)) (chain (now (table .entry)) (c .0)) ⌝ }
 {
     let mut at = c.0;
     while at != 0 {
-        cells::set_status(status, Node(at), 1);
-        let on = read::next(table, Node(at));
+        store::set_status(status, Node(at), 1);
+        let on = decoded::next(cells, Node(at));
         at = on.0;
     }
 }
 
 // The same without the last one.
-pub(crate) fn open_defs(table: &[u8], status: &mut [u8; 512], c: Node)
-    requires { ⌜ Fair (now table) × (1 ≤ c .0) × (c .0 ≤ nodes (now table)) ⌝ }
+pub(crate) fn open_defs(table: &[u8], cells: &Cells, status: &mut [u8; 512], c: Node)
+    requires { ⌜ Read (now table) (now cells) × (1 ≤ c .0) × (c .0 ≤ nodes (now table)) ⌝ }
     ensures { λ _. ⌜ now (status .exit) ≡ opened (now (status .entry)) (initial (chain (now (table .entry)) (c .0))) ⌝ }
 {
     let mut at = c.0;
-    let mut on = read::next(table, c).0;
+    let mut on = decoded::next(cells, c).0;
     while on != 0 {
-        cells::set_status(status, Node(at), 1);
+        store::set_status(status, Node(at), 1);
         at = on;
-        on = read::next(table, Node(at)).0;
+        on = decoded::next(cells, Node(at)).0;
     }
 }

@@ -1,12 +1,13 @@
 // What a step changes.
-use crate::cells;
+use crate::store;
 use crate::chain;
 use crate::groups;
 use crate::plan;
 use crate::plan::Plan;
 use table::Function;
 use table::Node;
-use table::read;
+use table::decoded;
+use table::decoded::Cells;
 ghost use mathlib.Core.Path.{_≡_};
 ghost use mathlib.Core.Bool.{false};
 ghost use mathlib.Core.List.{map};
@@ -23,18 +24,18 @@ ghost use Rattle.circuit.specs.Meaning.{stateAs};
 ghost use Rattle.circuit.specs.Plan.{Fair, Grouped, opens, Took};
 
 // The next sibling; of none, none.
-fn following(table: &[u8], n: Node) -> Node
+fn following(table: &[u8], cells: &Cells, n: Node) -> Node
     ensures { λ r. ⌜ r .0 ≡ pick (eqb (n .0) 0) 0 (next (now (table .entry)) (n .0)) ⌝ }
 {
     if n.0 == 0 {
         return n;
     }
-    read::next(table, n)
+    decoded::next(cells, n)
 }
 
 // The registers of g: the values of the nodes from c on, then zeros.
-fn give(table: &[u8], value: &[u32; 512], registers: &mut [u32; 256], g: Function, c: Node)
-    requires { ⌜ Fair (now table) × IsFunction (now table) (g .0) × (c .0 ≤ nodes (now table)) ⌝ }
+fn give(table: &[u8], cells: &Cells, value: &[u32; 512], registers: &mut [u32; 256], g: Function, c: Node)
+    requires { ⌜ Read (now table) (now cells) × IsFunction (now table) (g .0) × (c .0 ≤ nodes (now table)) ⌝ }
     ensures { λ _. ⌜ now (registers .exit)
         ≡ fill (g .0) (map (entry (now (value .entry)) 0) (chain (now (table .entry)) (c .0))) (now (registers .entry)) ⌝ }
 {
@@ -43,30 +44,30 @@ fn give(table: &[u8], value: &[u32; 512], registers: &mut [u32; 256], g: Functio
     let mut at = c.0;
     let mut i: usize = 0;
     while i < 8 {
-        registers[base + i] = cells::value_at(value, Node(at));
-        let on = following(table, Node(at));
+        registers[base + i] = store::value_at(value, Node(at));
+        let on = following(table, cells, Node(at));
         at = on.0;
         i += 1;
     }
 }
 
 // Busy, and the children that its kind opens are open.
-fn begin(table: &[u8], status: &mut [u8; 512], n: Node)
-    requires { ⌜ Fair (now table) × IsNode (now table) (n .0) ⌝ }
+fn begin(table: &[u8], cells: &Cells, status: &mut [u8; 512], n: Node)
+    requires { ⌜ Read (now table) (now cells) × IsNode (now table) (n .0) ⌝ }
     ensures { λ _. ⌜ now (status .exit) ≡ opened (write (now (status .entry)) (n .0) 2) (opens (now (table .entry)) (n .0)) ⌝ }
 {
-    let kind = read::kind(table, n);
-    let c = read::first(table, n);
-    cells::set_status(status, n, 2);
+    let kind = decoded::kind(cells, n);
+    let c = decoded::first(cells, n);
+    store::set_status(status, n, 2);
     if kind == 5 {
-        cells::set_status(status, c, 1);
+        store::set_status(status, c, 1);
         return;
     }
     if kind == 6 {
-        chain::open_defs(table, status, c);
+        chain::open_defs(table, cells, status, c);
         return;
     }
-    chain::open_all(table, status, c);
+    chain::open_all(table, cells, status, c);
 }
 
 // Done with a value.
@@ -76,14 +77,15 @@ fn finish(status: &mut [u8; 512], second: &mut [bool; 512], value: &mut [u32; 51
         × (now (second .exit) ≡ write (now (second .entry)) (n .0) false)
         × (now (value .exit) ≡ write (now (value .entry)) (n .0) v) ⌝ }
 {
-    cells::set_status(status, n, 3);
-    cells::set_second(second, n, false);
-    cells::set_value(value, n, v);
+    store::set_status(status, n, 3);
+    store::set_second(second, n, false);
+    store::set_value(value, n, v);
 }
 
 // Function g from its root on, with the values of the nodes from c on as arguments; they are read before g's nodes are cleared.
 fn reset(
     table: &[u8],
+    cells: &Cells,
     heads: &[u16; 33],
     links: &[u16; 513],
     status: &mut [u8; 512],
@@ -93,7 +95,7 @@ fn reset(
     g: Function,
     c: Node,
 )
-    requires { ⌜ Fair (now table) × Grouped (now table) (now heads) (now links) × IsFunction (now table) (g .0)
+    requires { ⌜ Read (now table) (now cells) × Grouped (now table) (now heads) (now links) × IsFunction (now table) (g .0)
         × (c .0 ≤ nodes (now table)) ⌝ }
     ensures { λ _. ⌜ (now (status .exit) ≡ write (clear (mine (nodes (now (table .entry))) (owner (now (table .entry))) (g .0)) 0
         (now (status .entry))) (root (now (table .entry)) (g .0)) 1)
@@ -102,15 +104,16 @@ fn reset(
         × (now (registers .exit)
         ≡ fill (g .0) (map (entry (now (value .entry)) 0) (chain (now (table .entry)) (c .0))) (now (registers .entry))) ⌝ }
 {
-    give(table, value, registers, g, c);
-    groups::wipe(table, heads, links, g, status, second, value);
-    let r = read::root(table, g);
-    cells::set_status(status, r, 1);
+    give(table, cells, value, registers, g, c);
+    groups::wipe(table, cells, heads, links, g, status, second, value);
+    let r = decoded::root(cells, g);
+    store::set_status(status, r, 1);
 }
 
 // Takes the step of node n, whose function is `own`, if it has one: 0 where it has none, 1 where its resource is occupied, 2 taken.
 pub(crate) fn take(
     table: &[u8],
+    cells: &Cells,
     own: Function,
     heads: &[u16; 33],
     links: &[u16; 513],
@@ -121,7 +124,7 @@ pub(crate) fn take(
     occupant: &mut [u16; 32],
     n: Node,
 ) -> u8
-    requires { ⌜ Fair (now table) × IsNode (now table) (n .0) × (own .0 ≡ owner (now table) (n .0))
+    requires { ⌜ Read (now table) (now cells) × IsNode (now table) (n .0) × (own .0 ≡ owner (now table) (n .0))
         × Grouped (now table) (now heads) (now links) ⌝ }
     ensures { λ r. ⌜ Took (now (table .entry))
         (stateAs (now (status .entry)) (now (second .entry)) (now (value .entry)) (now (registers .entry)) (now (occupant .entry)))
@@ -130,17 +133,17 @@ pub(crate) fn take(
         (now (occupant .entry))) (n .0)) r
         (stateAs (now (status .exit)) (now (second .exit)) (now (value .exit)) (now (registers .exit)) (now (occupant .exit))) ⌝ }
 {
-    let p = plan::plan_at(table, own, status, second, value, registers, occupant, n);
+    let p = plan::plan_at(table, cells, status, second, value, registers, occupant, n);
     match p {
         Plan::Stuck => 0,
         Plan::Blocked => 1,
         Plan::Begins => {
-            begin(table, status, n);
+            begin(table, cells, status, n);
             2
         }
         Plan::Turns(m) => {
-            cells::set_status(status, m, 1);
-            cells::set_second(second, n, true);
+            store::set_status(status, m, 1);
+            store::set_second(second, n, true);
             2
         }
         Plan::Finishes(v) => {
@@ -148,21 +151,22 @@ pub(crate) fn take(
             2
         }
         Plan::Enters(g) => {
-            let c = read::first(table, n);
-            reset(table, heads, links, status, second, value, registers, g, c);
-            cells::set_second(second, n, true);
-            cells::set_occupant(occupant, g, n);
+            let c = decoded::first(cells, n);
+            reset(table, cells, heads, links, status, second, value, registers, g, c);
+            store::set_second(second, n, true);
+            store::set_occupant(occupant, g, n);
             2
         }
         Plan::Leaves(g, v) => {
             finish(status, second, value, n, v);
-            cells::set_occupant(occupant, g, Node(0));
+            store::set_occupant(occupant, g, Node(0));
             2
         }
         Plan::Restarts => {
-            let c = read::first(table, n);
+            let c = decoded::first(cells, n);
             reset(
                 table,
+                cells,
                 heads,
                 links,
                 status,

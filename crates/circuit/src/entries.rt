@@ -1,15 +1,16 @@
 // The entries' work on a table and tags that were checked.
-use crate::Answer;
-use crate::Halt;
-use crate::Ran;
-use crate::State;
-use crate::Stepped;
+use crate::types::Answer;
+use crate::types::Halt;
+use crate::types::Ran;
+use crate::types::State;
+use crate::types::Stepped;
 use crate::arrays;
 use crate::groups;
 use crate::standing;
 use crate::turn;
 use table::Node;
-use table::read;
+use table::decoded;
+use table::decoded::Cells;
 ghost use mathlib.Core.Path.{_≡_};
 ghost use Rattle.table.specs.Bytes.{nodes};
 ghost use Rattle.rules.specs.Step.{refusal};
@@ -29,40 +30,40 @@ pub(crate) fn refused(s: State, number: u8, place: Node) -> Stepped
 }
 
 // 24.
-pub(crate) fn strays(table: &[u8], s: State) -> bool
-    requires { ⌜ Fair (now table) ⌝ }
+pub(crate) fn strays(table: &[u8], cells: &Cells, s: State) -> bool
+    requires { ⌜ Read (now table) (now cells) ⌝ }
     ensures { λ r. ⌜ r ≡ strayIn (now (table .entry)) (listsOf s) ⌝ }
 {
     let status = s.status;
     let raw = s.occupant;
     let occupant = arrays::plain(raw);
-    standing::strays(table, &status, &occupant)
+    standing::strays(table, cells, &status, &occupant)
 }
 
 // 12, 24, then the rest.
-pub(crate) fn step(table: &[u8], tags: &[u8], s: State, n: Node) -> Stepped
-    requires { ⌜ Fair (now table) ⌝ }
+pub(crate) fn step(table: &[u8], cells: &Cells, tags: &[u8], s: State, n: Node) -> Stepped
+    requires { ⌜ Read (now table) (now cells) ⌝ }
     ensures { λ r. ⌜ steppedOf r ≡ circuitOf (now (table .entry)) (now (tags .entry)) (listsOf s) (n .0) ⌝ }
 {
     if n.0 == 0 {
         return refused(s, 12, Node(0));
     }
-    let last = read::nodes(table);
+    let last = decoded::last(cells);
     if last.0 < n.0 {
         return refused(s, 12, Node(0));
     }
-    if strays(table, s) {
+    if strays(table, cells, s) {
         return refused(s, 24, Node(0));
     }
-    step_standing(table, tags, s, n)
+    step_standing(table, cells, tags, s, n)
 }
 
-fn step_standing(table: &[u8], tags: &[u8], s: State, n: Node) -> Stepped
-    requires { ⌜ Fair (now table) × Stands (now table) (listsOf s) ⌝ }
+fn step_standing(table: &[u8], cells: &Cells, tags: &[u8], s: State, n: Node) -> Stepped
+    requires { ⌜ Read (now table) (now cells) × Stands (now table) (listsOf s) ⌝ }
     ensures { λ r. ⌜ steppedOf r ≡ circuitOf (now (table .entry)) (now (tags .entry)) (listsOf s) (n .0) ⌝ }
 {
     let own = arrays::owners(table);
-    let g = groups::group(table, &own);
+    let g = groups::group(table, cells, &own);
     let heads = g.heads;
     let links = g.links;
     let mut status = s.status;
@@ -73,6 +74,7 @@ fn step_standing(table: &[u8], tags: &[u8], s: State, n: Node) -> Stepped
     let mut plain = arrays::plain(raw);
     let answer = turn::turn(
         table,
+        cells,
         tags,
         &own,
         &heads,
@@ -106,12 +108,12 @@ pub(crate) fn stop(s: State, number: u8, place: Node) -> Ran
 }
 
 // Steps one after the other, up to the first refusal.
-pub(crate) fn run(table: &[u8], tags: &[u8], s: State, nodes: &[u16]) -> Ran
+pub(crate) fn run(table: &[u8], cells: &Cells, tags: &[u8], s: State, nodes: &[u16]) -> Ran
     requires { ⌜ Agreed (now table) (now tags) × Stands (now table) (listsOf s) ⌝ }
     ensures { λ r. ⌜ ranOf r ≡ runFrom (now (table .entry)) (now (tags .entry)) (listsOf s) (now (nodes .entry)) ⌝ }
 {
     let own = arrays::owners(table);
-    let g = groups::group(table, &own);
+    let g = groups::group(table, cells, &own);
     let heads = g.heads;
     let links = g.links;
     let mut status = s.status;
@@ -125,6 +127,7 @@ pub(crate) fn run(table: &[u8], tags: &[u8], s: State, nodes: &[u16]) -> Ran
         let n = nodes[i];
         let answer = turn::turn(
             table,
+            cells,
             tags,
             &own,
             &heads,

@@ -1,9 +1,10 @@
 // The step that a node has, read off its record and the state; nothing is changed here.
-use crate::cells;
+use crate::store;
 use crate::chain;
 use table::Function;
 use table::Node;
-use table::read;
+use table::decoded;
+use table::decoded::Cells;
 ghost use mathlib.Core.Path.{_≡_};
 ghost use mathlib.Core.List.{List};
 ghost use Prim.Native.Nat.{ℕ, _≤_};
@@ -33,6 +34,7 @@ pub enum Plan {
 // The step of node n, whose function is `own`.
 pub(crate) fn plan_at(
     table: &[u8],
+    cells: &Cells,
     own: Function,
     status: &[u8; 512],
     second: &[bool; 512],
@@ -41,32 +43,32 @@ pub(crate) fn plan_at(
     occupant: &[u16; 32],
     n: Node,
 ) -> Plan
-    requires { ⌜ Fair (now table) × IsNode (now table) (n .0) × (own .0 ≡ owner (now table) (n .0)) ⌝ }
+    requires { ⌜ Read (now table) (now cells) × IsNode (now table) (n .0) × (own .0 ≡ owner (now table) (n .0)) ⌝ }
     ensures { λ r. ⌜ planned (now (table .entry)) (now (value .entry)) (n .0) r ≡ actOf (now (table .entry))
         (stateAs (now (status .entry)) (now (second .entry)) (now (value .entry)) (now (registers .entry))
         (now (occupant .entry))) (n .0) ⌝ }
 {
-    let s = cells::status_at(status, n);
+    let s = store::status_at(status, n);
     if s == 1 {
-        return opening(table, own, value, registers, n);
+        return opening(table, cells, value, registers, n);
     }
     if s == 2 {
-        return busy(table, own, status, second, value, occupant, n);
+        return busy(table, cells, status, second, value, occupant, n);
     }
     Plan::Stuck
 }
 
 // An open node: a constant, a parameter or a bound is done, any other opens children.
-fn opening(table: &[u8], own: Function, value: &[u32; 512], registers: &[u32; 256], n: Node) -> Plan
-    requires { ⌜ Fair (now table) × IsNode (now table) (n .0) × (own .0 ≡ owner (now table) (n .0)) ⌝ }
+fn opening(table: &[u8], cells: &Cells, own: Function, value: &[u32; 512], registers: &[u32; 256], n: Node) -> Plan
+    requires { ⌜ Read (now table) (now cells) × IsNode (now table) (n .0) × (own .0 ≡ owner (now table) (n .0)) ⌝ }
     ensures { λ r. ⌜ planned (now (table .entry)) (now (value .entry)) (n .0) r
         ≡ openBy (now (table .entry)) (now (value .entry)) (now (registers .entry)) (n .0) ⌝ }
 {
-    let kind = read::kind(table, n);
+    let kind = decoded::kind(cells, n);
     match kind {
-        1 => Plan::Finishes(read::word(table, n)),
-        2 => Plan::Finishes(cells::register_at(registers, own, read::extra(table, n))),
-        7 => Plan::Finishes(cells::value_of(value, read::word(table, n))),
+        1 => Plan::Finishes(decoded::word(cells, n)),
+        2 => Plan::Finishes(store::register_at(registers, own, decoded::extra(cells, n))),
+        7 => Plan::Finishes(store::value_of(value, decoded::word(cells, n))),
         _ => Plan::Begins,
     }
 }
@@ -74,6 +76,7 @@ fn opening(table: &[u8], own: Function, value: &[u32; 512], registers: &[u32; 25
 // A busy node.
 fn busy(
     table: &[u8],
+    cells: &Cells,
     own: Function,
     status: &[u8; 512],
     second: &[bool; 512],
@@ -81,36 +84,37 @@ fn busy(
     occupant: &[u16; 32],
     n: Node,
 ) -> Plan
-    requires { ⌜ Fair (now table) × IsNode (now table) (n .0) × (own .0 ≡ owner (now table) (n .0)) ⌝ }
+    requires { ⌜ Read (now table) (now cells) × IsNode (now table) (n .0) × (own .0 ≡ owner (now table) (n .0)) ⌝ }
     ensures { λ r. ⌜ planned (now (table .entry)) (now (value .entry)) (n .0) r ≡ busyBy (now (table .entry)) (now (status .entry))
         (now (second .entry)) (now (value .entry)) (now (occupant .entry)) (n .0) ⌝ }
 {
-    let kind = read::kind(table, n);
+    let kind = decoded::kind(cells, n);
     match kind {
-        3 => busy_primitive(table, status, value, n),
-        4 => busy_call(table, own, status, second, value, occupant, n),
-        5 => busy_if(table, status, second, value, n),
-        6 => busy_let(table, status, second, value, n),
+        3 => busy_primitive(table, cells, status, value, n),
+        4 => busy_call(table, cells, status, second, value, occupant, n),
+        5 => busy_if(table, cells, status, second, value, n),
+        6 => busy_let(table, cells, status, second, value, n),
         _ => Plan::Stuck,
     }
 }
 
 // Done once all children are.
-fn busy_primitive(table: &[u8], status: &[u8; 512], value: &[u32; 512], n: Node) -> Plan
-    requires { ⌜ Fair (now table) × IsNode (now table) (n .0) ⌝ }
+fn busy_primitive(table: &[u8], cells: &Cells, status: &[u8; 512], value: &[u32; 512], n: Node) -> Plan
+    requires { ⌜ Read (now table) (now cells) × IsNode (now table) (n .0) ⌝ }
     ensures { λ r. ⌜ planned (now (table .entry)) (now (value .entry)) (n .0) r
         ≡ primBy (now (table .entry)) (now (status .entry)) (now (value .entry)) (n .0) ⌝ }
 {
-    let c = read::first(table, n);
-    if !chain::all_done(table, status, c) {
+    let c = decoded::first(cells, n);
+    if !chain::all_done(table, cells, status, c) {
         return Plan::Stuck;
     }
-    Plan::Finishes(chain::operation(table, value, read::extra(table, n), c))
+    Plan::Finishes(chain::operation(table, cells, value, decoded::extra(cells, n), c))
 }
 
 // A self call is one whose callee is its own function.
 fn busy_call(
     table: &[u8],
+    cells: &Cells,
     own: Function,
     status: &[u8; 512],
     second: &[bool; 512],
@@ -118,18 +122,19 @@ fn busy_call(
     occupant: &[u16; 32],
     n: Node,
 ) -> Plan
-    requires { ⌜ Fair (now table) × IsNode (now table) (n .0) × (own .0 ≡ owner (now table) (n .0)) × (kind (now table) (n .0) ≡ 4) ⌝ }
+    requires { ⌜ Read (now table) (now cells) × IsNode (now table) (n .0) × (own .0 ≡ owner (now table) (n .0)) × (kind (now table) (n .0) ≡ 4) ⌝ }
     ensures { λ r. ⌜ planned (now (table .entry)) (now (value .entry)) (n .0) r
         ≡ pick (eqb (word (now (table .entry)) (n .0)) (owner (now (table .entry)) (n .0)))
         (selfBy (now (table .entry)) (now (status .entry)) (now (value .entry)) (n .0))
         (callBy (now (table .entry)) (now (status .entry)) (now (second .entry)) (now (value .entry)) (now (occupant .entry)) (n .0)) ⌝ }
 {
-    let callee = read::word(table, n);
+    let callee = decoded::word(cells, n);
     if callee == (own.0 as u32) {
-        return again(table, status, n);
+        return again(table, cells, status, n);
     }
     across(
         table,
+        cells,
         status,
         second,
         value,
@@ -140,13 +145,13 @@ fn busy_call(
 }
 
 // A self call: its function starts again once the arguments are done.
-fn again(table: &[u8], status: &[u8; 512], n: Node) -> Plan
-    requires { ⌜ Fair (now table) × IsNode (now table) (n .0) ⌝ }
+fn again(table: &[u8], cells: &Cells, status: &[u8; 512], n: Node) -> Plan
+    requires { ⌜ Read (now table) (now cells) × IsNode (now table) (n .0) ⌝ }
     ensures { λ r. ⌜ ((value : List ℕ) → planned (now (table .entry)) value (n .0) r
         ≡ selfBy (now (table .entry)) (now (status .entry)) value (n .0)) ⌝ }
 {
-    let c = read::first(table, n);
-    if chain::all_done(table, status, c) {
+    let c = decoded::first(cells, n);
+    if chain::all_done(table, cells, status, c) {
         Plan::Restarts
     } else {
         Plan::Stuck
@@ -156,6 +161,7 @@ fn again(table: &[u8], status: &[u8; 512], n: Node) -> Plan
 // A call of another function g: it enters once the arguments are done and g is free, and leaves once g's root is done.
 fn across(
     table: &[u8],
+    cells: &Cells,
     status: &[u8; 512],
     second: &[bool; 512],
     value: &[u32; 512],
@@ -163,36 +169,36 @@ fn across(
     g: Function,
     n: Node,
 ) -> Plan
-    requires { ⌜ Fair (now table) × IsNode (now table) (n .0) × (kind (now table) (n .0) ≡ 4) × (g .0 ≡ word (now table) (n .0)) ⌝ }
+    requires { ⌜ Read (now table) (now cells) × IsNode (now table) (n .0) × (kind (now table) (n .0) ≡ 4) × (g .0 ≡ word (now table) (n .0)) ⌝ }
     ensures { λ r. ⌜ planned (now (table .entry)) (now (value .entry)) (n .0) r ≡ callBy (now (table .entry)) (now (status .entry))
         (now (second .entry)) (now (value .entry)) (now (occupant .entry)) (n .0) ⌝ }
 {
-    if cells::second_at(second, n) {
-        let r = read::root(table, g);
-        if cells::status_at(status, r) != 3 {
+    if store::second_at(second, n) {
+        let r = decoded::root(cells, g);
+        if store::status_at(status, r) != 3 {
             return Plan::Stuck;
         }
-        return Plan::Leaves(g, cells::value_at(value, r));
+        return Plan::Leaves(g, store::value_at(value, r));
     }
-    let c = read::first(table, n);
-    if !chain::all_done(table, status, c) {
+    let c = decoded::first(cells, n);
+    if !chain::all_done(table, cells, status, c) {
         return Plan::Stuck;
     }
-    if cells::occupant_at(occupant, g).0 != 0 {
+    if store::occupant_at(occupant, g).0 != 0 {
         return Plan::Blocked;
     }
     Plan::Enters(g)
 }
 
 // The branch of an if that the condition's value takes.
-fn branch(table: &[u8], value: &[u32; 512], a: Node) -> Node
+fn branch(table: &[u8], cells: &Cells, value: &[u32; 512], a: Node) -> Node
     requires { ⌜ a .0 ≤ 512 ⌝ }
     ensures { λ r. ⌜ r .0 ≡ pick (eqb (entry (now (value .entry)) 0 (a .0)) 0)
         (next (now (table .entry)) (next (now (table .entry)) (a .0))) (next (now (table .entry)) (a .0)) ⌝ }
 {
-    let b = read::next(table, a);
-    if cells::value_at(value, a) == 0 {
-        return read::next(table, b);
+    let b = decoded::next(cells, a);
+    if store::value_at(value, a) == 0 {
+        return decoded::next(cells, b);
     }
     b
 }
@@ -200,21 +206,22 @@ fn branch(table: &[u8], value: &[u32; 512], a: Node) -> Node
 // Once a condition is done the branch opens; once that is done, so is the if.
 fn busy_if(
     table: &[u8],
+    cells: &Cells,
     status: &[u8; 512],
     second: &[bool; 512],
     value: &[u32; 512],
     n: Node,
 ) -> Plan
-    requires { ⌜ Fair (now table) × IsNode (now table) (n .0) × (kind (now table) (n .0) ≡ 5) ⌝ }
+    requires { ⌜ Read (now table) (now cells) × IsNode (now table) (n .0) × (kind (now table) (n .0) ≡ 5) ⌝ }
     ensures { λ r. ⌜ planned (now (table .entry)) (now (value .entry)) (n .0) r ≡ condBy (now (table .entry)) (now (status .entry))
         (now (second .entry)) (now (value .entry)) (n .0) ⌝ }
 {
-    let a = read::first(table, n);
-    let r = branch(table, value, a);
-    if cells::second_at(second, n) {
+    let a = decoded::first(cells, n);
+    let r = branch(table, cells, value, a);
+    if store::second_at(second, n) {
         return pass(status, value, r);
     }
-    if cells::status_at(status, a) == 3 {
+    if store::status_at(status, a) == 3 {
         return Plan::Turns(r);
     }
     Plan::Stuck
@@ -223,21 +230,22 @@ fn busy_if(
 // Once the definientia are done the body opens; once that is done, so is the let.
 fn busy_let(
     table: &[u8],
+    cells: &Cells,
     status: &[u8; 512],
     second: &[bool; 512],
     value: &[u32; 512],
     n: Node,
 ) -> Plan
-    requires { ⌜ Fair (now table) × IsNode (now table) (n .0) × (kind (now table) (n .0) ≡ 6) ⌝ }
+    requires { ⌜ Read (now table) (now cells) × IsNode (now table) (n .0) × (kind (now table) (n .0) ≡ 6) ⌝ }
     ensures { λ r. ⌜ planned (now (table .entry)) (now (value .entry)) (n .0) r ≡ bindBy (now (table .entry)) (now (status .entry))
         (now (second .entry)) (now (value .entry)) (n .0) ⌝ }
 {
-    let c = read::first(table, n);
-    let body = chain::last_of(table, c);
-    if cells::second_at(second, n) {
+    let c = decoded::first(cells, n);
+    let body = chain::last_of(table, cells, c);
+    if store::second_at(second, n) {
         return pass(status, value, body);
     }
-    if chain::defs_done(table, status, c) {
+    if chain::defs_done(table, cells, status, c) {
         return Plan::Turns(body);
     }
     Plan::Stuck
@@ -249,8 +257,8 @@ fn pass(status: &[u8; 512], value: &[u32; 512], r: Node) -> Plan
     ensures { λ p. ⌜ ((t : List ℕ) (n : ℕ) → planned t (now (value .entry)) n p
         ≡ passBy (now (status .entry)) (now (value .entry)) (r .0)) ⌝ }
 {
-    if cells::status_at(status, r) == 3 {
-        return Plan::Finishes(cells::value_at(value, r));
+    if store::status_at(status, r) == 3 {
+        return Plan::Finishes(store::value_at(value, r));
     }
     Plan::Stuck
 }

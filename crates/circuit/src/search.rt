@@ -3,7 +3,8 @@ use crate::plan;
 use crate::plan::Plan;
 use table::Function;
 use table::Node;
-use table::read;
+use table::decoded;
+use table::decoded::Cells;
 ghost use mathlib.Core.Path.{_≡_};
 ghost use mathlib.Core.List.{List};
 ghost use Prim.Native.Nat.{ℕ};
@@ -29,18 +30,18 @@ fn moves(p: Plan) -> bool
 // The first node that has a move, 0 if none has.
 pub(crate) fn find(
     table: &[u8],
-    own: &[u16; 513],
+    cells: &Cells,
     status: &[u8; 512],
     second: &[bool; 512],
     value: &[u32; 512],
     registers: &[u32; 256],
     occupant: &[u16; 32],
 ) -> Node
-    requires { ⌜ Fair (now table) × Owners (now table) (now own) ⌝ }
+    requires { ⌜ Read (now table) (now cells) ⌝ }
     ensures { λ r. ⌜ FoundAt (now (table .entry)) (stateAs (now (status .entry)) (now (second .entry)) (now (value .entry))
         (now (registers .entry)) (now (occupant .entry))) (r .0) ⌝ }
 {
-    let last = read::nodes(table);
+    let last = decoded::last(cells);
     let end = last.0;
     let mut n: u16 = 0;
     while n < end {
@@ -48,6 +49,7 @@ pub(crate) fn find(
         let f = own[n as usize];
         let p = plan::plan_at(
             table,
+            cells,
             Function(f),
             status,
             second,

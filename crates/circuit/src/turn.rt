@@ -1,10 +1,11 @@
 // A step asked at a number, of a table and tags that were checked and a state that passed 24: 12, 20, then 21 to 23.
-use crate::Answer;
-use crate::cells;
+use crate::types::Answer;
+use crate::store;
 use crate::changes;
 use table::Function;
 use table::Node;
-use table::read;
+use table::decoded;
+use table::decoded::Cells;
 ghost use mathlib.Core.Path.{_≡_};
 ghost use lib.Dec.{eqb};
 ghost use Prim.Native.Nat.{_≤_};
@@ -43,11 +44,11 @@ fn held(tags: &[u8], n: Node) -> u8
 
 // Main's root.
 pub(crate) fn top(table: &[u8]) -> Node
-    requires { ⌜ Fair (now table) ⌝ }
+    requires { ⌜ Read (now table) (now cells) ⌝ }
     ensures { λ r. ⌜ (r .0 ≡ root (now (table .entry)) (functions (now (table .entry)))) × (r .0 ≤ 512) ⌝ }
 {
-    let main = read::functions(table);
-    read::root(table, main)
+    let main = decoded::main(cells);
+    decoded::root(cells, main)
 }
 
 // What is said of a step taken: main's value, if its root is done now.
@@ -56,16 +57,16 @@ fn told(status: &[u8; 512], value: &[u32; 512], top: Node) -> Answer
     ensures { λ r. ⌜ replyOf r
         ≡ pick (eqb (entry (now (status .entry)) 0 (top .0)) 3) (answered (entry (now (value .entry)) 0 (top .0))) taken ⌝ }
 {
-    if cells::status_at(status, top) == 3 {
-        return Answer::Answered(cells::value_at(value, top));
+    if store::status_at(status, top) == 3 {
+        return Answer::Answered(store::value_at(value, top));
     }
     Answer::Taken
 }
 
 pub(crate) fn turn(
     table: &[u8],
+    cells: &Cells,
     tags: &[u8],
-    own: &[u16; 513],
     heads: &[u16; 33],
     links: &[u16; 513],
     status: &mut [u8; 512],
@@ -75,7 +76,7 @@ pub(crate) fn turn(
     occupant: &mut [u16; 32],
     n: Node,
 ) -> Answer
-    requires { ⌜ Fair (now table) × Owners (now table) (now own) × Grouped (now table) (now heads) (now links)
+    requires { ⌜ Read (now table) (now cells) × Grouped (now table) (now heads) (now links)
         × Stands (now table) (stateAs (now status) (now second) (now value) (now registers) (now occupant)) ⌝ }
     ensures { λ r. ⌜ _≡_ {A = Stepped} (record {
       answer = replyOf r;
@@ -88,17 +89,18 @@ pub(crate) fn turn(
     if n.0 == 0 {
         return Answer::Refused(12, Node(0));
     }
-    let last = read::nodes(table);
+    let last = decoded::last(cells);
     if last.0 < n.0 {
         return Answer::Refused(12, Node(0));
     }
     let root = top(table);
-    if cells::status_at(status, root) == 3 {
+    if store::status_at(status, root) == 3 {
         return Answer::Refused(20, n);
     }
     let f = own[n.0 as usize];
     let code = changes::take(
         table,
+        cells,
         Function(f),
         heads,
         links,

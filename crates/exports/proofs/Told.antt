@@ -5,12 +5,12 @@ use mathlib.Core.List.{List}
 use Rattle.rules.specs.State.{State512}
 use Rattle.rules.specs.Circuit.{Started, stateOf, stepOf}
 use Rattle.rules.specs.Runs.{runOf, Drives, Finds}
-use Rattle.circuit.specs.declared.State.{State}
-use Rattle.circuit.specs.declared.Started.{Started as StartedCode}
-use Rattle.circuit.specs.declared.Stepped.{Stepped as SteppedCode}
-use Rattle.circuit.specs.declared.Ran.{Ran as RanCode}
-use Rattle.circuit.specs.declared.Driven.{Driven as DrivenCode}
-use Rattle.circuit.specs.declared.Found.{Found as FoundCode}
+use Rattle.circuit.specs.declared.types.State.{State}
+use Rattle.circuit.specs.declared.types.Started.{Started as StartedCode}
+use Rattle.circuit.specs.declared.types.Stepped.{Stepped as SteppedCode}
+use Rattle.circuit.specs.declared.types.Ran.{Ran as RanCode}
+use Rattle.circuit.specs.declared.types.Driven.{Driven as DrivenCode}
+use Rattle.circuit.specs.declared.types.Found.{Found as FoundCode}
 use Rattle.circuit.specs.Meaning.{listsOf, startedOf, StartedAs, replyOf, steppedOf, haltOf, ranOf, endedOf, drivenOf, foundOf}
 use Rattle.exports.specs.Answers.{startCode, replyCode, haltCode, endedCode, foundCode}
 use Rattle.exports.specs.Answers.{StartTold, StepTold, QueryTold, RunTold, DriveTold}

@@ -1,9 +1,9 @@
 // The circuit's answers as one number.
-use circuit::Answer;
-use circuit::Ended;
-use circuit::Found;
-use circuit::Halt;
-use circuit::Opening;
+use circuit::types::Answer;
+use circuit::types::Ended;
+use circuit::types::Found;
+use circuit::types::Halt;
+use circuit::types::Opening;
 use table::Node;
 ghost use mathlib.Core.Path.{_≡_};
 ghost use Rattle.rules.specs.State.{State512};

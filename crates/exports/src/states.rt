@@ -1,5 +1,5 @@
 // A circuit's state as five arrays, which a caller in C or Rust can lend, and back.
-use circuit::State;
+use circuit::types::State;
 use circuit::arrays;
 ghost use mathlib.Core.Path.{_≡_};
 ghost use Rattle.circuit.specs.Meaning.{listsOf, stateAs};

@@ -3,9 +3,9 @@
 mod input;
 mod output;
 
-use circuit::Opening;
-use circuit::Started;
-use circuit::State;
+use circuit::types::Opening;
+use circuit::types::Started;
+use circuit::types::State;
 use table::Function;
 use table::Node;
 use table::read;

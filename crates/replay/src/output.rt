@@ -1,6 +1,6 @@
 // The lines that the program prints.
-use circuit::Answer;
-use circuit::Ended;
+use circuit::types::Answer;
+use circuit::types::Ended;
 use table::Function;
 use table::Node;
 ghost use Prim.Native.Nat.{_≤_};

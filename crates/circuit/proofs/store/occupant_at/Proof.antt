@@ -1,10 +1,10 @@
 use native.Mathlib.Omega.{arith}
 use mathlib.Core.Path.{sym}
-use Rattle.circuit.proofs.CellLaws.{entry-none}
+use Rattle.circuit.proofs.StoreLaws.{entry-none}
 use Rattle.rules.proofs.StateLaws.{entry-at}
 use borrow.Author.Needs.{needs}
-use Rattle.circuit.proofs.cells.occupant_at.Statement.{statement}
-use Rattle.circuit.proofs.cells.occupant_at.Tie as tie
+use Rattle.circuit.proofs.store.occupant_at.Statement.{statement}
+use Rattle.circuit.proofs.store.occupant_at.Tie as tie
 
 cast-k : tie.Need-cast-k
 cast-k c = search needs

@@ -1,10 +1,10 @@
 use native.Mathlib.Omega.{arith}
 use mathlib.Core.Path.{sym}
-use Rattle.circuit.proofs.CellLaws.{entry-none}
+use Rattle.circuit.proofs.StoreLaws.{entry-none}
 use Rattle.rules.proofs.StateLaws.{entry-at}
 use borrow.Author.Needs.{needs}
-use Rattle.circuit.proofs.cells.status_at.Statement.{statement}
-use Rattle.circuit.proofs.cells.status_at.Tie as tie
+use Rattle.circuit.proofs.store.second_at.Statement.{statement}
+use Rattle.circuit.proofs.store.second_at.Tie as tie
 
 cast-k : tie.Need-cast-k
 cast-k c = search needs
@@ -21,5 +21,5 @@ element-copy-out-result c = search needs
 returns-2 : tie.Need-returns-2
 returns-2 c = sym (entry-at _ _ _ (omega arith))
 
-pub status-at-spec : {M : Type 1} → statement M
-status-at-spec = tie.close (tie.spec cast-k returns sub-result element-copy-out-result returns-2)
+pub second-at-spec : {M : Type 1} → statement M
+second-at-spec = tie.close (tie.spec cast-k returns sub-result element-copy-out-result returns-2)

@@ -1,10 +1,10 @@
 use native.Mathlib.Omega.{arith}
 use mathlib.Core.Path.{sym}
-use Rattle.circuit.proofs.CellLaws.{write-none}
+use Rattle.circuit.proofs.StoreLaws.{write-none}
 use Rattle.rules.proofs.StateLaws.{write-at}
 use borrow.Author.Needs.{needs}
-use Rattle.circuit.proofs.cells.set_second.Statement.{statement}
-use Rattle.circuit.proofs.cells.set_second.Tie as tie
+use Rattle.circuit.proofs.store.set_second.Statement.{statement}
+use Rattle.circuit.proofs.store.set_second.Tie as tie
 
 cast-k : tie.Need-cast-k
 cast-k c = search needs

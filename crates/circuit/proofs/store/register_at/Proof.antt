@@ -1,10 +1,10 @@
 use native.Mathlib.Omega.{arith}
 use mathlib.Core.Path.{sym}
-use Rattle.circuit.proofs.CellLaws.{register-none, register-high}
+use Rattle.circuit.proofs.StoreLaws.{register-none, register-high}
 use Rattle.rules.proofs.StateLaws.{register-at}
 use borrow.Author.Needs.{needs}
-use Rattle.circuit.proofs.cells.register_at.Statement.{statement}
-use Rattle.circuit.proofs.cells.register_at.Tie as tie
+use Rattle.circuit.proofs.store.register_at.Statement.{statement}
+use Rattle.circuit.proofs.store.register_at.Tie as tie
 
 cast-k : tie.Need-cast-k
 cast-k c = search needs

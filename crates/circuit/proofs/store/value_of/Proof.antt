@@ -1,13 +1,10 @@
 use native.Mathlib.Omega.{arith}
 use mathlib.Core.Path.{sym}
-use Rattle.circuit.proofs.CellLaws.{entry-none}
+use Rattle.circuit.proofs.StoreLaws.{entry-none}
 use Rattle.rules.proofs.StateLaws.{entry-at}
 use borrow.Author.Needs.{needs}
-use Rattle.circuit.proofs.cells.second_at.Statement.{statement}
-use Rattle.circuit.proofs.cells.second_at.Tie as tie
-
-cast-k : tie.Need-cast-k
-cast-k c = search needs
+use Rattle.circuit.proofs.store.value_of.Statement.{statement}
+use Rattle.circuit.proofs.store.value_of.Tie as tie
 
 returns : tie.Need-returns
 returns c = entry-none _ _ _ (c .if1 .taken)
@@ -15,11 +12,15 @@ returns c = entry-none _ _ _ (c .if1 .taken)
 sub-result : tie.Need-sub-result
 sub-result c = search needs
 
+mul-result : tie.Need-mul-result
+mul-result c = search needs
+
 element-copy-out-result : tie.Need-element-copy-out-result
 element-copy-out-result c = search needs
 
 returns-2 : tie.Need-returns-2
 returns-2 c = sym (entry-at _ _ _ (omega arith))
 
-pub second-at-spec : {M : Type 1} → statement M
-second-at-spec = tie.close (tie.spec cast-k returns sub-result element-copy-out-result returns-2)
+pub value-of-spec : {M : Type 1} → statement M
+value-of-spec =
+    tie.close (tie.spec returns sub-result mul-result element-copy-out-result returns-2)
