@@ -22,7 +22,13 @@ pub mod StepTaken
 pub mod StepFacts
 pub mod Past
 pub mod ListsAgree
+pub mod MovesAgree
+pub mod ActSame
 pub mod Ignores
+-- two moves that write apart end equal in either order
+pub mod StatesSame
+pub mod Touches
+pub mod Commute
 -- lists of steps: each call's three phases, entries minus leavings, the start, what every list keeps
 pub mod Thirds
 pub mod Occupied
