@@ -9,13 +9,13 @@ use native.Mathlib.Decide.{ℕ-discrete}
 use Rattle.table.specs.Syntax.{Expr, Exprs, self, Every, Node}
 use Rattle.rules.specs.State.{View}
 use Rattle.rules.proofs.Shape.{Still, Busy, Live, Opened}
-use Rattle.table.specs.Well.{CallIn, Well}
+use Rattle.table.specs.Well.{Fn, CallIn, Well}
 use Rattle.table.proofs.CallPlaces.{call-node}
 use Rattle.rules.proofs.SelfCalls.{self-alone}
-use Rattle.rules.proofs.Invariant.{Fn, Active, AgainStep, Sound, new-live, stepping, aside, aside-rest}
+use Rattle.rules.proofs.Invariant.{Active, AgainStep, Sound, new-live, stepping, aside, aside-rest}
 
 module _ (apply : ℕ → List ℕ → ℕ) (F : ℕ) (body : ℕ → Expr) (well : Well F body) (s s′ : View) (sound : Sound apply F body s)
-    (h : ℕ) (r : Fn apply F body h) (n : ℕ) (es : Exprs) (st : AgainStep apply F body s s′ h n es) where
+    (h : ℕ) (r : Fn F body h) (n : ℕ) (es : Exprs) (st : AgainStep apply F body s s′ h n es) where
   abbrev U : Expr
   U = self n es
 
@@ -31,8 +31,8 @@ module _ (apply : ℕ → List ℕ → ℕ) (F : ℕ) (body : ℕ → Expr) (wel
   holds : (f m : ℕ) → (X m → ⊥) → (m ≡ 0 → ⊥) → s .occupant f ≡ m → s′ .occupant f ≡ m
   holds f m x z e = st .occupants f ∙ e
 
-  elsewhere : (f : ℕ) → Fn apply F body f → (f ≡ h → ⊥) → (m : ℕ) → Node m (body f) → X m → ⊥
-  elsewhere f q a m k x = a (well .owner f h m (q .0) (q .1) (r .0) (r .1) k x)
+  elsewhere : (f : ℕ) → Fn F body f → (f ≡ h → ⊥) → (m : ℕ) → Node m (body f) → X m → ⊥
+  elsewhere f q a m k x = a (well .owner f h m q r k x)
 
   still-active : (f : ℕ) → Active apply F body s′ f → Active apply F body s f
   still-active f (inl e) = inl e
@@ -50,24 +50,24 @@ module _ (apply : ℕ → List ℕ → ℕ) (F : ℕ) (body : ℕ → Expr) (wel
     top = st .occupants F ∙ sound .top;
   }
     where
-      opened-f : (f : ℕ) → Fn apply F body f → Active apply F body s′ f → Dec (f ≡ h) → Opened s′ (body f)
+      opened-f : (f : ℕ) → Fn F body f → Active apply F body s′ f → Dec (f ≡ h) → Opened s′ (body f)
       opened-f f q a (yes e) = subst (λ x. Opened s′ (body x)) (sym e) (inl (new-live apply F body s′ (body h) (st .new .0) (st .new .1)))
       opened-f f q a (no e) = aside apply F body well s s′ sound X (st .keeps) holds f (elsewhere f q e)
           (sound .opened f q (still-active f a))
 
-      rest-f : (f : ℕ) → Fn apply F body f → (Active apply F body s′ f → ⊥) → Dec (f ≡ h) → Every (Still s′) (body f)
+      rest-f : (f : ℕ) → Fn F body f → (Active apply F body s′ f → ⊥) → Dec (f ≡ h) → Every (Still s′) (body f)
       rest-f f q a (yes e) = absurd (a
           (now-active f (subst (Active apply F body s) (sym e) (stepping apply F body well s s′ sound h r U (st .place) moving .0))))
       rest-f f q a (no e) = aside-rest apply F body well s s′ sound X (st .keeps) holds f (elsewhere f q e)
           (sound .rest f q (λ b. a (now-active f b)))
 
-      not-h : (f c k : ℕ) → Fn apply F body k → CallIn c f (body k) → Busy s c true → X c → ⊥
+      not-h : (f c k : ℕ) → Fn F body k → CallIn c f (body k) → Busy s c true → X c → ⊥
       not-h f c k q i b x =
-          let e : k ≡ h = well .owner k h c (q .0) (q .1) (r .0) (r .1) (call-node c f (body k) i) x in
-          self-alone s n es (st .waits) (st .ready) c f (b .0) (body h) (well .tail h (r .0) (r .1)) (st .place) live-h
+          let e : k ≡ h = well .owner k h c q r (call-node c f (body k) i) x in
+          self-alone s n es (st .waits) (st .ready) c f (b .0) (body h) (well .tail h r) (st .place) live-h
           (subst (λ y. CallIn c f (body y)) e i)
 
-      held-f : (f c : ℕ) → Fn apply F body f → s′ .occupant f ≡ c → (c ≡ 0 → ⊥) → (k : ℕ) × Fn apply F body k × (f < k)
+      held-f : (f c : ℕ) → Fn F body f → s′ .occupant f ≡ c → (c ≡ 0 → ⊥) → (k : ℕ) × Fn F body k × (f < k)
           × CallIn c f (body k) × Busy s′ c true
       held-f f c q e z =
           let o = sound .held f c q (sym (st .occupants f) ∙ e) z in

@@ -11,10 +11,10 @@ use Rattle.table.specs.Syntax.{Expr, id, Every, Node}
 use Rattle.rules.specs.State.{View}
 use Rattle.rules.proofs.Shape.{Still, Busy, Done, Opened}
 use Rattle.rules.proofs.Moves.{finished}
-use Rattle.table.specs.Well.{CallIn, Well}
+use Rattle.table.specs.Well.{Fn, CallIn, Well}
 use Rattle.table.proofs.CallPlaces.{call-node}
 use Rattle.rules.proofs.Places.{still-busy}
-use Rattle.rules.proofs.Invariant.{Step, inner, enter, leave, again, inner-sound, Fn, Active, New, Sound, new-live}
+use Rattle.rules.proofs.Invariant.{Step, inner, enter, leave, again, inner-sound, Active, New, Sound, new-live}
 use Rattle.rules.specs.Reading.{val, Readings, Reads}
 use Rattle.rules.proofs.Counts.{left-reads, over-left}
 use Rattle.rules.proofs.Total.{step-before}
@@ -42,19 +42,19 @@ module _ (apply : ℕ → List ℕ → ℕ) (F : ℕ) (body : ℕ → Expr) (wel
   steps-sound s s′ n d (then {t = t} p st) = step-sound t s′ (steps-sound s t _ d p) st
 
   -- main's root is done: nothing else is under way
-  module _ (s : View) (sound : Sound apply F body s) (r : Fn apply F body F) (over : s .status (id (body F)) ≡ 3) where
+  module _ (s : View) (sound : Sound apply F body s) (r : Fn F body F) (over : s .status (id (body F)) ≡ 3) where
     main-done : Done s (body F)
     main-done = finished s (body F) (sound .opened F r (inl refl)) over
 
-    asleep : (k f : ℕ) → F < k + f → Fn apply F body f → (f ≡ F → ⊥) → s .occupant f ≡ 0
+    asleep : (k f : ℕ) → F < k + f → Fn F body f → (f ≡ F → ⊥) → s .occupant f ≡ 0
     asleep zero f h q d = absurd (omega (arith, h, q .1))
     asleep (suc k) f h q d = go (ℕ-discrete (s .occupant f) 0) (λ g x y z. asleep k g x y z)
       where
-        go : Dec (s .occupant f ≡ 0) → ((g : ℕ) → F < k + g → Fn apply F body g → (g ≡ F → ⊥) → s .occupant g ≡ 0) → s .occupant f ≡ 0
+        go : Dec (s .occupant f ≡ 0) → ((g : ℕ) → F < k + g → Fn F body g → (g ≡ F → ⊥) → s .occupant g ≡ 0) → s .occupant f ≡ 0
         go (yes z) ih = z
         go (no z) ih = absurd (up (ℕ-discrete (o .0) F))
           where
-            o : (g : ℕ) × Fn apply F body g × (f < g) × CallIn (s .occupant f) f (body g) × Busy s (s .occupant f) true
+            o : (g : ℕ) × Fn F body g × (f < g) × CallIn (s .occupant f) f (body g) × Busy s (s .occupant f) true
             o = sound .held f (s .occupant f) q refl z
 
             up : Dec (o .0 ≡ F) → ⊥
@@ -68,7 +68,7 @@ module _ (apply : ℕ → List ℕ → ℕ) (F : ℕ) (body : ℕ → Expr) (wel
   -- a started circuit: main's body new, every other body idle, every resource free
   pub record Started (s : View) (args : List ℕ) : Type 0 where
     pub main : New apply F body s F
-    pub others : (f : ℕ) → Fn apply F body f → (f ≡ F → ⊥) → Every (Still s) (body f)
+    pub others : (f : ℕ) → Fn F body f → (f ≡ F → ⊥) → Every (Still s) (body f)
     pub free : (f : ℕ) → s .occupant f ≡ 0
     pub arguments : (i : ℕ) → s .register F i ≡ getD args i 0
 
@@ -103,7 +103,7 @@ module _ (apply : ℕ → List ℕ → ℕ) (F : ℕ) (body : ℕ → Expr) (wel
         let c = steps-before s t k (b .0) (b .1) d p (b .2) in
         (c .0, c .1, c .2, omega (arith, c .3, b .3), c .4 ∙ b .4)
 
-    end : (s : View) → Sound apply F body s → Fn apply F body F → s .status (id (body F)) ≡ 3
+    end : (s : View) → Sound apply F body s → Fn F body F → s .status (id (body F)) ≡ 3
         → Expects apply F body K s (λ m. s .value (id (body F))) (λ f. 0)
     end s d r h = record { active = λ f q a. act f q a (ℕ-discrete f F); rest = λ f q a. refl }
       where
@@ -112,29 +112,29 @@ module _ (apply : ℕ → List ℕ → ℕ) (F : ℕ) (body : ℕ → Expr) (wel
           val (s .value (id (body F))),
           0,
           0,
-          over-left apply K s (λ m. s .value (id (body F))) (s .register F) (body F) (nowhere apply F body K)
+          over-left apply K s (λ m. s .value (id (body F))) (s .register F) (body F) nowhere
               (val (s .value (id (body F)))) 0 (h, refl, refl),
           (refl, refl),
           refl,
         )
 
-        act : (f : ℕ) → Fn apply F body f → Active apply F body s f → Dec (f ≡ F)
+        act : (f : ℕ) → Fn F body f → Active apply F body s f → Dec (f ≡ F)
             → Rest apply F body K s (λ m. s .value (id (body F))) f (s .value (id (body F))) 0
         act f q a (yes e) = subst (λ y. Rest apply F body K s (λ m. s .value (id (body F))) y (s .value (id (body F))) 0) (sym e) main
         act f q (inl a) (no e) = absurd (e a)
         act f q (inr a) (no e) = absurd (a (asleep s d r h (suc F) f (omega arith) q e))
 
     -- the third demand's last sentence
-    pub answer : (s s′ : View) (args : List ℕ) (n : ℕ) → Fn apply F body F → Started s args → Steps s s′ n → s′ .status (id (body F)) ≡ 3
+    pub answer : (s s′ : View) (args : List ℕ) (n : ℕ) → Fn F body F → Started s args → Steps s s′ n → s′ .status (id (body F)) ≡ 3
         → K F args (s′ .value (id (body F))) n
     answer s s′ args n r st p h =
         let d = started-sound s args st in
         let d′ = steps-sound s s′ n d p in
         let c = steps-before s s′ n (λ m. s′ .value (id (body F))) (λ f. 0) d p (end s′ d′ r h) in
         let x = c .2 .active F r (inl refl) in
-        let q = left-reads apply K s (c .0) (s .register F) (body F) (inr (st .main .0 .0)) (nowhere apply F body K) (x .0) (x .1) (x .3) in
+        let q = left-reads apply K s (c .0) (s .register F) (body F) (inr (st .main .0 .0)) nowhere (x .0) (x .1) (x .3) in
         let k = reads F (c .0 (s .occupant F)) args (x .0) (x .1) (x .2) r
-        (subst (λ y. Reads apply K y (body F) (nowhere apply F body K) (x .0) (x .1)) (fun-ext (st .arguments)) q) (x .4) in
+        (subst (λ y. Reads apply K y (body F) nowhere (x .0) (x .1)) (fun-ext (st .arguments)) q) (x .4) in
         let total : x .1 + x .2 ≡ n = omega (
           arith,
           x .5,

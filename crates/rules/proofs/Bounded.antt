@@ -13,11 +13,11 @@ use Rattle.rules.specs.Reading.{Chosen}
 use Rattle.table.proofs.SyntaxLaws.{every-node}
 use Rattle.rules.proofs.Moves.{both, both*, done*-still}
 use Rattle.table.proofs.CallPlaces.{call-node}
-use Rattle.rules.proofs.Invariant.{Fn, Active, Sound, active?}
+use Rattle.rules.proofs.Invariant.{Active, Sound, active?}
 use Rattle.table.specs.Pick.{pick}
 use Rattle.table.proofs.Tests.{ltb-no}
 use Rattle.rules.specs.Step.{over}
-use Rattle.table.specs.Well.{Laid}
+use Rattle.table.specs.Well.{Fn, Laid}
 use Rattle.rules.proofs.LaidFacts.{own-node}
 
 pub over-none : (limit k : ℕ) (l : List ℕ) → ((m : ℕ) → 1 ≤ m → m ≤ k → entry l 0 m ≤ limit) → over limit k l ≡ false
@@ -97,8 +97,8 @@ module _ (apply : ℕ → List ℕ → ℕ) {F N : ℕ} {body at : ℕ → Expr}
   pub status-bound : (m : ℕ) → 1 ≤ m → m ≤ N → s .status m ≤ 3
   status-bound m p q = every-node (Small s) m (body (home m)) (go (active? apply F body s (home m))) (own-node laid (home m) m p q refl)
     where
-      fn : Fn apply F body (home m)
-      fn = laid .home-there m p q
+      fn : Fn F body (home m)
+      fn = laid .home-there m (p, q)
 
       go : Active apply F body s (home m) ⊎ (Active apply F body s (home m) → ⊥) → Every (Small s) (body (home m))
       go (inl a) = opened-small s (body (home m)) (live-small s (body (home m))) (sound .opened (home m) fn a)
@@ -111,4 +111,4 @@ module _ (apply : ℕ → List ℕ → ℕ) {F N : ℕ} {body at : ℕ → Expr}
       go (yes z) = omega (arith, z)
       go (no z) =
           let o = sound .held f (s .occupant f) (p, q) refl z in
-          laid .inside (o .0) (s .occupant f) (o .1 .0) (o .1 .1) (call-node (s .occupant f) f (body (o .0)) (o .3)) .2
+          laid .inside (o .0) (s .occupant f) (o .1) (call-node (s .occupant f) f (body (o .0)) (o .3)) .2

@@ -11,9 +11,9 @@ use Rattle.rules.specs.State.{View}
 use Rattle.rules.proofs.Shape.{Still, Busy, Done*, Live}
 use Rattle.rules.proofs.Moves.{Finished*, finished*}
 use Rattle.table.proofs.CallPlaces.{find, sub-call}
-use Rattle.table.specs.Well.{CallIn, Well}
+use Rattle.table.specs.Well.{Fn, CallIn, Well}
 use Rattle.rules.proofs.Places.{sub-live}
-use Rattle.rules.proofs.Invariant.{Fn, Active, Sound, stepping}
+use Rattle.rules.proofs.Invariant.{Active, Sound, stepping}
 use Rattle.list.specs.Sets.{Calls}
 use Rattle.list.specs.Conflict.{C, A}
 use Rattle.rules.proofs.Exclusive.{Way, Way*, way-C, meet}
@@ -49,18 +49,18 @@ module _ (apply : ℕ → List ℕ → ℕ) (F : ℕ) (body : ℕ → Expr) (s :
       way* (some e xs) (inr p) = inr (way* xs p)
 
   module _ (well : Well F body) (sound : Sound apply F body s)
-      (callees : (f c g : ℕ) → Fn apply F body f → CallIn c g (body f) → callee c ≡ g)
-      (bodies : (g m : ℕ) → Fn apply F body g → C callee B (body g) m → B g m) where
+      (callees : (f c g : ℕ) → Fn F body f → CallIn c g (body f) → callee c ≡ g)
+      (bodies : (g m : ℕ) → Fn F body g → C callee B (body g) m → B g m) where
     -- a call under way in the body of f, whose calls reach α
     pub record Walker (α : ℕ) : Type 0 where
       pub f : ℕ
-      pub fn : Fn apply F body f
+      pub fn : Fn F body f
       pub active : Active apply F body s f
       pub u : ℕ
       pub goes : Way s callee B u α (body f)
 
     -- the call that occupies g, as a walker to each call of g's body and to itself
-    pub holder : (g α : ℕ) → Fn apply F body g → (z : s .occupant g ≡ 0 → ⊥) → (s .occupant g ≡ α) ⊎ B g α
+    pub holder : (g α : ℕ) → Fn F body g → (z : s .occupant g ≡ 0 → ⊥) → (s .occupant g ≡ α) ⊎ B g α
         → (x : Walker α) × (g < x .f) × (callee (x .u) ≡ g) × (x .u ≡ s .occupant g) × (s .second (s .occupant g) ≡ true)
     holder g α r z goes =
         let o = sound .held g (s .occupant g) r refl z in
@@ -84,7 +84,7 @@ module _ (apply : ℕ → List ℕ → ℕ) (F : ℕ) (body : ℕ → Expr) (s :
         args es b (inr (inl l)) = absurd (true≢false (sym (b .1) ∙ l .0 .1))
         args es b (inr (inr l)) = l .1
 
-        active-live : (f : ℕ) → Fn apply F body f → (es : Exprs) → Sub (call (s .occupant g) g es) (body f) → Busy s (s .occupant g) true
+        active-live : (f : ℕ) → Fn F body f → (es : Exprs) → Sub (call (s .occupant g) g es) (body f) → Busy s (s .occupant g) true
             → Active apply F body s f × Done* s es
         active-live f q es p b =
             let m : Still s (s .occupant g) → ⊥ = λ h. ⊎-elim (λ y. omega (arith, b .0, y)) (λ y. omega (arith, b .0, y)) (h .0) in
@@ -101,7 +101,7 @@ module _ (apply : ℕ → List ℕ → ℕ) (F : ℕ) (body : ℕ → Expr) (s :
             (inr (bodies (w .f) α (w .fn) (way-C s callee B (w .u) α (body (w .f)) (w .goes)))) in (o .0, o .1, o .2)
 
     abbrev pub Listed : ℕ → Type 0
-    Listed α = (f : ℕ) × Fn apply F body f × A callee B (body f) α
+    Listed α = (f : ℕ) × Fn F body f × A callee B (body f) α
 
     abbrev Collide : ℕ → ℕ → ℕ → Type 0
     Collide k α β = (w : Walker α) (x : Walker β) → callee α ≡ callee β → (w .u ≡ x .u → ⊥) → callee (w .u) < x .f → callee (x .u) < w .f
@@ -141,11 +141,11 @@ module _ (apply : ℕ → List ℕ → ℕ) (F : ℕ) (body : ℕ → Expr) (s :
     collide (suc k) α β w x e d p q r = turn k α β (collide k α β) w x e d p q r
 
     -- a call n of g, in the body of h, that waits with its arguments done while g is occupied
-    pub waiting-listed : (h : ℕ) → Fn apply F body h → (n g : ℕ) (es : Exprs) → Sub (call n g es) (body h) → Busy s n false
+    pub waiting-listed : (h : ℕ) → Fn F body h → (n g : ℕ) (es : Exprs) → Sub (call n g es) (body h) → Busy s n false
         → Finished* s es → (s .occupant g ≡ 0 → ⊥) → Listed n
     waiting-listed h r n g es p b f z =
         let k = sub-call n g es (body h) p in
-        let g<h = well .below h n g (r .0) (r .1) k in
+        let g<h = well .below h n g r k in
         let o = holder g (s .occupant g) (g<h .0, omega (arith, g<h .1, r .1)) z (inl refl) in
         let st = stepping apply F body well s s sound h r (call n g es) p moving in
         let here : Walker n = record {

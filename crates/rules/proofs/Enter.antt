@@ -14,13 +14,13 @@ use Rattle.table.proofs.SyntaxLaws.{apart-sub, node?}
 use Rattle.rules.proofs.Within.{within}
 use Rattle.rules.proofs.Moves.{finished*}
 use Rattle.rules.proofs.Mix.{mix, mix-in, mix-out}
-use Rattle.table.specs.Well.{CallIn, Well}
+use Rattle.table.specs.Well.{Fn, CallIn, Well}
 use Rattle.table.proofs.CallPlaces.{call-node, sub-call}
 use Rattle.rules.proofs.Places.{still-busy}
-use Rattle.rules.proofs.Invariant.{Fn, Active, EnterStep, Sound, new-live, stepping, aside, aside-rest}
+use Rattle.rules.proofs.Invariant.{Active, EnterStep, Sound, new-live, stepping, aside, aside-rest}
 
 module _ (apply : ℕ → List ℕ → ℕ) (F : ℕ) (body : ℕ → Expr) (well : Well F body) (s s′ : View) (sound : Sound apply F body s)
-    (h : ℕ) (r : Fn apply F body h) (n g : ℕ) (es : Exprs) (st : EnterStep apply F body s s′ h n g es) where
+    (h : ℕ) (r : Fn F body h) (n g : ℕ) (es : Exprs) (st : EnterStep apply F body s s′ h n g es) where
   abbrev U : Expr
   U = call n g es
 
@@ -28,13 +28,13 @@ module _ (apply : ℕ → List ℕ → ℕ) (F : ℕ) (body : ℕ → Expr) (wel
   in-h = sub-call n g es (body h) (st .place)
 
   pub g<h : (1 ≤ g) × (g < h)
-  g<h = well .below h n g (r .0) (r .1) in-h
+  g<h = well .below h n g r in-h
 
-  pub fn-g : Fn apply F body g
+  pub fn-g : Fn F body g
   fn-g = (g<h .0, omega (arith, g<h .1, r .1))
 
   pub n≢0 : n ≡ 0 → ⊥
-  n≢0 = well .nonzero h n (r .0) (r .1) (call-node n g (body h) in-h)
+  n≢0 = well .nonzero h n r (call-node n g (body h) in-h)
 
   pub asleep : Active apply F body s g → ⊥
   asleep (inl e) = omega (arith, g<h .1, r .1)
@@ -50,7 +50,7 @@ module _ (apply : ℕ → List ℕ → ℕ) (F : ℕ) (body : ℕ → Expr) (wel
   h≢g e = omega (arith, g<h .1, e)
 
   pub apart-hg : (m : ℕ) → Node m (body h) → Node m (body g) → ⊥
-  apart-hg m a b = h≢g (well .owner h g m (r .0) (r .1) (fn-g .0) (fn-g .1) a b)
+  apart-hg m a b = h≢g (well .owner h g m r fn-g a b)
 
   -- the state after the step, but with g's body as it was
   abbrev pub t : View
@@ -74,7 +74,7 @@ module _ (apply : ℕ → List ℕ → ℕ) (F : ℕ) (body : ℕ → Expr) (wel
       go (no p) = st .keepsFn f p .0 ∙ e
 
   apart-u : Node* n es → ⊥
-  apart-u = apart-sub U (body h) (well .apart h (r .0) (r .1)) (st .place) .0
+  apart-u = apart-sub U (body h) (well .apart h r) (st .place) .0
 
   local : Live s U → Opened t U
   local (inl l) = absurd (omega (arith, l .0 .0, st .waits .0))
@@ -99,10 +99,10 @@ module _ (apply : ℕ → List ℕ → ℕ) (F : ℕ) (body : ℕ → Expr) (wel
   keeps-x : (m : ℕ) → (X m → ⊥) → Same s s′ m
   keeps-x m x = st .keeps m (λ e. x (inl e)) (λ k. x (inr k))
 
-  elsewhere : (f : ℕ) → Fn apply F body f → (f ≡ h → ⊥) → (f ≡ g → ⊥) → (m : ℕ) → Node m (body f) → X m → ⊥
+  elsewhere : (f : ℕ) → Fn F body f → (f ≡ h → ⊥) → (f ≡ g → ⊥) → (m : ℕ) → Node m (body f) → X m → ⊥
   elsewhere f q a b m k (inl e) =
-      a (well .owner f h m (q .0) (q .1) (r .0) (r .1) k (subst (λ x. Node x (body h)) (sym e) (call-node n g (body h) in-h)))
-  elsewhere f q a b m k (inr z) = b (well .owner f g m (q .0) (q .1) (fn-g .0) (fn-g .1) k z)
+      a (well .owner f h m q r k (subst (λ x. Node x (body h)) (sym e) (call-node n g (body h) in-h)))
+  elsewhere f q a b m k (inr z) = b (well .owner f g m q fn-g k z)
 
   still-active : (f : ℕ) → (f ≡ g → ⊥) → Active apply F body s′ f → Active apply F body s f
   still-active f b (inl e) = inl e
@@ -122,9 +122,9 @@ module _ (apply : ℕ → List ℕ → ℕ) (F : ℕ) (body : ℕ → Expr) (wel
     where
       opened-h : Opened s′ (body h)
       opened-h = opened-over t s′ (λ m. Node m (body g)) (λ m x. mix-out (body g) s s′ m x) (λ f m x z e. e) (body h) apart-hg
-          (within s t U keeps-u (λ f m x z e. occupants f m z e) moving local (body h) (well .apart h (r .0) (r .1)) (st .place) live-h)
+          (within s t U keeps-u (λ f m x z e. occupants f m z e) moving local (body h) (well .apart h r) (st .place) live-h)
 
-      opened-f : (f : ℕ) → Fn apply F body f → Active apply F body s′ f → Dec (f ≡ h) → Dec (f ≡ g) → Opened s′ (body f)
+      opened-f : (f : ℕ) → Fn F body f → Active apply F body s′ f → Dec (f ≡ h) → Dec (f ≡ g) → Opened s′ (body f)
       opened-f f q a (yes e) d = subst (λ x. Opened s′ (body x)) (sym e) opened-h
       opened-f f q a (no e) (yes d) =
           subst (λ x. Opened s′ (body x)) (sym d) (inl (new-live apply F body s′ (body g) (st .new .0) (st .new .1)))
@@ -132,7 +132,7 @@ module _ (apply : ℕ → List ℕ → ℕ) (F : ℕ) (body : ℕ → Expr) (wel
           aside apply F body well s s′ sound X keeps-x (λ f m x z e. occupants f m z e) f (elsewhere f q e d)
           (sound .opened f q (still-active f d a))
 
-      rest-f : (f : ℕ) → Fn apply F body f → (Active apply F body s′ f → ⊥) → Dec (f ≡ h) → Dec (f ≡ g) → Every (Still s′) (body f)
+      rest-f : (f : ℕ) → Fn F body f → (Active apply F body s′ f → ⊥) → Dec (f ≡ h) → Dec (f ≡ g) → Every (Still s′) (body f)
       rest-f f q a (yes e) d = absurd
           (a (now-active f (λ x. h≢g (sym e ∙ x)) (subst (Active apply F body s) (sym e) (stepping apply F body well s s′ sound h r U
           (st .place) moving .0))))
@@ -140,11 +140,11 @@ module _ (apply : ℕ → List ℕ → ℕ) (F : ℕ) (body : ℕ → Expr) (wel
       rest-f f q a (no e) (no d) = aside-rest apply F body well s s′ sound X keeps-x (λ f m x z e. occupants f m z e) f (elsewhere f q e d)
           (sound .rest f q (λ b. a (now-active f d b)))
 
-      not-x : (f c k : ℕ) → Fn apply F body k → CallIn c f (body k) → Busy s c true → X c → ⊥
+      not-x : (f c k : ℕ) → Fn F body k → CallIn c f (body k) → Busy s c true → X c → ⊥
       not-x f c k q i b (inl e) = true≢false (sym (b .1) ∙ subst (λ x. s .second x ≡ false) (sym e) (st .waits .1))
       not-x f c k q i b (inr z) = still-busy s c (b .0) (body g) (sound .rest g fn-g asleep) z
 
-      held-f : (f c : ℕ) → Fn apply F body f → s′ .occupant f ≡ c → (c ≡ 0 → ⊥) → Dec (f ≡ g) → (k : ℕ) × Fn apply F body k × (f < k)
+      held-f : (f c : ℕ) → Fn F body f → s′ .occupant f ≡ c → (c ≡ 0 → ⊥) → Dec (f ≡ g) → (k : ℕ) × Fn F body k × (f < k)
           × CallIn c f (body k) × Busy s′ c true
       held-f f c q e z (yes d) =
           let c≡n : n ≡ c = sym (st .occupies) ∙ subst (λ x. s′ .occupant x ≡ c) d e in (

@@ -24,7 +24,7 @@ module _ (apply : ℕ → List ℕ → ℕ) {F N : ℕ} {body at : ℕ → Expr}
     (s s′ : View) (agree : Agree (Range N) (Range F) s s′) (h : ℕ) (r : Range F h) where
   within : (f m : ℕ) → Range F f → Node m (body f) → Same s′ s m
   within f m q k =
-      let i = laid .inside f m (q .0) (q .1) k in
+      let i = laid .inside f m q k in
       (agree .status m (i .1, i .2), agree .second m (i .1, i .2), agree .value m (i .1, i .2))
 
   beside : (u : Expr) → Sub u (body h) → ((n d : ℕ) → u ≡ bound n d → Range N d) → Beside apply body h s′ s u
@@ -35,7 +35,7 @@ module _ (apply : ℕ → List ℕ → ℕ) {F N : ℕ} {body at : ℕ → Expr}
   beside (call n g es) p b = (λ z. let k = within g (id (body g)) fn-g (node-id (body g)) in (k .0, k .2), λ z. agree .occupant g fn-g)
     where
       fn-g : Range F g
-      fn-g = let g<h = laid .well .below h n g (r .0) (r .1) (sub-call n g es (body h) p) in (g<h .0, omega (arith, g<h .1, r .1))
+      fn-g = let g<h = laid .well .below h n g r (sub-call n g es (body h) p) in (g<h .0, omega (arith, g<h .1, r .1))
   beside (self n es) p b = tt
   beside (cond n x y z) p b = tt
   beside (bind n ds e) p b = tt
@@ -52,7 +52,7 @@ module _ (apply : ℕ → List ℕ → ℕ) {F N : ℕ} {body at : ℕ → Expr}
     (s s′ : State512) (z : Sized s) (z′ : Sized s′) (agree : Agree (Range N) (Range F) (view s) (view s′)) (n : ℕ)
     (bounds : (m d : ℕ) → Range N n → at n ≡ bound m d → Range N d) where
   main-in : Range N (id (body F))
-  main-in = let i = laid .inside F (id (body F)) (laid .some-function) (omega arith) (node-id (body F)) in (i .1, i .2)
+  main-in = let i = laid .inside F (id (body F)) (laid .some-function, omega arith) (node-id (body F)) in (i .1, i .2)
 
   both-tests : (b b′ : Bool) (x x′ y y′ : Stepped) → b ≡ b′ → Alike F N x x′ → (b ≡ false → Alike F N y y′) → Alike F N (pick b x y)
       (pick b′ x′ y′)
@@ -89,5 +89,5 @@ module _ (apply : ℕ → List ℕ → ℕ) {F N : ℕ} {body at : ℕ → Expr}
       there a b = (omega (arith, eqb-false n 0 a), ltb-false N n b)
 
       acts : Range N n → act apply body (home n) (view s) (at n) ≡ act apply body (home n) (view s′) (at n)
-      acts r = act-agree apply laid (view s) (view s′) agree (home n) (laid .home-there n (r .0) (r .1)) (at n)
-          (laid .placed n (r .0) (r .1)) (λ m d e. bounds m d r e)
+      acts r = act-agree apply laid (view s) (view s′) agree (home n) (laid .home-there n r) (at n)
+          (laid .placed n r) (λ m d e. bounds m d r e)

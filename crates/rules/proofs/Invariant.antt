@@ -1,5 +1,5 @@
 -- the whole circuit: its steps, and what holds of every state that they reach
-use Prim.Native.Nat.{ℕ, _≤_, _<_}
+use Prim.Native.Nat.{ℕ, _<_}
 use mathlib.Core.Bool.{true, false}
 use mathlib.Core.Path.{_≡_, subst, sym, _∙_}
 use mathlib.Core.Logic.{_⊎_, inl, inr, ⊎-elim}
@@ -15,14 +15,11 @@ use Rattle.table.proofs.SyntaxLaws.{node-id, sub-node, every-node}
 use Rattle.rules.proofs.Within.{done-not, within}
 use Rattle.table.specs.Environment.{values}
 use Rattle.rules.proofs.Moves.{Under, Finished*, Becomes, Inner, inner-live}
-use Rattle.table.specs.Well.{CallIn, Well}
+use Rattle.table.specs.Well.{CallIn, Fn, Well}
 use Rattle.table.proofs.CallPlaces.{call-node, call-at}
 use Rattle.rules.proofs.Places.{sub-live, inner-busy}
 
 module _ (apply : ℕ → List ℕ → ℕ) (F : ℕ) (body : ℕ → Expr) where
-  abbrev pub Fn : ℕ → Type 0
-  Fn f = (1 ≤ f) × (f ≤ F)
-
   abbrev pub Active : View → ℕ → Type 0
   Active s f = (f ≡ F) ⊎ (s .occupant f ≡ 0 → ⊥)
 
@@ -72,16 +69,16 @@ module _ (apply : ℕ → List ℕ → ℕ) (F : ℕ) (body : ℕ → Expr) wher
     pub keepsFn : (f : ℕ) → (f ≡ h → ⊥) → SameFn s s′ f
 
   pub data Step (s s′ : View) : Type 0 where
-    inner : (h : ℕ) → Fn h → (u : Expr) → InnerStep s s′ h u → Step s s′
-    enter : (h : ℕ) → Fn h → (n g : ℕ) (es : Exprs) → EnterStep s s′ h n g es → Step s s′
-    leave : (h : ℕ) → Fn h → (n g : ℕ) (es : Exprs) → LeaveStep s s′ h n g es → Step s s′
-    again : (h : ℕ) → Fn h → (n : ℕ) (es : Exprs) → AgainStep s s′ h n es → Step s s′
+    inner : (h : ℕ) → Fn F body h → (u : Expr) → InnerStep s s′ h u → Step s s′
+    enter : (h : ℕ) → Fn F body h → (n g : ℕ) (es : Exprs) → EnterStep s s′ h n g es → Step s s′
+    leave : (h : ℕ) → Fn F body h → (n g : ℕ) (es : Exprs) → LeaveStep s s′ h n g es → Step s s′
+    again : (h : ℕ) → Fn F body h → (n : ℕ) (es : Exprs) → AgainStep s s′ h n es → Step s s′
 
   -- holds of every state that is reached
   pub record Sound (s : View) : Type 0 where
-    pub opened : (f : ℕ) → Fn f → Active s f → Opened s (body f)
-    pub rest : (f : ℕ) → Fn f → (Active s f → ⊥) → Every (Still s) (body f)
-    pub held : (f c : ℕ) → Fn f → s .occupant f ≡ c → (c ≡ 0 → ⊥) → (g : ℕ) × Fn g × (f < g) × CallIn c f (body g) × Busy s c true
+    pub opened : (f : ℕ) → Fn F body f → Active s f → Opened s (body f)
+    pub rest : (f : ℕ) → Fn F body f → (Active s f → ⊥) → Every (Still s) (body f)
+    pub held : (f c : ℕ) → Fn F body f → s .occupant f ≡ c → (c ≡ 0 → ⊥) → (g : ℕ) × Fn F body g × (f < g) × CallIn c f (body g) × Busy s c true
     pub top : s .occupant F ≡ 0
 
   pub active? : (s : View) (f : ℕ) → Active s f ⊎ (Active s f → ⊥)
@@ -104,7 +101,7 @@ module _ (apply : ℕ → List ℕ → ℕ) (F : ℕ) (body : ℕ → Expr) wher
 
   module _ (well : Well F body) (s s′ : View) (sound : Sound s) where
     -- a node of a body that takes a step: the body is active
-    pub stepping : (h : ℕ) → Fn h → (u : Expr) → Sub u (body h) → (Still s (id u) → ⊥) → Active s h × Live s (body h)
+    pub stepping : (h : ℕ) → Fn F body h → (u : Expr) → Sub u (body h) → (Still s (id u) → ⊥) → Active s h × Live s (body h)
     stepping h r u p m = ⊎-elim (λ a. (a, live (sound .opened h r a)))
         (λ a. absurd (m (every-node (Still s) (id u) (body h) (sound .rest h r a) (sub-node u (id u) (body h) p (node-id u)))))
         (active? s h)
@@ -146,7 +143,7 @@ module _ (apply : ℕ → List ℕ → ℕ) (F : ℕ) (body : ℕ → Expr) wher
         go (bind n ds b) (inr (inr r)) h = two n (r .0 .0) h
         go (bound n d) r h = one n (r .0) h
 
-    module _ (h : ℕ) (r : Fn h) (u : Expr) (st : InnerStep s s′ h u) where
+    module _ (h : ℕ) (r : Fn F body h) (u : Expr) (st : InnerStep s s′ h u) where
       moving : Still s (id u) → ⊥
       moving = inner-moving (s .register h) u (st .rule)
 
@@ -167,8 +164,8 @@ module _ (apply : ℕ → List ℕ → ℕ) (F : ℕ) (body : ℕ → Expr) wher
       holds : (g m : ℕ) → (Node m u → ⊥) → (m ≡ 0 → ⊥) → s .occupant g ≡ m → s′ .occupant g ≡ m
       holds g m x z e = st .keepsFn g .0 ∙ e
 
-      elsewhere : (f : ℕ) → Fn f → (f ≡ h → ⊥) → (m : ℕ) → Node m (body f) → Node m u → ⊥
-      elsewhere f q e m a b = e (well .owner f h m (q .0) (q .1) (r .0) (r .1) a (sub-node u m (body h) (st .place) b))
+      elsewhere : (f : ℕ) → Fn F body f → (f ≡ h → ⊥) → (m : ℕ) → Node m (body f) → Node m u → ⊥
+      elsewhere f q e m a b = e (well .owner f h m q r a (sub-node u m (body h) (st .place) b))
 
       pub inner-sound : Sound s′
       inner-sound = record {
@@ -178,28 +175,28 @@ module _ (apply : ℕ → List ℕ → ℕ) (F : ℕ) (body : ℕ → Expr) wher
         top = st .keepsFn F .0 ∙ sound .top;
       }
         where
-          elim-f : (f : ℕ) → Fn f → Active s′ f → Dec (f ≡ h) → Opened s′ (body f)
+          elim-f : (f : ℕ) → Fn F body f → Active s′ f → Dec (f ≡ h) → Opened s′ (body f)
           elim-f f q a (yes e) = subst (λ x. Opened s′ (body x)) (sym e)
               (within s s′ u (st .keeps) holds moving (λ l. inner-live apply (s .register h) s s′ u (st .rule) l) (body h)
-              (well .apart h (r .0) (r .1)) (st .place) live-h)
+              (well .apart h r) (st .place) live-h)
           elim-f f q a (no e) = aside (λ m. Node m u) (st .keeps) holds f (elsewhere f q e) (sound .opened f q (still-active f a))
 
-          rest-f : (f : ℕ) → Fn f → (Active s′ f → ⊥) → Dec (f ≡ h) → Every (Still s′) (body f)
+          rest-f : (f : ℕ) → Fn F body f → (Active s′ f → ⊥) → Dec (f ≡ h) → Every (Still s′) (body f)
           rest-f f q a (yes e) = absurd (a (now-active f (subst (Active s) (sym e) (stepping h r u (st .place) moving .0))))
           rest-f f q a (no e) = aside-rest (λ m. Node m u) (st .keeps) holds f (elsewhere f q e) (sound .rest f q (λ b. a (now-active f b)))
 
-          not-u : (f c g : ℕ) → Fn g → CallIn c f (body g) → Busy s c true → Node c u → ⊥
+          not-u : (f c g : ℕ) → Fn F body g → CallIn c f (body g) → Busy s c true → Node c u → ⊥
           not-u f c g q k b x =
-              let e : g ≡ h = well .owner g h c (q .0) (q .1) (r .0) (r .1) (call-node c f (body g) k)
+              let e : g ≡ h = well .owner g h c q r (call-node c f (body g) k)
               (sub-node u c (body h) (st .place) x) in
               let i : c ≡ id u = inner-busy s c (b .0) apply (s .register h) s′ u (st .rule) live-u x in
-              let t = call-at u c f (sym i) (body h) (well .apart h (r .0) (r .1)) (subst (λ y. CallIn c f (body y)) e k) (st .place) in
+              let t = call-at u c f (sym i) (body h) (well .apart h r) (subst (λ y. CallIn c f (body y)) e k) (st .place) in
               opens (t .0) (subst (Inner apply (s .register h) s s′) (t .1) (st .rule))
             where
               opens : (es : Exprs) → Inner apply (s .register h) s s′ (call c f es) → ⊥
               opens es o = omega (arith, o .0 .0, b .0)
 
-          held-f : (f c : ℕ) → Fn f → s′ .occupant f ≡ c → (c ≡ 0 → ⊥) → (g : ℕ) × Fn g × (f < g) × CallIn c f (body g) × Busy s′ c true
+          held-f : (f c : ℕ) → Fn F body f → s′ .occupant f ≡ c → (c ≡ 0 → ⊥) → (g : ℕ) × Fn F body g × (f < g) × CallIn c f (body g) × Busy s′ c true
           held-f f c q e z =
               let t = sound .held f c q (sym (st .keepsFn f .0) ∙ e) z in
               let k = st .keeps c (not-u f c (t .0) (t .1) (t .3) (t .4)) in

@@ -13,12 +13,12 @@ use borrow.Author.Tests.{eqb-true, eqb-false}
 use Rattle.table.proofs.LaidOut.{call-here}
 use Rattle.table.specs.Syntax.{Expr, id, Sub}
 use Rattle.rules.specs.State.{View, State512, In, view, circuitStart}
-use Rattle.rules.specs.Reading.{val, again, Readings, readings}
+use Rattle.rules.specs.Reading.{Readings, readings}
 use Rattle.table.specs.Pick.{pick, Range}
 use Rattle.rules.proofs.Levels.{closes}
-use Rattle.table.specs.Well.{CallIn, Laid}
+use Rattle.table.specs.Well.{Fn, CallIn, Laid}
 use Rattle.list.specs.Conflict.{C}
-use Rattle.rules.proofs.Invariant.{Fn, Sound}
+use Rattle.rules.proofs.Invariant.{Sound}
 use Rattle.rules.proofs.Collide.{waiting-listed}
 use Rattle.rules.proofs.Remaining.{Closes}
 use Rattle.rules.proofs.Answers.{Steps, rest, then, Started, started-sound, answer}
@@ -38,13 +38,12 @@ module _ (apply : ℕ → List ℕ → ℕ) {F N : ℕ} {body at : ℕ → Expr}
   abbrev K : Readings
   K = readings apply body F
 
-  fn-main : Fn apply F body F
+  fn-main : Fn F body F
   fn-main = (laid .some-function, omega arith)
 
   -- the readings are what the abstract proof asks for
   program-reads : Closes apply F body K
-  program-reads f v vs (val w) j i r x e = closes apply body F (laid .well .below) f v vs (val w) j i (r .0) (r .1) x e
-  program-reads f v vs (again ws) j i r x e = closes apply body F (laid .well .below) f v vs (again ws) j i (r .0) (r .1) x e
+  program-reads = closes apply body F (laid .well)
 
   abbrev Root : ℕ
   Root = id (body F)
@@ -204,17 +203,17 @@ module _ (apply : ℕ → List ℕ → ℕ) {F N : ℕ} {body at : ℕ → Expr}
   -- a call that waits at an occupied resource is listed
   waits-listed : (s : View) → Sound apply F body s → (n : ℕ) → Range N n → Waits s (at n) → Listed body at F n
   waits-listed s sound n r w =
-      let e : w .0 ≡ n = sym (ap id (w .3)) ∙ laid .number n (r .0) (r .1) in
+      let e : w .0 ≡ n = sym (ap id (w .3)) ∙ laid .number n r in
       let x = waiting-listed apply F body s (callee-at at) (sets body at F) (laid .well) sound callees bodies
       (home n) (fn-home apply laid n r) (w .0) (w .1) (w .2)
-      (subst (λ u. Sub u (body (home n))) (w .3) (laid .placed n (r .0) (r .1))) (w .4) (w .5) (w .6) in
+      (subst (λ u. Sub u (body (home n))) (w .3) (laid .placed n r)) (w .4) (w .5) (w .6) in
       subst (Listed body at F) e (x .0, x .1 .0, x .1 .1, x .2)
     where
-      callees : (f c g : ℕ) → Fn apply F body f → CallIn c g (body f) → callee-at at c ≡ g
+      callees : (f c g : ℕ) → Fn F body f → CallIn c g (body f) → callee-at at c ≡ g
       callees f c g q i = ap callee (call-here laid f c g q i .1)
 
-      bodies : (g m : ℕ) → Fn apply F body g → C (callee-at at) (sets body at F) (body g) m → sets body at F g m
-      bodies g m q = body-calls F body at m (laid .well .below) g (q .0) (q .1)
+      bodies : (g m : ℕ) → Fn F body g → C (callee-at at) (sets body at F) (body g) m → sets body at F g m
+      bodies g m q = body-calls F body at m (λ f c h a b. laid .well .below f c h (a, b)) g (q .0) (q .1)
 
   module _ (tags : ℕ → Bool) (holds : (n : ℕ) → Listed body at F n → tags n ≡ true) (s₀ : View) where
     not-23 : (b : Bool) → b ≡ true → _≡_ {A = ℕ} 23 (pick b 22 23) → ⊥

@@ -99,5 +99,5 @@ module _ (s : View) where
 module _ {F N : ℕ} {body at : ℕ → Expr} {home : ℕ → ℕ} (laid : Laid F N body at home) where
   pub own-node : (g m : ℕ) → 1 ≤ m → m ≤ N → home m ≡ g → Node m (body g)
   own-node g m p q e =
-      subst (λ f. Node m (body f)) e (subst (λ x. Node x (body (home m))) (laid .number m p q)
-      (sub-node (at m) (id (at m)) (body (home m)) (laid .placed m p q) (node-id (at m))))
+      subst (λ f. Node m (body f)) e (subst (λ x. Node x (body (home m))) (laid .number m (p, q))
+      (sub-node (at m) (id (at m)) (body (home m)) (laid .placed m (p, q)) (node-id (at m))))

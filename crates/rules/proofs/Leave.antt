@@ -13,13 +13,13 @@ use Rattle.rules.proofs.Frame.{done-over*}
 use Rattle.table.proofs.SyntaxLaws.{apart-sub}
 use Rattle.rules.proofs.Within.{within}
 use Rattle.rules.proofs.Moves.{finished, done*-still}
-use Rattle.table.specs.Well.{CallIn, Well}
+use Rattle.table.specs.Well.{Fn, CallIn, Well}
 use Rattle.table.proofs.CallPlaces.{call-node, sub-call, call-at}
 use Rattle.rules.proofs.Places.{sub-live}
-use Rattle.rules.proofs.Invariant.{Fn, Active, LeaveStep, Sound, stepping, aside, aside-rest}
+use Rattle.rules.proofs.Invariant.{Active, LeaveStep, Sound, stepping, aside, aside-rest}
 
 module _ (apply : ℕ → List ℕ → ℕ) (F : ℕ) (body : ℕ → Expr) (well : Well F body) (s s′ : View) (sound : Sound apply F body s)
-    (h : ℕ) (r : Fn apply F body h) (n g : ℕ) (es : Exprs) (st : LeaveStep apply F body s s′ h n g es) where
+    (h : ℕ) (r : Fn F body h) (n g : ℕ) (es : Exprs) (st : LeaveStep apply F body s s′ h n g es) where
   abbrev U : Expr
   U = call n g es
 
@@ -27,13 +27,13 @@ module _ (apply : ℕ → List ℕ → ℕ) (F : ℕ) (body : ℕ → Expr) (wel
   in-h = sub-call n g es (body h) (st .place)
 
   pub g<h : (1 ≤ g) × (g < h)
-  g<h = well .below h n g (r .0) (r .1) in-h
+  g<h = well .below h n g r in-h
 
-  pub fn-g : Fn apply F body g
+  pub fn-g : Fn F body g
   fn-g = (g<h .0, omega (arith, g<h .1, r .1))
 
   pub n≢0 : n ≡ 0 → ⊥
-  n≢0 = well .nonzero h n (r .0) (r .1) (call-node n g (body h) in-h)
+  n≢0 = well .nonzero h n r (call-node n g (body h) in-h)
 
   pub moving : Still s n → ⊥
   moving k = ⊎-elim (λ z. omega (arith, st .holds .0, z)) (λ z. omega (arith, st .holds .0, z)) (k .0)
@@ -48,7 +48,7 @@ module _ (apply : ℕ → List ℕ → ℕ) (F : ℕ) (body : ℕ → Expr) (wel
   h≢g e = omega (arith, g<h .1, e)
 
   apart-u : Node* n es → ⊥
-  apart-u = apart-sub U (body h) (well .apart h (r .0) (r .1)) (st .place) .0
+  apart-u = apart-sub U (body h) (well .apart h r) (st .place) .0
 
   -- the resource is this call's
   pub mine : s .occupant g ≡ n
@@ -79,8 +79,8 @@ module _ (apply : ℕ → List ℕ → ℕ) (F : ℕ) (body : ℕ → Expr) (wel
         ),
       )
 
-  elsewhere : (f : ℕ) → Fn apply F body f → (f ≡ h → ⊥) → (m : ℕ) → Node m (body f) → m ≡ n → ⊥
-  elsewhere f q a m k e = a (well .owner f h m (q .0) (q .1) (r .0) (r .1) k
+  elsewhere : (f : ℕ) → Fn F body f → (f ≡ h → ⊥) → (m : ℕ) → Node m (body f) → m ≡ n → ⊥
+  elsewhere f q a m k e = a (well .owner f h m q r k
       (subst (λ x. Node x (body h)) (sym e) (call-node n g (body h) in-h)))
 
   -- g was active, and its body is done
@@ -103,18 +103,18 @@ module _ (apply : ℕ → List ℕ → ℕ) (F : ℕ) (body : ℕ → Expr) (wel
     top = st .keepsFn F (λ e. omega (arith, e, g<h .1, r .1)) .0 ∙ sound .top;
   }
     where
-      opened-f : (f : ℕ) → Fn apply F body f → Active apply F body s′ f → Dec (f ≡ h) → Dec (f ≡ g) → Opened s′ (body f)
+      opened-f : (f : ℕ) → Fn F body f → Active apply F body s′ f → Dec (f ≡ h) → Dec (f ≡ g) → Opened s′ (body f)
       opened-f f q a (yes e) d =
           subst (λ x. Opened s′ (body x)) (sym e)
           (within s s′ U (λ m x. st .keeps m (λ e. x (inl e))) (λ f m x z e. occupants f m (λ y. x (inl y)) e) moving local (body h)
-          (well .apart h (r .0) (r .1)) (st .place) live-h)
+          (well .apart h r) (st .place) live-h)
       opened-f f q (inl a) (no e) (yes d) = absurd (omega (arith, a, d, g<h .1, r .1))
       opened-f f q (inr a) (no e) (yes d) = absurd (a (subst (λ x. s′ .occupant x ≡ 0) (sym d) (st .frees)))
       opened-f f q a (no e) (no d) =
           aside apply F body well s s′ sound (λ m. m ≡ n) (st .keeps) (λ f m x z e. occupants f m x e) f (elsewhere f q e)
           (sound .opened f q (still-active f d a))
 
-      rest-f : (f : ℕ) → Fn apply F body f → (Active apply F body s′ f → ⊥) → Dec (f ≡ h) → Dec (f ≡ g) → Every (Still s′) (body f)
+      rest-f : (f : ℕ) → Fn F body f → (Active apply F body s′ f → ⊥) → Dec (f ≡ h) → Dec (f ≡ g) → Every (Still s′) (body f)
       rest-f f q a (yes e) d = absurd
           (a (now-active f (λ x. h≢g (sym e ∙ x)) (subst (Active apply F body s) (sym e) (stepping apply F body well s s′ sound h r U
           (st .place) moving .0))))
@@ -125,17 +125,17 @@ module _ (apply : ℕ → List ℕ → ℕ) (F : ℕ) (body : ℕ → Expr) (wel
           (elsewhere f q e) (sound .rest f q (λ b. a (now-active f d b)))
 
       -- another holder is another node: one call calls one function
-      other : (f c k : ℕ) → Fn apply F body k → (f ≡ g → ⊥) → CallIn c f (body k) → c ≡ n → ⊥
+      other : (f c k : ℕ) → Fn F body k → (f ≡ g → ⊥) → CallIn c f (body k) → c ≡ n → ⊥
       other f c k q d i e =
-          let k≡h : k ≡ h = well .owner k h c (q .0) (q .1) (r .0) (r .1) (call-node c f (body k) i)
+          let k≡h : k ≡ h = well .owner k h c q r (call-node c f (body k) i)
           (subst (λ x. Node x (body h)) (sym e) (call-node n g (body h) in-h)) in
-          let z = call-at U c f (sym e) (body h) (well .apart h (r .0) (r .1)) (subst (λ x. CallIn c f (body x)) k≡h i) (st .place) in
+          let z = call-at U c f (sym e) (body h) (well .apart h r) (subst (λ x. CallIn c f (body x)) k≡h i) (st .place) in
           d (callees (z .0) (z .1))
         where
           callees : (xs : Exprs) → U ≡ call c f xs → f ≡ g
           callees xs p = cc
 
-      held-f : (f c : ℕ) → Fn apply F body f → s′ .occupant f ≡ c → (c ≡ 0 → ⊥) → Dec (f ≡ g) → (k : ℕ) × Fn apply F body k × (f < k)
+      held-f : (f c : ℕ) → Fn F body f → s′ .occupant f ≡ c → (c ≡ 0 → ⊥) → Dec (f ≡ g) → (k : ℕ) × Fn F body k × (f < k)
           × CallIn c f (body k) × Busy s′ c true
       held-f f c q e z (yes d) = absurd (z (sym e ∙ subst (λ x. s′ .occupant x ≡ 0) (sym d) (st .frees)))
       held-f f c q e z (no d) =

@@ -12,14 +12,14 @@ use Rattle.table.proofs.LaidOut.{call-here}
 use Rattle.table.specs.Syntax.{Expr, Exprs, const, param, prim, call, self, cond, bind, bound, id, Sub}
 use Rattle.rules.specs.State.{View, State512, view}
 use Rattle.rules.proofs.Shape.{Still, Busy, Live}
-use Rattle.table.specs.Well.{CallIn, Laid}
+use Rattle.table.specs.Well.{Fn, CallIn, Laid}
 use Rattle.table.proofs.CallPlaces.{call-node, sub-call}
 use Rattle.rules.proofs.Places.{sub-live}
 use Rattle.table.specs.Pick.{pick, Range}
 use Rattle.table.specs.Environment.{put}
 use Rattle.table.specs.Find.{total}
 use Rattle.rules.proofs.SumLaws.{sum-ext, sum-add, sum-put, sum-zero, put-same, put-other}
-use Rattle.rules.proofs.Invariant.{Fn, Sound, stepping}
+use Rattle.rules.proofs.Invariant.{Sound, stepping}
 use Rattle.rules.specs.Step.{does, Move, act, perform}
 use Rattle.rules.proofs.Performed.{Does, Acted}
 use Rattle.rules.proofs.StepFacts.{Good, moved-does, moved-step}
@@ -42,7 +42,7 @@ thirds-split k t e = omega arith
 
 -- of the steps taken at a call, the remainder by three is its phase
 abbrev pub Phased : (ℕ → List ℕ → ℕ) → ℕ → (ℕ → Expr) → View → List ℕ → Type 0
-Phased apply F body s ns = (f c g : ℕ) → Fn apply F body f → CallIn c g (body f) → count c ns % 3 ≡ third s c
+Phased apply F body s ns = (f c g : ℕ) → Fn F body f → CallIn c g (body f) → count c ns % 3 ≡ third s c
 
 module _ (apply : ℕ → List ℕ → ℕ) {F N : ℕ} {body at : ℕ → Expr} {home : ℕ → ℕ} (laid : Laid F N body at home) where
   module _ (s : State512) (good : Good apply laid s) (n : ℕ) (r : Range N n) (m : Move)
@@ -56,9 +56,9 @@ module _ (apply : ℕ → List ℕ → ℕ) {F N : ℕ} {body at : ℕ → Expr}
         own : c ≡ n → third (view (perform N home body s n m)) c ≡ (third (view s) c + 1) % 3
         own e =
             let k = call-here laid f c g q i in
-            let o = laid .inside f c (q .0) (q .1) (call-node c g (body f) i) in
+            let o = laid .inside f c q (call-node c g (body f) i) in
             let p : Sub (call c g (k .0)) (body f) = subst (λ u. Sub u (body f)) (k .1)
-            (subst (λ y. Sub (at c) (body y)) (o .0) (laid .placed c (o .1) (o .2))) in
+            (subst (λ y. Sub (at c) (body y)) (o .0) (laid .placed c (o .1, o .2))) in
             let a : act apply body (home c) (view s) (at c) ≡ act apply body f (view s) (call c g (k .0)) =
             (λ j. act apply body (o .0 j) (view s) (k .1 j)) in
             let b : act apply body (home c) (view s) (at c) ≡ does m = ap (λ y. act apply body (home y) (view s) (at y)) e ∙ here in
@@ -86,15 +86,15 @@ module _ (apply : ℕ → List ℕ → ℕ) {F N : ℕ} {body at : ℕ → Expr}
   pub called : (c f : ℕ) → 1 ≤ c → c ≤ N → calls (at c) f ≡ true → (es : Exprs) × Sub (call c f es) (body (home c))
   called c f p q e =
       let k = calls-call (at c) f e in
-      let i : k .0 ≡ c = sym (ap id (k .2)) ∙ laid .number c p q in
-      (k .1, subst (λ x. Sub (call x f (k .1)) (body (home c))) i (subst (λ u. Sub u (body (home c))) (k .2) (laid .placed c p q)))
+      let i : k .0 ≡ c = sym (ap id (k .2)) ∙ laid .number c (p, q) in
+      (k .1, subst (λ x. Sub (call x f (k .1)) (body (home c))) i (subst (λ u. Sub u (body (home c))) (k .2) (laid .placed c (p, q))))
 
   -- the phase of a call, by the number of its steps
   pub call-phase : (s : View) (c f : ℕ) → 1 ≤ c → c ≤ N → calls (at c) f ≡ true → (ns : List ℕ) → Phased apply F body s ns
       → count c ns % 3 ≡ third s c
   call-phase s c f p q e ns ph =
       let k = called c f p q e in
-      ph (home c) c f (laid .home-there c p q) (sub-call c f (k .0) (body (home c)) (k .1))
+      ph (home c) c f (laid .home-there c (p, q)) (sub-call c f (k .0) (body (home c)) (k .1))
 
   module _ (s : View) (sound : Sound apply F body s) where
     third-two : (c : ℕ) → third s c ≡ 2 → Busy s c true
@@ -119,7 +119,7 @@ module _ (apply : ℕ → List ℕ → ℕ) {F N : ℕ} {body at : ℕ → Expr}
         let k = called c f p q e in
         let m : Still s c → ⊥ = λ y. ⊎-elim (λ z. omega (arith, b .0, z)) (λ z. omega (arith, b .0, z)) (y .0) in
         go (k .0) (sub-live s (call c f (k .0)) m (body (home c)) (k .1)
-        (stepping apply F body (laid .well) s s sound (home c) (laid .home-there c p q) (call c f (k .0)) (k .1) m .1))
+        (stepping apply F body (laid .well) s s sound (home c) (laid .home-there c (p, q)) (call c f (k .0)) (k .1) m .1))
       where
         b : Busy s c true
         b = third-two c t
@@ -129,7 +129,7 @@ module _ (apply : ℕ → List ℕ → ℕ) {F N : ℕ} {body at : ℕ → Expr}
         go es (inr (inl l)) = absurd (true≢false (sym (b .1) ∙ l .0 .1))
         go es (inr (inr l)) = l .2
 
-    module _ (f : ℕ) (r : Fn apply F body f) where
+    module _ (f : ℕ) (r : Fn F body f) where
       -- 1 for a call of f in its second phase
       abbrev inside : ℕ → ℕ
       inside c = pick (calls (at c) f) (third s c / 2) 0
@@ -152,11 +152,11 @@ module _ (apply : ℕ → List ℕ → ℕ) {F N : ℕ} {body at : ℕ → Expr}
           o : ℕ
           o = s .occupant f
 
-          held : (g : ℕ) × Fn apply F body g × (f < g) × CallIn o f (body g) × Busy s o true
+          held : (g : ℕ) × Fn F body g × (f < g) × CallIn o f (body g) × Busy s o true
           held = sound .held f o r refl z
 
           i : (home o ≡ held .0) × (1 ≤ o) × (o ≤ N)
-          i = laid .inside (held .0) o (held .1 .0) (held .1 .1) (call-node o f (body (held .0)) (held .3))
+          i = laid .inside (held .0) o (held .1) (call-node o f (body (held .0)) (held .3))
 
           one : inside o ≡ 1
           one =
@@ -185,7 +185,7 @@ module _ (apply : ℕ → List ℕ → ℕ) {F N : ℕ} {body at : ℕ → Expr}
               go : (b : Bool) → calls (at c) f ≡ b
                   → pick b (enterings (count c ns)) 0 ≡ pick b (exits (count c ns)) 0 + pick b (third s c / 2) 0
               go true e = let k = called c f p q e in thirds-split (count c ns) (third s c)
-                  (ph (home c) c f (laid .home-there c p q) (sub-call c f (k .0) (body (home c)) (k .1)))
+                  (ph (home c) c f (laid .home-there c (p, q)) (sub-call c f (k .0) (body (home c)) (k .1)))
               go false e = refl
 
       pub entries-one : (ns : List ℕ) → Phased apply F body s ns → entries N at f ns ≤ leavings N at f ns + 1

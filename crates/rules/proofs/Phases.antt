@@ -75,7 +75,7 @@ module _ (apply : ℕ → List ℕ → ℕ) {F N : ℕ} {body at : ℕ → Expr}
       → (k : ℕ) → k % 3 ≡ third (view s) c → PhasesOf (act apply body (home c) (view s) (at c)) f k
   step-phases c f r e a k ph =
       let x = calls-call apply laid (at c) f e in
-      let i : x .0 ≡ c = sym (ap id (x .2)) ∙ laid .number c (r .0) (r .1) in
+      let i : x .0 ≡ c = sym (ap id (x .2)) ∙ laid .number c r in
       subst (λ u. PhasesOf (act apply body (home c) (view s) u) f k) (sym (x .2))
       (call-phases apply body (view s) (home c) (x .0) f (x .1) k (ph ∙ ap (third (view s)) (sym i))
       (subst (λ u. Moves (act apply body (home c) (view s) u)) (x .2) (accepted-moves c a)))

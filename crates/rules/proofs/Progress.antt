@@ -13,8 +13,8 @@ use Rattle.rules.proofs.Shape.{Idle, Open, Busy, Live, Opened*, Opened}
 use Rattle.rules.specs.Reading.{Chosen}
 use Rattle.rules.proofs.Moves.{Finished*}
 use Rattle.table.proofs.CallPlaces.{find}
-use Rattle.table.specs.Well.{CallIn, CallIn*, Well}
-use Rattle.rules.proofs.Invariant.{Fn, Active, Sound}
+use Rattle.table.specs.Well.{Fn, CallIn, CallIn*, Well}
+use Rattle.rules.proofs.Invariant.{Active, Sound}
 
 module _ (apply : ℕ → List ℕ → ℕ) (F : ℕ) (body : ℕ → Expr) (s : View) where
   -- the node of u has a step
@@ -129,14 +129,14 @@ module _ (apply : ℕ → List ℕ → ℕ) (F : ℕ) (body : ℕ → Expr) (s :
 
   module _ (well : Well F body) (sound : Sound apply F body s) where
     abbrev pub Goes : Type 0
-    Goes = (h : ℕ) × Fn apply F body h × Hit (λ u. Sub u (body h))
+    Goes = (h : ℕ) × Fn F body h × Hit (λ u. Sub u (body h))
 
-    run : (k : ℕ) → ((g : ℕ) → g < k → Fn apply F body g → Active apply F body s g → (s .status (id (body g)) ≡ 3 → ⊥) → Goes)
-        → Fn apply F body k → Active apply F body s k → (s .status (id (body k)) ≡ 3 → ⊥) → Goes
+    run : (k : ℕ) → ((g : ℕ) → g < k → Fn F body g → Active apply F body s g → (s .status (id (body g)) ≡ 3 → ⊥) → Goes)
+        → Fn F body k → Active apply F body s k → (s .status (id (body k)) ≡ 3 → ⊥) → Goes
     run k ih r a n = go (sound .opened k r a)
       where
         wait : (c g : ℕ) → CallIn c g (body k) → (s .occupant g ≡ 0 → ⊥) → Goes
-        wait c g i z = leaves (well .below k c g (r .0) (r .1) i) (ℕ-discrete (s .status (id (body g))) 3)
+        wait c g i z = leaves (well .below k c g r i) (ℕ-discrete (s .status (id (body g))) 3)
           where
             leaves : (1 ≤ g) × (g < k) → Dec (s .status (id (body g)) ≡ 3) → Goes
             leaves b (no d) = ih g (b .1) (b .0, omega (arith, b .1, r .1)) (inr z) d
@@ -149,9 +149,9 @@ module _ (apply : ℕ → List ℕ → ℕ) (F : ℕ) (body : ℕ → Expr) (s :
         go (inr d) = absurd (n (d .0))
         go (inl l) = ⊎-elim (λ x. (k, r, x)) (λ x. wait (x .0) (x .1) (x .2) (x .3)) (seek (body k) l)
 
-    below : (k : ℕ) (g : ℕ) → g < k → Fn apply F body g → Active apply F body s g → (s .status (id (body g)) ≡ 3 → ⊥) → Goes
+    below : (k : ℕ) (g : ℕ) → g < k → Fn F body g → Active apply F body s g → (s .status (id (body g)) ≡ 3 → ⊥) → Goes
     below zero g h = absurd (not-suc-le-zero h)
     below (suc k) g h = run g (λ f q. below k f (omega (arith, h, q)))
 
-    pub progress : Fn apply F body F → (s .status (id (body F)) ≡ 3 → ⊥) → Goes
+    pub progress : Fn F body F → (s .status (id (body F)) ≡ 3 → ⊥) → Goes
     progress r n = below (suc F) F (omega arith) r (inl refl) n

@@ -5,38 +5,39 @@ use mathlib.Core.List.{List}
 use native.Mathlib.Omega.{arith}
 use lib.ListN.{getD}
 use Rattle.table.specs.Syntax.{Expr, Node, Sub, id}
-use Rattle.table.specs.Well.{Apart, Fits}
+use Rattle.table.specs.Well.{Fn, Apart, Fits}
 use Rattle.rules.specs.State.{View}
 use Rattle.rules.proofs.Shape.{Still, Live}
 use Rattle.rules.proofs.Frame.{Same}
 use Rattle.rules.proofs.Left.{Left}
 use Rattle.rules.proofs.LeftFacts.{left-over, left-within}
-use Rattle.rules.proofs.Invariant.{Fn, Active}
+use Rattle.rules.proofs.Invariant.{Active}
 use Rattle.rules.specs.Reading.{Outcome, val, Readings, Reads}
 use Rattle.table.specs.Find.{total}
 use Rattle.rules.specs.Reading as Reading
 
+-- what an outcome of the body of f comes to
+abbrev pub Ends : Readings → ℕ → Outcome → ℕ → ℕ → Type 0
+Ends K f (val w) v i = (v ≡ w) × (i ≡ 0)
+Ends K f (Reading.again vs) v i = K f vs v i
+
+-- nothing is bound around a body
+abbrev pub nowhere : ℕ → ℕ
+nowhere d = 0
+
 module _ (apply : ℕ → List ℕ → ℕ) (F : ℕ) (body : ℕ → Expr) (K : Readings) where
-  -- what an outcome of the body of f comes to
-  abbrev pub Ends : ℕ → Outcome → ℕ → ℕ → Type 0
-  Ends f (val w) v i = (v ≡ w) × (i ≡ 0)
-  Ends f (Reading.again vs) v i = K f vs v i
-
-  abbrev pub nowhere : ℕ → ℕ
-  nowhere d = 0
-
   -- K has what a body reads to, also over a self call
   abbrev pub Closes : Type 0
-  Closes = (f v : ℕ) (vs : List ℕ) (o : Outcome) (j i : ℕ) → Fn apply F body f → Reads apply K (λ z. getD vs z 0) (body f) nowhere o j
-      → Ends f o v i → K f vs v (j + i)
+  Closes = (f v : ℕ) (vs : List ℕ) (o : Outcome) (j i : ℕ) → Fn F body f → Reads apply K (λ z. getD vs z 0) (body f) nowhere o j
+      → Ends K f o v i → K f vs v (j + i)
 
   -- f, as it stands, is to return v after k more steps of its own and of the calls that it has yet to make
   abbrev pub Rest : View → (ℕ → ℕ) → ℕ → ℕ → ℕ → Type 0
-  Rest s W f v k = (o : Outcome) × (j i : ℕ) × Left apply K s W (s .register f) (body f) nowhere o j × Ends f o v i × (k ≡ j + i)
+  Rest s W f v k = (o : Outcome) × (j i : ℕ) × Left apply K s W (s .register f) (body f) nowhere o j × Ends K f o v i × (k ≡ j + i)
 
   pub record Expects (s : View) (W R : ℕ → ℕ) : Type 0 where
-    pub active : (f : ℕ) → Fn apply F body f → Active apply F body s f → Rest s W f (W (s .occupant f)) (R f)
-    pub rest : (f : ℕ) → Fn apply F body f → (Active apply F body s f → ⊥) → R f ≡ 0
+    pub active : (f : ℕ) → Fn F body f → Active apply F body s f → Rest s W f (W (s .occupant f)) (R f)
+    pub rest : (f : ℕ) → Fn F body f → (Active apply F body s f → ⊥) → R f ≡ 0
 
   abbrev pub Before : View → (ℕ → ℕ) → (ℕ → ℕ) → Type 0
   Before s W′ R′ = (W R : ℕ → ℕ) × Expects s W R × (total R F ≡ suc (total R′ F)) × (W 0 ≡ W′ 0)

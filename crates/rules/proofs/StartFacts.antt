@@ -10,11 +10,10 @@ use lib.ListN.{length, getD, length-replicate}
 use Rattle.table.specs.Syntax.{Expr, id, Node}
 use Rattle.rules.proofs.Shape.{Still, Idle}
 use Rattle.table.proofs.SyntaxLaws.{node-id}
-use Rattle.rules.proofs.Invariant.{Fn}
 use Rattle.rules.proofs.Answers.{Started}
 use Rattle.rules.proofs.StateLaws.{length-write, length-fill, entry-same, entry-other, fill-mine}
 use Rattle.rules.specs.State.{Sized, entry, view, blank, circuitStart}
-use Rattle.table.specs.Well.{Laid}
+use Rattle.table.specs.Well.{Fn, Laid}
 use Rattle.rules.proofs.LaidFacts.{every-all, under-all}
 
 length-blank : {A : Type 0} (k : ℕ) (a : A) → length (blank k a) ≡ k
@@ -40,11 +39,11 @@ module _ (apply : ℕ → List ℕ → ℕ) {F N : ℕ} {body at : ℕ → Expr}
     occupied = length-blank 32 0;
   }
 
-  fn-main : Fn apply F body F
+  fn-main : Fn F body F
   fn-main = (laid .some-function, omega arith)
 
   root : (home (id (body F)) ≡ F) × (1 ≤ id (body F)) × (id (body F) ≤ N)
-  root = laid .inside F (id (body F)) (fn-main .0) (fn-main .1) (node-id (body F))
+  root = laid .inside F (id (body F)) fn-main (node-id (body F))
 
   pub open-root : view (circuitStart F body args) .status (id (body F)) ≡ 1
   unfolding circuitStart
@@ -78,7 +77,7 @@ module _ (apply : ℕ → List ℕ → ℕ) {F N : ℕ} {body at : ℕ → Expr}
   start-started h = record {
     main = (
       (open-root, no-second (id (body F))),
-      under-all (Idle (view (circuitStart F body args))) (body F) (laid .well .apart F (laid .some-function) (omega arith))
+      under-all (Idle (view (circuitStart F body args))) (body F) (laid .well .apart F (laid .some-function, omega arith))
           (λ m k d. others-idle m d),
     );
     others = λ f q d. every-all (Still (view (circuitStart F body args))) (body f)
@@ -87,6 +86,6 @@ module _ (apply : ℕ → List ℕ → ℕ) {F N : ℕ} {body at : ℕ → Expr}
     arguments = given h;
   }
     where
-      elsewhere : (f : ℕ) → Fn apply F body f → (f ≡ F → ⊥) → (m : ℕ) → Node m (body f) → m ≡ id (body F) → ⊥
-      elsewhere f q d m k e = d (laid .well .owner f F m (q .0) (q .1) (fn-main .0) (fn-main .1) k
+      elsewhere : (f : ℕ) → Fn F body f → (f ≡ F → ⊥) → (m : ℕ) → Node m (body f) → m ≡ id (body F) → ⊥
+      elsewhere f q d m k e = d (laid .well .owner f F m q fn-main k
           (subst (λ x. Node x (body F)) (sym e) (node-id (body F))))

@@ -10,13 +10,13 @@ use Rattle.table.specs.Syntax.{Expr, id, Node, Sub}
 use Rattle.rules.specs.State.{View, State512, Sized, view}
 use Rattle.table.proofs.SyntaxLaws.{node-id, sub-node}
 use Rattle.table.specs.Pick.{pick, Range}
-use Rattle.rules.proofs.Invariant.{Fn, Sound}
+use Rattle.rules.proofs.Invariant.{Sound}
 use Rattle.rules.proofs.Progress.{Able, progress}
 use Rattle.rules.proofs.Answers.{step-sound}
 use Rattle.rules.specs.Step.{does, Move, done, act, Reply, taken, answered, refused, refusal, Stepped, over, perform, circuitStep}
 use Rattle.rules.proofs.Performed.{Does, Acted, Fair, FairAct, perform-does, perform-sized}
 use Rattle.rules.specs.Play.{Accepted}
-use Rattle.table.specs.Well.{Laid}
+use Rattle.table.specs.Well.{Fn, Laid}
 use Rattle.rules.proofs.StepSound.{StepAt, acted-step}
 use Rattle.rules.proofs.StepTaken.{Moves, Blocks, Waits, act-fair, able-moves, blocked-waits, step-cases}
 use Rattle.rules.proofs.Numbered.{sub-unique}
@@ -37,26 +37,26 @@ module _ (apply : ℕ → List ℕ → ℕ) {F N : ℕ} {body at : ℕ → Expr}
   abbrev pub InRange : ℕ → Type 0
   InRange = Range N
 
-  pub fn-home : (n : ℕ) → InRange n → Fn apply F body (home n)
-  fn-home n r = laid .home-there n (r .0) (r .1)
+  pub fn-home : (n : ℕ) → InRange n → Fn F body (home n)
+  fn-home n r = laid .home-there n r
 
   -- what the move of a node changes, from any state of the right size
   pub moved-does : (s : State512) → Sized s → (n : ℕ) → InRange n → (m : Move) → act apply body (home n) (view s) (at n) ≡ does m
       → Fair F N home body n m × Does N home body (view s) (view (perform N home body s n m)) n m
   moved-does s sized n r m here =
-      let f = subst (λ x. FairAct F N home body x (does m)) (laid .number n (r .0) (r .1))
+      let f = subst (λ x. FairAct F N home body x (does m)) (laid .number n r)
       (subst (FairAct F N home body (id (at n))) here (act-fair apply laid (view s) (home n) (fn-home n r) (at n)
-      (laid .placed n (r .0) (r .1)))) in
+      (laid .placed n r))) in
       (f, perform-does F N home (laid .functions) (laid .nodes) s sized body n m r f)
 
   module _ (s : State512) (good : Good s) (n : ℕ) (r : InRange n) (m : Move) (here : act apply body (home n) (view s) (at n) ≡ does m) where
     pub moved-step : StepAt apply F body (view s) (view (perform N home body s n m)) n
     moved-step =
         let t : View = view (perform N home body s n m) in
-        subst (StepAt apply F body (view s) t) (laid .number n (r .0) (r .1))
-        (acted-step apply laid (view s) t (good .sound) (home n) (fn-home n r) (at n) (laid .placed n (r .0) (r .1))
+        subst (StepAt apply F body (view s) t) (laid .number n r)
+        (acted-step apply laid (view s) t (good .sound) (home n) (fn-home n r) (at n) (laid .placed n r)
         (subst (Acted N home body (view s) t (id (at n))) (sym here)
-        (subst (λ x. Does N home body (view s) t x m) (sym (laid .number n (r .0) (r .1)))
+        (subst (λ x. Does N home body (view s) t x m) (sym (laid .number n r))
         (moved-does s (good .sized) n r m here .1))))
 
     pub moved-good : Good (perform N home body s n m)
@@ -117,20 +117,20 @@ module _ (apply : ℕ → List ℕ → ℕ) {F N : ℕ} {body at : ℕ → Expr}
         (view (perform N home body s n m) .value (id (body F))))
 
     -- a node that is able to in the abstract circuit
-    pub step-able : (h : ℕ) → Fn apply F body h → (u : Expr) → Sub u (body h) → id u ≡ n → Able apply F body (view s) u
+    pub step-able : (h : ℕ) → Fn F body h → (u : Expr) → Sub u (body h) → id u ≡ n → Able apply F body (view s) u
         → (view s .status (id (body F)) ≡ 3 → ⊥) → Accepted (step tags s n .answer)
     step-able h q u p e a d = step-moves there d (subst (λ f. Moves (act apply body f (view s) (at n))) (sym (i .0))
         (subst (λ x. Moves (act apply body h (view s) x)) same (able-moves apply laid (view s) h q u a)))
       where
         i : (home n ≡ h) × (1 ≤ n) × (n ≤ N)
-        i = laid .inside h n (q .0) (q .1) (subst (λ m. Node m (body h)) e (sub-node u (id u) (body h) p (node-id u)))
+        i = laid .inside h n q (subst (λ m. Node m (body h)) e (sub-node u (id u) (body h) p (node-id u)))
 
         there : InRange n
         there = (i .1, i .2)
 
         same : u ≡ at n
-        same = sub-unique u (at n) (e ∙ sym (laid .number n (i .1) (i .2))) (body h) (laid .well .apart h (q .0) (q .1)) p
-            (subst (λ f. Sub (at n) (body f)) (i .0) (laid .placed n (i .1) (i .2)))
+        same = sub-unique u (at n) (e ∙ sym (laid .number n (i .1, i .2))) (body h) (laid .well .apart h q) p
+            (subst (λ f. Sub (at n) (body f)) (i .0) (laid .placed n (i .1, i .2)))
 
   -- while main's root isn't done, some node's step isn't refused
   pub some-step : (tags : ℕ → Bool) (s : State512) → Good s → (view s .status (id (body F)) ≡ 3 → ⊥)

@@ -12,13 +12,13 @@ use Rattle.rules.specs.State.{View, In}
 use Rattle.table.specs.Environment.{values}
 use Rattle.rules.proofs.Shape.{Still, Idle, Open, Live}
 use Rattle.rules.specs.Reading.{Chosen}
-use Rattle.table.specs.Well.{Apart, Apart*, Laid}
+use Rattle.table.specs.Well.{Fn, Apart, Apart*, Laid}
 use Rattle.rules.proofs.Frame.{Same}
 use Rattle.table.proofs.SyntaxLaws.{node-id, apart-sub}
 use Rattle.rules.proofs.Moves.{Becomes, Opens, Opens*, Keeps, Keeps*, Inner}
 use Rattle.table.proofs.CallPlaces.{sub-call}
 use Rattle.rules.proofs.Places.{sub-live}
-use Rattle.rules.proofs.Invariant.{Fn, New, Sound, Step, inner, enter, leave, again, stepping}
+use Rattle.rules.proofs.Invariant.{New, Sound, Step, inner, enter, leave, again, stepping}
 use Rattle.rules.specs.Step.{stuck, does, finishes, enters, done, all-done, branch, act}
 use Rattle.rules.proofs.Performed.{Begins, Turns, Finishes, Resets, Owns, Does, Acted}
 use Rattle.rules.proofs.ActCases.{by-pick, by-state, live-open}
@@ -36,7 +36,7 @@ module _ (apply : ℕ → List ℕ → ℕ) (F : ℕ) (body : ℕ → Expr) wher
   StepAt s s′ n = (st : Step apply F body s s′) × (stepped st ≡ n)
 
 module _ (apply : ℕ → List ℕ → ℕ) {F N : ℕ} {body at : ℕ → Expr} {home : ℕ → ℕ} (laid : Laid F N body at home) where
-  module _ (s s′ : View) (sound : Sound apply F body s) (h : ℕ) (r : Fn apply F body h) where
+  module _ (s s′ : View) (sound : Sound apply F body s) (h : ℕ) (r : Fn F body h) where
     still-not : (n t : ℕ) → s .status n ≡ t → (t ≡ 1) ⊎ (t ≡ 2) → Still s n → ⊥
     still-not n t e k h = ⊎-elim (λ a. ⊎-elim (λ b. omega (arith, a, b, e)) (λ b. omega (arith, a, b, e)) (h .0))
         (λ a. ⊎-elim (λ b. omega (arith, a, b, e)) (λ b. omega (arith, a, b, e)) (h .0)) k
@@ -50,7 +50,7 @@ module _ (apply : ℕ → List ℕ → ℕ) {F N : ℕ} {body at : ℕ → Expr}
     open-at u p e = live-open s u (live u p 1 e (inl refl)) e
 
     apart : (u : Expr) → Sub u (body h) → Apart u
-    apart u p = apart-sub u (body h) (laid .well .apart h (r .0) (r .1)) p
+    apart u p = apart-sub u (body h) (laid .well .apart h r) p
 
     -- a step inside the body that finishes the node
     ends : (u : Expr) → Sub u (body h) → (v : ℕ) → Does N home body s s′ (id u) (finishes v) → Inner apply (s .register h) s s′ u
@@ -282,12 +282,12 @@ module _ (apply : ℕ → List ℕ → ℕ) {F N : ℕ} {body at : ℕ → Expr}
         x = apart (bind n ds b) p
 
     -- a body after its reset is new
-    renewed : (g : ℕ) → Fn apply F body g → (but : ℕ → Type 0) (vs : List ℕ) → Resets s s′ (Owns N home g) but (id (body g)) g vs
+    renewed : (g : ℕ) → Fn F body g → (but : ℕ → Type 0) (vs : List ℕ) → Resets s s′ (Owns N home g) but (id (body g)) g vs
         → New apply F body s′ g
     renewed g q but vs d = (
       d .root,
-      under-all (Idle s′) (body g) (laid .well .apart g (q .0) (q .1))
-          (λ m k e. d .idle m (own m (laid .inside g m (q .0) (q .1) k)) e),
+      under-all (Idle s′) (body g) (laid .well .apart g q)
+          (λ m k e. d .idle m (own m (laid .inside g m q k)) e),
     )
       where
         own : (m : ℕ) → (home m ≡ g) × (1 ≤ m) × (m ≤ N) → Owns N home g m
@@ -340,9 +340,9 @@ module _ (apply : ℕ → List ℕ → ℕ) {F N : ℕ} {body at : ℕ → Expr}
         x = apart (call n g es) p
 
         g<h : (1 ≤ g) × (g < h)
-        g<h = laid .well .below h n g (r .0) (r .1) (sub-call n g es (body h) p)
+        g<h = laid .well .below h n g r (sub-call n g es (body h) p)
 
-        fn-g : Fn apply F body g
+        fn-g : Fn F body g
         fn-g = (g<h .0, omega (arith, g<h .1, r .1))
 
     self-step : (n : ℕ) (es : Exprs) → Sub (self n es) (body h) → Acted N home body s s′ n (act apply body h s (self n es))

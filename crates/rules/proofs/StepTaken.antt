@@ -16,12 +16,11 @@ use Rattle.table.proofs.SyntaxLaws.{node-id, apart-sub, sub-node}
 use Rattle.rules.proofs.Moves.{Finished*}
 use Rattle.table.proofs.CallPlaces.{sub-call}
 use Rattle.table.specs.Pick.{pick, Range}
-use Rattle.rules.proofs.Invariant.{Fn}
 use Rattle.rules.proofs.Progress.{Able}
 use Rattle.rules.specs.Step.{Act, stuck, blocked, does, Move, turns, finishes, restarts, done, all-done, branch, by-status, act}
 use Rattle.rules.specs.Step.{refused, Stepped, told, outcome, over, perform, circuitStep}
 use Rattle.rules.proofs.Performed.{Owns, FairAct}
-use Rattle.table.specs.Well.{Laid}
+use Rattle.table.specs.Well.{Fn, Laid}
 use Rattle.rules.proofs.LaidFacts.{length-values, root-node, all-done-finished, finished-all-done}
 use Rattle.rules.proofs.ActCases.{by-pick, by-state}
 
@@ -54,12 +53,12 @@ module _ (P : Act → Type 0) where
   at-busy t o b e h = subst (λ c. P (by-status c o b)) (sym e) h
 
 module _ (apply : ℕ → List ℕ → ℕ) {F N : ℕ} {body at : ℕ → Expr} {home : ℕ → ℕ} (laid : Laid F N body at home) where
-  module _ (s : View) (h : ℕ) (r : Fn apply F body h) where
+  module _ (s : View) (h : ℕ) (r : Fn F body h) where
     range : (u : Expr) → Sub u (body h) → (m : ℕ) → Node m u → Range N m
-    range u p m k = let i = laid .inside h m (r .0) (r .1) (sub-node u m (body h) p k) in (i .1, i .2)
+    range u p m k = let i = laid .inside h m r (sub-node u m (body h) p k) in (i .1, i .2)
 
-    own-root : (g : ℕ) → Fn apply F body g → Owns N home g (id (body g))
-    own-root g q = let i = laid .inside g (id (body g)) (q .0) (q .1) (node-id (body g)) in (i .1, i .2, i .0)
+    own-root : (g : ℕ) → Fn F body g → Owns N home g (id (body g))
+    own-root g q = let i = laid .inside g (id (body g)) q (node-id (body g)) in (i .1, i .2, i .0)
 
     pub act-fair : (u : Expr) → Sub u (body h) → FairAct F N home body (id u) (act apply body h s u)
     act-fair (const n v) p = by-state (FairAct F N home body n) (s .status n) _ _ (λ o. tt) (λ b. tt) tt
@@ -68,13 +67,13 @@ module _ (apply : ℕ → List ℕ → ℕ) {F N : ℕ} {body at : ℕ → Expr}
     act-fair (prim n op es) p = by-state (FairAct F N home body n) (s .status n) _ _
         (λ o. (
           λ m i. range (prim n op es) p m (inr (root-node m es i)),
-          λ i. apart-sub (prim n op es) (body h) (laid .well .apart h (r .0) (r .1)) p .0 (root-node n es i),
+          λ i. apart-sub (prim n op es) (body h) (laid .well .apart h r) p .0 (root-node n es i),
         ))
         (λ b. by-pick (FairAct F N home body n) (all-done s es) _ _ (λ e. tt) (λ e. tt)) tt
     act-fair (call n g es) p = by-state (FairAct F N home body n) (s .status n) _ _
         (λ o. (
           λ m i. range (call n g es) p m (inr (root-node m es i)),
-          λ i. apart-sub (call n g es) (body h) (laid .well .apart h (r .0) (r .1)) p .0 (root-node n es i),
+          λ i. apart-sub (call n g es) (body h) (laid .well .apart h r) p .0 (root-node n es i),
         ))
         (λ b. by-pick (FairAct F N home body n) (s .second n) _ _
         (λ e. by-pick (FairAct F N home body n) (done s (id (body g))) _ _ (λ e. (g<h .0, fn-g .1)) (λ e. tt))
@@ -83,7 +82,7 @@ module _ (apply : ℕ → List ℕ → ℕ) {F N : ℕ} {body at : ℕ → Expr}
         (λ e. (
           g<h .0,
           fn-g .1,
-          omega (arith, length-values s es, laid .narrow h (call n g es) (r .0) (r .1) p),
+          omega (arith, length-values s es, laid .narrow h (call n g es) r p),
           own-root g fn-g,
           elsewhere,
         )) (λ e. tt))
@@ -91,24 +90,24 @@ module _ (apply : ℕ → List ℕ → ℕ) {F N : ℕ} {body at : ℕ → Expr}
         tt
       where
         g<h : (1 ≤ g) × (g < h)
-        g<h = laid .well .below h n g (r .0) (r .1) (sub-call n g es (body h) p)
+        g<h = laid .well .below h n g r (sub-call n g es (body h) p)
 
-        fn-g : Fn apply F body g
+        fn-g : Fn F body g
         fn-g = (g<h .0, omega (arith, g<h .1, r .1))
 
         elsewhere : Owns N home g n → ⊥
-        elsewhere o = omega (arith, o .2, laid .inside h n (r .0) (r .1) (sub-node (call n g es) n (body h) p (inl refl)) .0, g<h .1)
+        elsewhere o = omega (arith, o .2, laid .inside h n r (sub-node (call n g es) n (body h) p (inl refl)) .0, g<h .1)
     act-fair (self n es) p = by-state (FairAct F N home body n) (s .status n) _ _
         (λ o. (
           λ m i. range (self n es) p m (inr (root-node m es i)),
-          λ i. apart-sub (self n es) (body h) (laid .well .apart h (r .0) (r .1)) p .0 (root-node n es i),
+          λ i. apart-sub (self n es) (body h) (laid .well .apart h r) p .0 (root-node n es i),
         ))
         (λ b. by-pick (FairAct F N home body n) (all-done s es) _ _
-        (λ e. (r .0, r .1, omega (arith, length-values s es, laid .narrow h (self n es) (r .0) (r .1) p), own-root h r)) (λ e. tt)) tt
+        (λ e. (r .0, r .1, omega (arith, length-values s es, laid .narrow h (self n es) r p), own-root h r)) (λ e. tt)) tt
     act-fair (cond n a b c) p = by-state (FairAct F N home body n) (s .status n) _ _
         (λ o. (
           λ m i. ⊎-elim (λ e. range (cond n a b c) p m (inr (inl (subst (λ y. Node y a) (sym e) (node-id a))))) absurd i,
-          λ i. ⊎-elim (λ e. apart-sub (cond n a b c) (body h) (laid .well .apart h (r .0) (r .1)) p .0
+          λ i. ⊎-elim (λ e. apart-sub (cond n a b c) (body h) (laid .well .apart h r) p .0
               (subst (λ y. Node y a) (sym e) (node-id a)))
               absurd i,
         ))
@@ -123,7 +122,7 @@ module _ (apply : ℕ → List ℕ → ℕ) {F N : ℕ} {body at : ℕ → Expr}
     act-fair (bind n ds b) p = by-state (FairAct F N home body n) (s .status n) _ _
         (λ o. (
           λ m i. range (bind n ds b) p m (inr (inl (root-node m ds i))),
-          λ i. apart-sub (bind n ds b) (body h) (laid .well .apart h (r .0) (r .1)) p .0 (root-node n ds i),
+          λ i. apart-sub (bind n ds b) (body h) (laid .well .apart h r) p .0 (root-node n ds i),
         ))
         (λ t. by-pick (FairAct F N home body n) (s .second n) _ _
         (λ e. by-pick (FairAct F N home body n) (done s (id b)) _ _ (λ e. tt) (λ e. tt))

@@ -12,12 +12,12 @@ use Rattle.table.specs.Syntax.{Expr, Exprs, call, id, Sub}
 use Rattle.rules.specs.State.{View, In}
 use Rattle.rules.proofs.Shape.{Still, Busy, Live}
 use Rattle.rules.proofs.Frame.{Same}
-use Rattle.table.specs.Well.{CallIn, Laid}
+use Rattle.table.specs.Well.{Fn, CallIn, Laid}
 use Rattle.table.proofs.CallPlaces.{call-node}
 use Rattle.rules.proofs.Places.{inner-busy, still-busy, sub-live}
 use Rattle.rules.proofs.SelfCalls.{self-alone}
 use Rattle.table.specs.Pick.{pick, Range}
-use Rattle.rules.proofs.Invariant.{Fn, Sound, Step, inner, enter, leave, again, inner-moving, stepping}
+use Rattle.rules.proofs.Invariant.{Sound, Step, inner, enter, leave, again, inner-moving, stepping}
 use Rattle.rules.proofs.StateLaws.{in?}
 use Rattle.rules.specs.Step.{Act, Move, begins, turns, finishes, enters, leaves, restarts, done, all-done, act}
 use Rattle.rules.proofs.Performed.{Resets, Owns, Does, Acted}
@@ -42,7 +42,7 @@ third-same s s′ c h = λ i. pick (eqb (h .0 i) 2) (pick (h .1 i) 2 1) 0
 module _ (apply : ℕ → List ℕ → ℕ) {F N : ℕ} {body at : ℕ → Expr} {home : ℕ → ℕ} (laid : Laid F N body at home) (s s′ : View)
     (sound : Sound apply F body s) where
   -- a busy call keeps its state while another node takes a step
-  module _ (f c g : ℕ) (q : Fn apply F body f) (i : CallIn c g (body f)) (busy : s .status c ≡ 2) where
+  module _ (f c g : ℕ) (q : Fn F body f) (i : CallIn c g (body f)) (busy : s .status c ≡ 2) where
     pub busy-kept : (st : Step apply F body s s′) → (c ≡ stepped apply F body st → ⊥) → Same s s′ c
     busy-kept (inner h r u st) d = st .keeps c (λ k. d (inner-busy s c busy apply (s .register h) s′ u (st .rule) live k))
       where
@@ -56,8 +56,8 @@ module _ (apply : ℕ → List ℕ → ℕ) {F N : ℕ} {body at : ℕ → Expr}
         (Enter.asleep apply F body (laid .well) s s′ sound h r n k es st)))
     busy-kept (leave h r n k es st) d = st .keeps c d
     busy-kept (again h r n es st) d = st .keeps c (λ k.
-        let e : f ≡ h = laid .well .owner f h c (q .0) (q .1) (r .0) (r .1) (call-node c g (body f) i) k in
-        self-alone s n es (st .waits) (st .ready) c g busy (body h) (laid .well .tail h (r .0) (r .1)) (st .place)
+        let e : f ≡ h = laid .well .owner f h c q r (call-node c g (body f) i) k in
+        self-alone s n es (st .waits) (st .ready) c g busy (body h) (laid .well .tail h r) (st .place)
         (Again.live-h apply F body (laid .well) s s′ sound h r n es st) (subst (λ x. CallIn c g (body x)) e i))
 
   -- a node that is not busy does not become so by a step at another
@@ -91,20 +91,20 @@ module _ (apply : ℕ → List ℕ → ℕ) {F N : ℕ} {body at : ℕ → Expr}
     rest-kept (restarts f vs) x = reset-rest f vs (λ m. ⊥) (λ z. z) (x .0)
 
   -- a step at another node
-  pub third-other : (f c g n : ℕ) → Fn apply F body f → CallIn c g (body f) → (m : Move) → Does N home body s s′ n m
+  pub third-other : (f c g n : ℕ) → Fn F body f → CallIn c g (body f) → (m : Move) → Does N home body s s′ n m
       → (st : Step apply F body s s′) → stepped apply F body st ≡ n
       → (c ≡ n → ⊥) → third s′ c ≡ third s c
   third-other f c g n q i m x st e d = go (ℕ-discrete (s .status c) 2)
     where
       r : Range N c
-      r = let o = laid .inside f c (q .0) (q .1) (call-node c g (body f) i) in (o .1, o .2)
+      r = let o = laid .inside f c q (call-node c g (body f) i) in (o .1, o .2)
 
       go : Dec (s .status c ≡ 2) → third s′ c ≡ third s c
       go (yes b) = third-same s s′ c (busy-kept f c g q i b st (λ k. d (k ∙ e)))
       go (no b) = third-rest s′ c (rest-kept n c d r b m x) ∙ sym (third-rest s c b)
 
   -- a step at the call itself
-  pub third-own : (h n g : ℕ) (es : Exprs) → Fn apply F body h → Sub (call n g es) (body h)
+  pub third-own : (h n g : ℕ) (es : Exprs) → Fn F body h → Sub (call n g es) (body h)
       → Acted N home body s s′ n (act apply body h s (call n g es)) → third s′ n ≡ (third s n + 1) % 3
   third-own h n g es r p = by-state Goal (s .status n) _ _
       (λ o x. third-busy s′ n false (x .busy, x .seconds n ∙ live-open s (call n g es) (live o) o .1)

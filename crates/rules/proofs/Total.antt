@@ -10,14 +10,14 @@ use Rattle.rules.specs.State.{View}
 use Rattle.rules.proofs.Shape.{Live}
 use Rattle.table.specs.Environment.{values, put}
 use Rattle.rules.proofs.Left.{Left}
-use Rattle.table.specs.Well.{CallIn, Well}
+use Rattle.table.specs.Well.{Fn, CallIn, Well}
 use Rattle.table.proofs.CallPlaces.{call-node, sub-call, call-at}
 use Rattle.rules.proofs.SelfCalls.{self-left}
-use Rattle.rules.proofs.Invariant.{Step, inner, enter, leave, again, Fn, Active, LeaveStep, AgainStep, Sound, stepping}
+use Rattle.rules.proofs.Invariant.{Step, inner, enter, leave, again, Active, LeaveStep, AgainStep, Sound, stepping}
 use Rattle.rules.specs.Reading.{Outcome, val, Readings, Reads}
 use Rattle.rules.proofs.Counts.{left-reads, left-done, over-left}
 use Rattle.rules.proofs.SumLaws.{put-same, put-other, sum-put}
-use Rattle.rules.proofs.Remaining.{Closes, aside-rest′, own-rest}
+use Rattle.rules.proofs.Remaining.{Ends, nowhere, Closes, aside-rest′, own-rest}
 use Rattle.rules.proofs.TotalEnter.{inner-before, enter-before}
 use Rattle.rules.specs.Reading as Reading
 use Rattle.rules.proofs.Leave as Leave
@@ -25,12 +25,6 @@ use Rattle.rules.proofs.Again as Again
 use Rattle.rules.proofs.Remaining as Remaining
 
 module _ (apply : ℕ → List ℕ → ℕ) (F : ℕ) (body : ℕ → Expr) (K : Readings) where
-  abbrev Ends : ℕ → Outcome → ℕ → ℕ → Type 0
-  Ends = Remaining.Ends apply F body K
-
-  abbrev nowhere : ℕ → ℕ
-  nowhere = Remaining.nowhere apply F body K
-
   abbrev Rest : View → (ℕ → ℕ) → ℕ → ℕ → ℕ → Type 0
   Rest = Remaining.Rest apply F body K
 
@@ -42,11 +36,11 @@ module _ (apply : ℕ → List ℕ → ℕ) (F : ℕ) (body : ℕ → Expr) (K :
 
   module _ (well : Well F body) (reads : Closes apply F body K) (s s′ : View) (sound : Sound apply F body s) (W′ R′ : ℕ
       → ℕ) (after : Expects s′ W′ R′) where
-    module _ (h : ℕ) (r : Fn apply F body h) (n g : ℕ) (es : Exprs) (st : LeaveStep apply F body s s′ h n g es) where
+    module _ (h : ℕ) (r : Fn F body h) (n g : ℕ) (es : Exprs) (st : LeaveStep apply F body s s′ h n g es) where
       g<h₃ : (1 ≤ g) × (g < h)
       g<h₃ = Leave.g<h apply F body well s s′ sound h r n g es st
 
-      fn-g₃ : Fn apply F body g
+      fn-g₃ : Fn F body g
       fn-g₃ = Leave.fn-g apply F body well s s′ sound h r n g es st
 
       n≢0₃ : n ≡ 0 → ⊥
@@ -85,12 +79,12 @@ module _ (apply : ℕ → List ℕ → ℕ) (F : ℕ) (body : ℕ → Expr) (K :
       asleep₃ (inr z) = z (st .frees)
 
       -- another function's occupant is another call
-      other₃ : (f : ℕ) → Fn apply F body f → (f ≡ g → ⊥) → s .occupant f ≡ n → ⊥
+      other₃ : (f : ℕ) → Fn F body f → (f ≡ g → ⊥) → s .occupant f ≡ n → ⊥
       other₃ f q d e =
           let o = sound .held f n q e n≢0₃ in
-          let k≡h : o .0 ≡ h = well .owner (o .0) h n (o .1 .0) (o .1 .1) (r .0) (r .1) (call-node n f (body (o .0)) (o .3))
+          let k≡h : o .0 ≡ h = well .owner (o .0) h n (o .1) r (call-node n f (body (o .0)) (o .3))
           (call-node n g (body h) in-h₃) in
-          let z = call-at U₃ n f refl (body h) (well .apart h (r .0) (r .1)) (subst (λ x. CallIn n f (body x)) k≡h (o .3)) (st .place) in
+          let z = call-at U₃ n f refl (body h) (well .apart h r) (subst (λ x. CallIn n f (body x)) k≡h (o .3)) (st .place) in
           d (callees (z .0) (z .1))
         where
           callees : (xs : Exprs) → U₃ ≡ call n f xs → f ≡ g
@@ -126,8 +120,8 @@ module _ (apply : ℕ → List ℕ → ℕ) (F : ℕ) (body : ℕ → Expr) (K :
         where
           own : Rest s W₃ h (W₃ (s .occupant h)) (1 + R′ h)
           own = own-rest apply F body K s s′ W′ W₃ h U₃ 1 (λ m k. st .keeps m (λ e. k (inl e))) (λ m k. expects₃ m (λ e. k (inl e)))
-              (Leave.moving apply F body well s s′ sound h r n g es st) (λ ρ o k l f q. local₃ ρ o k q) (well .apart h (r .0) (r .1))
-              (st .place) (lv₃ .1) (well .fits h (s .value) (r .0) (r .1)) (st .keepsFn h h≢g₃ .1) (W₃ (s .occupant h)) (R′ h)
+              (Leave.moving apply F body well s s′ sound h r n g es st) (λ ρ o k l f q. local₃ ρ o k q) (well .apart h r)
+              (st .place) (lv₃ .1) (well .fits h (s .value) r) (st .keepsFn h h≢g₃ .1) (W₃ (s .occupant h)) (R′ h)
               (subst (λ w. Rest s′ W′ h w (R′ h)) (expects₃ (s .occupant h) (other₃ h r h≢g₃))
               (subst (λ w. Rest s′ W′ h (W′ w) (R′ h)) (st .keepsFn h h≢g₃ .0) (after .active h r (now₃ h h≢g₃ (lv₃ .0)))))
 
@@ -141,7 +135,7 @@ module _ (apply : ℕ → List ℕ → ℕ) (F : ℕ) (body : ℕ → Expr) (K :
             refl,
           )
 
-          act : (f : ℕ) → Fn apply F body f → Active apply F body s f → Dec (f ≡ h) → Dec (f ≡ g) → Rest s W₃ f (W₃ (s .occupant f)) (R₃ f)
+          act : (f : ℕ) → Fn F body f → Active apply F body s f → Dec (f ≡ h) → Dec (f ≡ g) → Rest s W₃ f (W₃ (s .occupant f)) (R₃ f)
           act f q a (yes e) d = subst (λ y. Rest s W₃ y (W₃ (s .occupant y)) (R₃ y)) (sym e) (subst (Rest s W₃ h (W₃ (s .occupant h)))
               (sym (put-same R′ h (1 + R′ h))) own)
           act f q a (no e) (yes d) =
@@ -152,11 +146,11 @@ module _ (apply : ℕ → List ℕ → ℕ) (F : ℕ) (body : ℕ → Expr) (K :
               subst (Rest s W₃ f (W₃ (s .occupant f))) (sym (put-other R′ h (1 + R′ h) f e))
               (subst (λ y. Rest s W₃ f y (R′ f)) (expects₃ (s .occupant f) (other₃ f q d))
               (aside-rest′ apply F body K s s′ W′ (λ m. m ≡ n) (st .keeps) W₃ expects₃ f (W′ (s .occupant f)) (R′ f)
-              (λ m k x. e (well .owner f h m (q .0) (q .1) (r .0) (r .1) k
+              (λ m k x. e (well .owner f h m q r k
               (subst (λ y. Node y (body h)) (sym x) (call-node n g (body h) in-h₃)))) (st .keepsFn f d .1)
               (subst (λ y. Rest s′ W′ f (W′ y) (R′ f)) (st .keepsFn f d .0) (after .active f q (now₃ f d a)))))
 
-          rst : (f : ℕ) → Fn apply F body f → (Active apply F body s f → ⊥) → Dec (f ≡ g) → R₃ f ≡ 0
+          rst : (f : ℕ) → Fn F body f → (Active apply F body s f → ⊥) → Dec (f ≡ g) → R₃ f ≡ 0
           rst f q a (yes e) = absurd (a (inr (λ z. n≢0₃ (sym mine₃ ∙ subst (λ y. s .occupant y ≡ 0) e z))))
           rst f q a (no d) = put-other R′ h (1 + R′ h) f (λ e. a (subst (Active apply F body s) (sym e) (lv₃ .0)))
               ∙ after .rest f q (λ b. a (back b))
@@ -165,7 +159,7 @@ module _ (apply : ℕ → List ℕ → ℕ) (F : ℕ) (body : ℕ → Expr) (K :
               back (inl e) = inl e
               back (inr z) = inr (λ e. z (st .keepsFn f d .0 ∙ e))
 
-    module _ (h : ℕ) (r : Fn apply F body h) (n : ℕ) (es : Exprs) (st : AgainStep apply F body s s′ h n es) where
+    module _ (h : ℕ) (r : Fn F body h) (n : ℕ) (es : Exprs) (st : AgainStep apply F body s s′ h n es) where
       abbrev U₄ : Expr
       U₄ = self n es
 
@@ -196,25 +190,25 @@ module _ (apply : ℕ → List ℕ → ℕ) (F : ℕ) (body : ℕ → Expr) (K :
                 Reading.again (values (s .value) es),
                 1,
                 R′ h,
-                self-left s n es (st .waits) (st .ready) apply K W′ (s .register h) (body h) (well .tail h (r .0) (r .1)) (st .place)
+                self-left s n es (st .waits) (st .ready) apply K W′ (s .register h) (body h) (well .tail h r) (st .place)
                     (lv₄ .1) nowhere,
                 subst (K h (values (s .value) es) (W′ (s .occupant h))) (sym (x .5))
                     (reads h (W′ (s .occupant h)) (values (s .value) es) (x .0) (x .1) (x .2) r
                     (subst (λ y. Reads apply K y (body h) nowhere (x .0) (x .1)) (fun-ext (st .arguments)) p)
-                    (subst (λ y. Ends h (x .0) (W′ y) (x .2)) (st .occupants h) (x .4))),
+                    (subst (λ y. Ends K h (x .0) (W′ y) (x .2)) (st .occupants h) (x .4))),
                 omega arith,
               )
 
-          act : (f : ℕ) → Fn apply F body f → Active apply F body s f → Dec (f ≡ h) → Rest s W′ f (W′ (s .occupant f)) (R₄ f)
+          act : (f : ℕ) → Fn F body f → Active apply F body s f → Dec (f ≡ h) → Rest s W′ f (W′ (s .occupant f)) (R₄ f)
           act f q a (yes e) = subst (λ y. Rest s W′ y (W′ (s .occupant y)) (R₄ y)) (sym e) (subst (Rest s W′ h (W′ (s .occupant h)))
               (sym (put-same R′ h (1 + R′ h))) own)
           act f q a (no e) =
               subst (Rest s W′ f (W′ (s .occupant f))) (sym (put-other R′ h (1 + R′ h) f e))
               (aside-rest′ apply F body K s s′ W′ (λ m. Node m (body h)) (st .keeps) W′ (λ m y. refl) f (W′ (s .occupant f)) (R′ f)
-              (λ m y z. e (well .owner f h m (q .0) (q .1) (r .0) (r .1) y z)) (st .keepsFn f e .1)
+              (λ m y z. e (well .owner f h m q r y z)) (st .keepsFn f e .1)
               (subst (λ y. Rest s′ W′ f (W′ y) (R′ f)) (st .keepsFn f e .0) (after .active f q (now₄ f a))))
 
-          rst : (f : ℕ) → Fn apply F body f → (Active apply F body s f → ⊥) → R₄ f ≡ 0
+          rst : (f : ℕ) → Fn F body f → (Active apply F body s f → ⊥) → R₄ f ≡ 0
           rst f q a = put-other R′ h (1 + R′ h) f (λ e. a (subst (Active apply F body s) (sym e) (lv₄ .0)))
               ∙ after .rest f q (λ b. a (back b))
             where

@@ -15,23 +15,17 @@ use Rattle.table.specs.Environment.{values, put}
 use Rattle.rules.proofs.Left.{Left}
 use Rattle.rules.proofs.Mix.{mix, mix-out}
 use Rattle.table.proofs.CallPlaces.{call-node, sub-call}
-use Rattle.table.specs.Well.{Well}
-use Rattle.rules.proofs.Invariant.{InnerStep, Fn, Active, EnterStep, Sound, stepping, inner-moving}
+use Rattle.table.specs.Well.{Fn, Well}
+use Rattle.rules.proofs.Invariant.{InnerStep, Active, EnterStep, Sound, stepping, inner-moving}
 use Rattle.rules.specs.Reading.{Outcome, Readings, Reads}
 use Rattle.rules.proofs.Counts.{left-reads, left-going, over-left*, inner-left}
 use Rattle.table.specs.Find.{total}
 use Rattle.rules.proofs.SumLaws.{put-same, put-other, sum-put}
-use Rattle.rules.proofs.Remaining.{Closes, aside-rest′, own-rest}
+use Rattle.rules.proofs.Remaining.{Ends, nowhere, Closes, aside-rest′, own-rest}
 use Rattle.rules.proofs.Enter as Enter
 use Rattle.rules.proofs.Remaining as Remaining
 
 module _ (apply : ℕ → List ℕ → ℕ) (F : ℕ) (body : ℕ → Expr) (K : Readings) where
-  abbrev Ends : ℕ → Outcome → ℕ → ℕ → Type 0
-  Ends = Remaining.Ends apply F body K
-
-  abbrev nowhere : ℕ → ℕ
-  nowhere = Remaining.nowhere apply F body K
-
   abbrev Rest : View → (ℕ → ℕ) → ℕ → ℕ → ℕ → Type 0
   Rest = Remaining.Rest apply F body K
 
@@ -43,7 +37,7 @@ module _ (apply : ℕ → List ℕ → ℕ) (F : ℕ) (body : ℕ → Expr) (K :
 
   module _ (well : Well F body) (reads : Closes apply F body K) (s s′ : View) (sound : Sound apply F body s) (W′ R′ : ℕ
       → ℕ) (after : Expects s′ W′ R′) where
-    module _ (h : ℕ) (r : Fn apply F body h) (u : Expr) (st : InnerStep apply F body s s′ h u) where
+    module _ (h : ℕ) (r : Fn F body h) (u : Expr) (st : InnerStep apply F body s s′ h u) where
       mv : Still s (id u) → ⊥
       mv = inner-moving apply F body well s s′ sound (s .register h) u (st .rule)
 
@@ -69,20 +63,20 @@ module _ (apply : ℕ → List ℕ → ℕ) (F : ℕ) (body : ℕ → Expr) (K :
         where
           own : Rest s W′ h (W′ (s .occupant h)) (1 + R′ h)
           own = own-rest apply F body K s s′ W′ W′ h u 1 (st .keeps) (λ m y. refl) mv
-              (λ ρ o k l f g. inner-left apply K s s′ W′ (s .register h) u (st .rule) l ρ o k f g) (well .apart h (r .0) (r .1)) (st .place)
-              (lv .1) (well .fits h (s .value) (r .0) (r .1)) (st .keepsFn h .1) (W′ (s .occupant h)) (R′ h)
+              (λ ρ o k l f g. inner-left apply K s s′ W′ (s .register h) u (st .rule) l ρ o k f g) (well .apart h r) (st .place)
+              (lv .1) (well .fits h (s .value) r) (st .keepsFn h .1) (W′ (s .occupant h)) (R′ h)
               (subst (λ y. Rest s′ W′ h (W′ y) (R′ h)) (st .keepsFn h .0) (after .active h r (now h (lv .0))))
 
-          act : (f : ℕ) → Fn apply F body f → Active apply F body s f → Dec (f ≡ h) → Rest s W′ f (W′ (s .occupant f)) (R₁ f)
+          act : (f : ℕ) → Fn F body f → Active apply F body s f → Dec (f ≡ h) → Rest s W′ f (W′ (s .occupant f)) (R₁ f)
           act f q a (yes e) = subst (λ y. Rest s W′ y (W′ (s .occupant y)) (R₁ y)) (sym e) (subst (Rest s W′ h (W′ (s .occupant h)))
               (sym (put-same R′ h (1 + R′ h))) own)
           act f q a (no e) =
               subst (Rest s W′ f (W′ (s .occupant f))) (sym (put-other R′ h (1 + R′ h) f e))
               (aside-rest′ apply F body K s s′ W′ (λ m. Node m u) (st .keeps) W′ (λ m y. refl) f (W′ (s .occupant f)) (R′ f)
-              (λ m y z. e (well .owner f h m (q .0) (q .1) (r .0) (r .1) y (sub-node u m (body h) (st .place) z))) (st .keepsFn f .1)
+              (λ m y z. e (well .owner f h m q r y (sub-node u m (body h) (st .place) z))) (st .keepsFn f .1)
               (subst (λ y. Rest s′ W′ f (W′ y) (R′ f)) (st .keepsFn f .0) (after .active f q (now f a))))
 
-          rst : (f : ℕ) → Fn apply F body f → (Active apply F body s f → ⊥) → R₁ f ≡ 0
+          rst : (f : ℕ) → Fn F body f → (Active apply F body s f → ⊥) → R₁ f ≡ 0
           rst f q a = put-other R′ h (1 + R′ h) f (λ e. a (subst (Active apply F body s) (sym e) (lv .0)))
               ∙ after .rest f q (λ b. a (back b))
             where
@@ -90,11 +84,11 @@ module _ (apply : ℕ → List ℕ → ℕ) (F : ℕ) (body : ℕ → Expr) (K :
               back (inl e) = inl e
               back (inr z) = inr (λ e. z (st .keepsFn f .0 ∙ e))
 
-    module _ (h : ℕ) (r : Fn apply F body h) (n g : ℕ) (es : Exprs) (st : EnterStep apply F body s s′ h n g es) where
+    module _ (h : ℕ) (r : Fn F body h) (n g : ℕ) (es : Exprs) (st : EnterStep apply F body s s′ h n g es) where
       g<h₂ : (1 ≤ g) × (g < h)
       g<h₂ = Enter.g<h apply F body well s s′ sound h r n g es st
 
-      fn-g₂ : Fn apply F body g
+      fn-g₂ : Fn F body g
       fn-g₂ = Enter.fn-g apply F body well s s′ sound h r n g es st
 
       n≢0₂ : n ≡ 0 → ⊥
@@ -114,7 +108,7 @@ module _ (apply : ℕ → List ℕ → ℕ) (F : ℕ) (body : ℕ → Expr) (K :
           subst (K g (values (s .value) es) (W′ n)) (sym (x .5))
           (reads g (W′ n) (values (s .value) es) (x .0) (x .1) (x .2) fn-g₂ (subst (λ y. Reads apply K y (body g) nowhere (x .0) (x .1))
           (fun-ext (st .arguments)) p)
-          (subst (λ y. Ends g (x .0) (W′ y) (x .2)) (st .occupies) (x .4)))
+          (subst (λ y. Ends K g (x .0) (W′ y) (x .2)) (st .occupies) (x .4)))
 
       abbrev U₂ : Expr
       U₂ = call n g es
@@ -187,10 +181,10 @@ module _ (apply : ℕ → List ℕ → ℕ) (F : ℕ) (body : ℕ → Expr) (K :
               (subst (λ w. Rest s′ W′ h (W′ w) (R′ h)) (st .keepsFn h h≢g₂ .0) (after .active h r (now₂ h h≢g₂ (lv₂ .0)))) in
               own-rest apply F body K s t₂ W′ W′ h U₂ (1 + R′ g)
               (λ m k. Enter.keeps-t apply F body well s s′ sound h r n g es st m (λ e. k (inl e))) (λ m k. refl)
-              (Enter.moving apply F body well s s′ sound h r n g es st) (λ ρ o k l f q. local₂ ρ o k q) (well .apart h (r .0) (r .1))
-              (st .place) (lv₂ .1) (well .fits h (s .value) (r .0) (r .1)) (st .keepsFn h h≢g₂ .1) (W′ (s .occupant h)) (R′ h) y
+              (Enter.moving apply F body well s s′ sound h r n g es st) (λ ρ o k l f q. local₂ ρ o k q) (well .apart h r)
+              (st .place) (lv₂ .1) (well .fits h (s .value) r) (st .keepsFn h h≢g₂ .1) (W′ (s .occupant h)) (R′ h) y
 
-          act : (f : ℕ) → Fn apply F body f → Active apply F body s f → Dec (f ≡ h) → Dec (f ≡ g) → Rest s W′ f (W′ (s .occupant f)) (R₂ f)
+          act : (f : ℕ) → Fn F body f → Active apply F body s f → Dec (f ≡ h) → Dec (f ≡ g) → Rest s W′ f (W′ (s .occupant f)) (R₂ f)
           act f q a d (yes e) = absurd (Enter.asleep apply F body well s s′ sound h r n g es st (subst (Active apply F body s) e a))
           act f q a (yes e) (no d) =
               subst (λ y. Rest s W′ y (W′ (s .occupant y)) (R₂ y)) (sym e)
@@ -205,11 +199,11 @@ module _ (apply : ℕ → List ℕ → ℕ) (F : ℕ) (body : ℕ → Expr) (K :
               (subst (λ y. Rest s′ W′ f (W′ y) (R′ f)) (st .keepsFn f d .0) (after .active f q (now₂ f d a))))
             where
               clear : (m : ℕ) → Node m (body f) → X₂ m → ⊥
-              clear m k (inl x) = e (well .owner f h m (q .0) (q .1) (r .0) (r .1) k
+              clear m k (inl x) = e (well .owner f h m q r k
                   (subst (λ y. Node y (body h)) (sym x) (call-node n g (body h) (sub-call n g es (body h) (st .place)))))
-              clear m k (inr x) = d (well .owner f g m (q .0) (q .1) (fn-g₂ .0) (fn-g₂ .1) k x)
+              clear m k (inr x) = d (well .owner f g m q fn-g₂ k x)
 
-          rst : (f : ℕ) → Fn apply F body f → (Active apply F body s f → ⊥) → Dec (f ≡ g) → R₂ f ≡ 0
+          rst : (f : ℕ) → Fn F body f → (Active apply F body s f → ⊥) → Dec (f ≡ g) → R₂ f ≡ 0
           rst f q a (yes e) = subst (λ y. R₂ y ≡ 0) (sym e) (put-same (put R′ h ((1 + R′ g) + R′ h)) g 0)
           rst f q a (no d) =
               put-other (put R′ h ((1 + R′ g) + R′ h)) g 0 f d ∙ put-other R′ h ((1 + R′ g) + R′ h) f

@@ -5,6 +5,7 @@ use mathlib.Core.Logic.{_⊎_}
 use Rattle.table.specs.Syntax.{Expr, Exprs, const, param, prim, call, self, cond, bind, bound, none, some, id, Node, Node*, Sub}
 use Rattle.table.specs.Syntax.{width}
 use Rattle.table.specs.Environment.{values, extend}
+use Rattle.table.specs.Pick.{Range}
 
 -- the numbers in an expression differ from each other
 abbrev pub Apart₂ : (ℕ → Type 0) → (ℕ → Type 0) → Type 0
@@ -85,22 +86,26 @@ module _ (value : ℕ → ℕ) where
     Fits* none ρ = Unit {0}
     Fits* (some e es) ρ = Fits e ρ × Fits* es ρ
 
+-- f is a function with a body
+abbrev pub Fn : ℕ → (ℕ → Expr) → ℕ → Type 0
+Fn F body f = Range F f
+
 -- what the check of a table ensures
 pub record Well (F : ℕ) (body : ℕ → Expr) : Type 0 where
-  pub apart : (f : ℕ) → 1 ≤ f → f ≤ F → Apart (body f)
-  pub owner : (f g m : ℕ) → 1 ≤ f → f ≤ F → 1 ≤ g → g ≤ F → Node m (body f) → Node m (body g) → f ≡ g
-  pub nonzero : (f m : ℕ) → 1 ≤ f → f ≤ F → Node m (body f) → m ≡ 0 → ⊥
-  pub below : (f c g : ℕ) → 1 ≤ f → f ≤ F → CallIn c g (body f) → (1 ≤ g) × (g < f)
-  pub tail : (f : ℕ) → 1 ≤ f → f ≤ F → Tail (body f)
-  pub fits : (f : ℕ) (value : ℕ → ℕ) → 1 ≤ f → f ≤ F → Fits value (body f) (λ d. 0)
+  pub apart : (f : ℕ) → Fn F body f → Apart (body f)
+  pub owner : (f g m : ℕ) → Fn F body f → Fn F body g → Node m (body f) → Node m (body g) → f ≡ g
+  pub nonzero : (f m : ℕ) → Fn F body f → Node m (body f) → m ≡ 0 → ⊥
+  pub below : (f c g : ℕ) → Fn F body f → CallIn c g (body f) → (1 ≤ g) × (g < f)
+  pub tail : (f : ℕ) → Fn F body f → Tail (body f)
+  pub fits : (f : ℕ) (value : ℕ → ℕ) → Fn F body f → Fits value (body f) (λ d. 0)
 
 pub record Laid (F N : ℕ) (body at : ℕ → Expr) (home : ℕ → ℕ) : Type 0 where
   pub some-function : 1 ≤ F
   pub functions : F ≤ 32
   pub nodes : N ≤ 512
   pub well : Well F body
-  pub home-there : (n : ℕ) → 1 ≤ n → n ≤ N → (1 ≤ home n) × (home n ≤ F)
-  pub placed : (n : ℕ) → 1 ≤ n → n ≤ N → Sub (at n) (body (home n))
-  pub number : (n : ℕ) → 1 ≤ n → n ≤ N → id (at n) ≡ n
-  pub inside : (f m : ℕ) → 1 ≤ f → f ≤ F → Node m (body f) → (home m ≡ f) × (1 ≤ m) × (m ≤ N)
-  pub narrow : (f : ℕ) (u : Expr) → 1 ≤ f → f ≤ F → Sub u (body f) → width u ≤ 8
+  pub home-there : (n : ℕ) → Range N n → Fn F body (home n)
+  pub placed : (n : ℕ) → Range N n → Sub (at n) (body (home n))
+  pub number : (n : ℕ) → Range N n → id (at n) ≡ n
+  pub inside : (f m : ℕ) → Fn F body f → Node m (body f) → (home m ≡ f) × (1 ≤ m) × (m ≤ N)
+  pub narrow : (f : ℕ) (u : Expr) → Fn F body f → Sub u (body f) → width u ≤ 8
