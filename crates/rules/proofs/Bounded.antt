@@ -10,6 +10,7 @@ use Rattle.table.specs.Syntax.{Expr, Exprs, const, param, prim, call, self, con
 use Rattle.rules.specs.State.{View, entry}
 use Rattle.rules.proofs.Shape.{Still, Idle, Open, Busy, Live, Opened*, Opened}
 use Rattle.rules.specs.Reading.{Chosen}
+use Rattle.rules.proofs.Branches.{chosen-case}
 use Rattle.table.proofs.SyntaxLaws.{every-node}
 use Rattle.rules.proofs.Moves.{both, both*, done*-still}
 use Rattle.table.proofs.CallPlaces.{call-node}
@@ -55,8 +56,8 @@ module _ (s : View) where
 
   taken-small : (b c : Expr) → (Live s b → Every Small b) → (Live s c → Every Small c) → (v : ℕ)
       → Chosen (Opened s b × Every (Idle s) c) (Opened s c × Every (Idle s) b) v → Every Small b × Every Small c
-  taken-small b c f g zero t = (idle-small b (t .1), opened-small c g (t .0))
-  taken-small b c f g (suc v) t = (opened-small b f (t .0), idle-small c (t .1))
+  taken-small b c f g = chosen-case (λ t. (opened-small b f (t .0), idle-small c (t .1)))
+      (λ t. (idle-small b (t .1), opened-small c g (t .0)))
 
   mutual
     live-small : (e : Expr) → Live s e → Every Small e

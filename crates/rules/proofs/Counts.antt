@@ -5,8 +5,9 @@ use mathlib.Core.Path.{_≡_, refl, subst, sym, ap, _∙_}
 use mathlib.Core.Logic.{_⊎_, inl, inr, ⊎-elim}
 use mathlib.Core.List.{List, _∷_}
 use native.Mathlib.Omega.{arith}
-use Rattle.table.specs.Syntax.{Expr, Exprs, const, param, prim, call, self, cond, bind, bound, none, some, id, Every, Every*}
+use Rattle.table.specs.Syntax.{Expr, Exprs, const, param, prim, call, self, cond, bind, bound, none, some, id, Every*}
 use Rattle.rules.specs.State.{View}
+use Rattle.rules.proofs.Branches.{chosen-both}
 use Rattle.rules.specs.Reading.{Chosen, Outcome, val, last, Readings, Reads, Reads*}
 use Rattle.rules.proofs.Shape.{Live}
 use Rattle.rules.proofs.Frame.{Same}
@@ -132,17 +133,12 @@ module _ (apply : ℕ → List ℕ → ℕ) (K : Readings) (s s′ : View) (W : 
             0,
             x .1 .0,
             inl (r .1, refl, refl),
-            at (x .1 .0) (s .value (id a)) (r .4)
-                (subst (Chosen (Now b ρ o (x .1 .0)) (Now c ρ o (x .1 .0))) (every-id s s′ (Same s s′) a (r .3) .2) (x .1 .1)),
+            chosen-both (λ p t. opened-reads b ρ o (x .1 .0) (p .0) t) (λ p t. opened-reads c ρ o (x .1 .0) (p .0) t)
+                (s .value (id a)) (s′ .value (id a)) (every-id s s′ (Same s s′) a (r .3) .2) (r .4) (x .1 .1),
             omega (arith, x .1 .2),
           ),
         ),
       ))) (begun (cond n a b c) ρ o k (r .2 .0) h)
-    where
-      at : (i v : ℕ) → Chosen (Opens apply args s s′ b × Every (Same s s′) c) (Opens apply args s s′ c × Every (Same s s′) b) v
-          → Chosen (Now b ρ o i) (Now c ρ o i) v → Chosen (Reads apply K args b ρ o i) (Reads apply K args c ρ o i) v
-      at i zero p t = opened-reads c ρ o i (p .0) t
-      at i (suc v) p t = opened-reads b ρ o i (p .0) t
   inner-left (cond n a b c) (inr (inr r)) l ρ o k f h =
       let x = at (s .value (id a)) (r .1) in inr (inr (r .0 .0, inr (r .0 .1, (0, x .0, omega (arith, x .1)))))
     where

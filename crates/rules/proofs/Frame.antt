@@ -1,12 +1,12 @@
 -- a move inside the expression u leaves the shape of what is around it
-use Prim.Native.Nat.{ℕ, zero, suc}
+use Prim.Native.Nat.{ℕ}
 use mathlib.Core.Bool.{Bool, true, false}
-use mathlib.Core.Path.{_≡_, refl, subst, sym, _∙_}
+use mathlib.Core.Path.{_≡_, refl, sym, _∙_}
 use mathlib.Core.Logic.{inl, inr, ⊎-elim}
 use Rattle.table.specs.Syntax.{Expr, Exprs, const, param, prim, call, self, cond, bind, bound, none, some, id, Every, Every*, Node, Node*}
 use Rattle.rules.specs.State.{View}
 use Rattle.rules.proofs.Shape.{Still, Idle, Open, Busy, Done, Done*, Live, Opened*, Opened}
-use Rattle.rules.specs.Reading.{Chosen}
+use Rattle.rules.proofs.Branches.{chosen-map}
 use Rattle.table.proofs.SyntaxLaws.{node-id}
 
 abbrev pub Same : View → View → ℕ → Type 0
@@ -71,13 +71,6 @@ module _ (s s′ : View) (X : ℕ → Type 0) (keeps : (m : ℕ) → (X m → �
   done-over* none c d = tt
   done-over* (some e es) c d = (done-over e (λ m k. c m (inl k)) (d .0), done-over* es (λ m k. c m (inr k)) (d .1))
 
-  pub taken-over : (X₁ Y₁ X₂ Y₂ : Type 0) → (X₁ → X₂) → (Y₁ → Y₂) → (v w : ℕ) → w ≡ v → Chosen X₁ Y₁ v → Chosen X₂ Y₂ w
-  taken-over X₁ Y₁ X₂ Y₂ f g v w e t = subst (Chosen X₂ Y₂) (sym e) (at v t)
-    where
-      at : (v : ℕ) → Chosen X₁ Y₁ v → Chosen X₂ Y₂ v
-      at zero t = g t
-      at (suc k) t = f t
-
   mutual
     pub live-over : (e : Expr) → Clear e → Live s e → Live s′ e
     live-over (const n v) c l = open-frame n (c n refl) l
@@ -115,8 +108,7 @@ module _ (s s′ : View) (X : ℕ → Type 0) (keeps : (m : ℕ) → (X m → �
         inr (inr (
           busy-frame n true (c n (inl refl)) (l .0),
           done-over a (λ m k. c m (inr (inl k))) (l .1),
-          taken-over (Opened s b × Every (Idle s) d) (Opened s d × Every (Idle s) b) (Opened s′ b × Every (Idle s′) d) (Opened s′ d
-              × Every (Idle s′) b)
+          chosen-map
               (λ t. (
                 ⊎-elim (λ x. inl (live-over b (λ m k. c m (inr (inr (inl k)))) x))
                     (λ x. inr (done-over b (λ m k. c m (inr (inr (inl k)))) x)) (t .0),
@@ -127,7 +119,7 @@ module _ (s s′ : View) (X : ℕ → Type 0) (keeps : (m : ℕ) → (X m → �
                     (λ x. inr (done-over d (λ m k. c m (inr (inr (inr k)))) x)) (t .0),
                 idle-over b (λ m k. c m (inr (inr (inl k)))) (t .1),
               ))
-              (s .value (id a)) (s′ .value (id a)) (keeps (id a) (c (id a) (inr (inl (node-id a)))) .2) (l .2),
+              (s .value (id a)) (s′ .value (id a)) (sym (keeps (id a) (c (id a) (inr (inl (node-id a)))) .2)) (l .2),
         ))
     live-over (bind n ds b) c (inl l) =
         inl (

@@ -1,16 +1,17 @@
 -- a move inside a part: what is left outside stays, and what is left of a body is d more before the move than after it
-use Prim.Native.Nat.{ℕ, zero, suc, _+_}
+use Prim.Native.Nat.{ℕ, _+_}
 use mathlib.Core.Bool.{Bool, true, false, true≢false}
 use mathlib.Core.Path.{_≡_, refl, subst, sym, ap, _∙_}
 use mathlib.Core.Logic.{inl, inr, ⊎-elim}
 use mathlib.Core.List.{List, _∷_}
 use native.Mathlib.Omega.{arith}
-use Rattle.table.specs.Syntax.{Expr, Exprs, const, param, prim, call, self, cond, bind, bound, none, some, id, Every, Node, Node*, Sub}
+use Rattle.table.specs.Syntax.{Expr, Exprs, const, param, prim, call, self, cond, bind, bound, none, some, id, Node, Node*, Sub}
 use Rattle.table.specs.Syntax.{Sub*}
 use Rattle.rules.specs.State.{View}
 use Rattle.table.specs.Environment.{values, extend}
-use Rattle.rules.proofs.Shape.{Still, Idle, Live, Opened*, Opened}
-use Rattle.rules.specs.Reading.{Chosen, Outcome, val, Readings}
+use Rattle.rules.proofs.Shape.{Still, Live, Opened*, Opened}
+use Rattle.rules.specs.Reading.{Outcome, val, Readings}
+use Rattle.rules.proofs.Branches.{chosen-map, chosen-both}
 use Rattle.table.specs.Well.{Apart, Apart*, Fits, Fits*}
 use Rattle.rules.proofs.Frame.{Same}
 use Rattle.table.proofs.SyntaxLaws.{node-id, sub-node, sub-node*}
@@ -44,13 +45,6 @@ module _ (apply : ℕ → List ℕ → ℕ) (K : Readings) (s s′ : View) (W W�
   values-over : (es : Exprs) → Clear* es → values (s′ .value) es ≡ values (s .value) es
   values-over none c = refl
   values-over (some e es) c = λ i. keeps (id e) (c (id e) (inl (node-id e))) .2 i ∷ values-over es (λ m k. c m (inr k)) i
-
-  taken-back : (X₁ Y₁ X₂ Y₂ : Type 0) → (X₁ → X₂) → (Y₁ → Y₂) → (v w : ℕ) → v ≡ w → Chosen X₁ Y₁ v → Chosen X₂ Y₂ w
-  taken-back X₁ Y₁ X₂ Y₂ f g v w e t = subst (Chosen X₂ Y₂) e (at v t)
-    where
-      at : (v : ℕ) → Chosen X₁ Y₁ v → Chosen X₂ Y₂ v
-      at zero t = g t
-      at (suc k) t = f t
 
   mutual
     going-over : (e : Expr) → Clear e → (ρ : ℕ → ℕ) (o : Outcome) (k : ℕ) → Going apply K s′ W′ args e ρ o k
@@ -95,8 +89,7 @@ module _ (apply : ℕ → List ℕ → ℕ) (K : Readings) (s s′ : View) (W W�
           phase-over n true (c n (inl refl)) p,
           (
             h .0,
-            taken-back (Left apply K s′ W′ args b ρ o (h .0)) (Left apply K s′ W′ args d ρ o (h .0)) (Left apply K s W args b ρ o (h .0))
-                (Left apply K s W args d ρ o (h .0)) (part-over b cb ρ o (h .0) (λ x. going-over b cb ρ o (h .0) x))
+            chosen-map (part-over b cb ρ o (h .0) (λ x. going-over b cb ρ o (h .0) x))
                 (part-over d cd ρ o (h .0) (λ x. going-over d cd ρ o (h .0) x))
                 (s′ .value (id a)) (s .value (id a)) (keeps (id a) (c (id a) (inr (inl (node-id a)))) .2) (h .1),
             h .2,
@@ -169,14 +162,6 @@ module _ (apply : ℕ → List ℕ → ℕ) (K : Readings) (s s′ : View) (W W�
   phases′ : (n : ℕ) → (Node n u → ⊥) → s .second n ≡ true → s′ .second n ≡ false → ⊥
   phases′ n x p q = true≢false (sym p ∙ sym (keeps n x .1) ∙ q)
 
-  branch : (L₁ L₂ A₁ A₂ B₁ B₂ : Type 0) → (L₁ → A₁ → B₁) → (L₂ → A₂ → B₂) → (v w : ℕ) → w ≡ v → Chosen L₁ L₂ v → Chosen A₁ A₂ w
-      → Chosen B₁ B₂ v
-  branch L₁ L₂ A₁ A₂ B₁ B₂ f g v w e l t = at v l (subst (Chosen A₁ A₂) e t)
-    where
-      at : (v : ℕ) → Chosen L₁ L₂ v → Chosen A₁ A₂ v → Chosen B₁ B₂ v
-      at zero l t = g l t
-      at (suc k) l t = f l t
-
   mutual
     pub left-within : (e : Expr) → Apart e → Sub u e → Back e
     left-within (const n v) a p ρ o k l f h = here (const n v) p ρ o k l f h
@@ -244,9 +229,7 @@ module _ (apply : ℕ → List ℕ → ℕ) (K : Readings) (s s′ : View) (W W�
             l .0 .1,
             (
               d + g .1 .0,
-              branch (Opened s b × Every (Idle s) c) (Opened s c × Every (Idle s) b) (Left apply K s′ W′ args b ρ o (g .1 .0))
-                  (Left apply K s′ W′ args c ρ o (g .1 .0)) (Left apply K s W args b ρ o (d + g .1 .0))
-                  (Left apply K s W args c ρ o (d + g .1 .0))
+              chosen-both
                   (λ x t. back-opened b (λ ρ′ o′ k′ l′ f′ h′. left-within b (q .4) p ρ′ o′ k′ l′ f′ h′) p ρ o (g .1 .0) (x .0) (f .1) t)
                   (λ x t. absurd (idle-not s u moving b (x .1) p))
                   (s .value (id a)) (s′ .value (id a)) (keeps (id a) (λ x. q .6 (id a) (node-id a) (sub-node u (id a) b p x)) .2)
@@ -264,9 +247,7 @@ module _ (apply : ℕ → List ℕ → ℕ) (K : Readings) (s s′ : View) (W W�
             l .0 .1,
             (
               d + g .1 .0,
-              branch (Opened s b × Every (Idle s) c) (Opened s c × Every (Idle s) b) (Left apply K s′ W′ args b ρ o (g .1 .0))
-                  (Left apply K s′ W′ args c ρ o (g .1 .0)) (Left apply K s W args b ρ o (d + g .1 .0))
-                  (Left apply K s W args c ρ o (d + g .1 .0))
+              chosen-both
                   (λ x t. absurd (idle-not s u moving c (x .1) p))
                   (λ x t. back-opened c (λ ρ′ o′ k′ l′ f′ h′. left-within c (q .5) p ρ′ o′ k′ l′ f′ h′) p ρ o (g .1 .0) (x .0) (f .2) t)
                   (s .value (id a)) (s′ .value (id a)) (keeps (id a) (λ x. q .7 (id a) (node-id a) (sub-node u (id a) c p x)) .2)

@@ -7,7 +7,8 @@ use native.Mathlib.Omega.{arith}
 use native.Mathlib.Decide.{ℕ-discrete}
 use lib.ListN.{getD}
 use Rattle.table.specs.Syntax.{Expr, Exprs, const, param, prim, call, self, cond, bind, bound, none, some}
-use Rattle.rules.specs.Reading.{Chosen, Outcome, val, again, Readings, Reads, Reads*, Round, stops, goes, readings}
+use Rattle.rules.specs.Reading.{Outcome, val, again, Readings, Reads, Reads*, Round, stops, goes, readings}
+use Rattle.rules.proofs.Branches.{chosen-map}
 use Rattle.table.specs.Environment.{extend}
 use Rattle.table.specs.Pick.{mixed}
 use Rattle.table.specs.Well.{CallIn, CallIn*, Well}
@@ -40,16 +41,10 @@ module _ (apply : ℕ → List ℕ → ℕ) (K K′ : Readings) (args : ℕ → 
       h .1,
       h .2,
       reads-over a (λ g v k vs p q. f g v k vs (p .0, inl (p .1)) q) ρ (val (h .0)) (h .1) (h .3),
-      either (h .0) (Reads apply K args b ρ o (h .2)) (Reads apply K args c ρ o (h .2)) (Reads apply K′ args b ρ o (h .2))
-          (Reads apply K′ args c ρ o (h .2))
-          (λ x. reads-over b (λ g v k vs p q. f g v k vs (p .0, inr (inl (p .1))) q) ρ o (h .2) x)
-          (λ x. reads-over c (λ g v k vs p q. f g v k vs (p .0, inr (inr (p .1))) q) ρ o (h .2) x) (h .4),
+      chosen-map (λ x. reads-over b (λ g v k vs p q. f g v k vs (p .0, inr (inl (p .1))) q) ρ o (h .2) x)
+          (λ x. reads-over c (λ g v k vs p q. f g v k vs (p .0, inr (inr (p .1))) q) ρ o (h .2) x) (h .0) (h .0) refl (h .4),
       h .5,
     )
-      where
-        either : (v : ℕ) (X Y X′ Y′ : Type 0) → (X → X′) → (Y → Y′) → Chosen X Y v → Chosen X′ Y′ v
-        either zero X Y X′ Y′ p q t = q t
-        either (suc v) X Y X′ Y′ p q t = p t
     reads-over (bind n ds b) f ρ o k h = (
       h .0,
       h .1,

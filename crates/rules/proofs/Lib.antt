@@ -38,6 +38,7 @@ pub mod Logs
 pub mod Kept
 -- the abstract circuit: its states and moves, and what is left to read
 pub mod Shape
+pub mod Branches
 pub mod Frame
 pub mod Within
 pub mod Left

@@ -1,7 +1,7 @@
 -- the steps that stay inside one body
-use Prim.Native.Nat.{ℕ, zero, suc}
+use Prim.Native.Nat.{ℕ}
 use mathlib.Core.Bool.{true, false, true≢false}
-use mathlib.Core.Path.{_≡_, subst, sym, _∙_}
+use mathlib.Core.Path.{_≡_, refl, sym, _∙_}
 use mathlib.Core.Logic.{_⊎_, inl, inr, ⊎-elim}
 use mathlib.Core.List.{List}
 use native.Mathlib.Omega.{arith}
@@ -9,6 +9,7 @@ use Rattle.table.specs.Syntax.{Expr, Exprs, const, param, prim, call, self, con
 use Rattle.rules.specs.State.{View}
 use Rattle.rules.proofs.Shape.{Still, Idle, Open, Busy, Done, Done*, Live, Opened*, Opened}
 use Rattle.rules.specs.Reading.{Chosen}
+use Rattle.rules.proofs.Branches.{chosen-case, chosen-map, chosen-both}
 use Rattle.rules.proofs.Frame.{Same}
 use Rattle.table.specs.Environment.{values}
 
@@ -200,21 +201,18 @@ module _ (apply : ℕ → List ℕ → ℕ) (args : ℕ → ℕ) (s s′ : View)
       inl (inr (inr (
         r .2,
         done-kept s s′ a (r .3) (finished s a (l .1) (r .1)),
-        turn (s .value (id a)) (s′ .value (id a)) (every-id s s′ (Same s s′) a (r .3) .2) (r .4),
+        chosen-map (λ t. (inl (opens-live b (l .2) (t .0)), idle-kept s s′ c (t .1) (l .3)))
+            (λ t. (inl (opens-live c (l .3) (t .0)), idle-kept s s′ b (t .1) (l .2)))
+            (s .value (id a)) (s′ .value (id a)) (sym (every-id s s′ (Same s s′) a (r .3) .2)) (r .4),
       )))
-    where
-      at : (v : ℕ) → Chosen (Opens apply args s s′ b × Every (Same s s′) c) (Opens apply args s s′ c × Every (Same s s′) b) v
-          → Chosen (Opened s′ b × Every (Idle s′) c) (Opened s′ c × Every (Idle s′) b) v
-      at zero t = (inl (opens-live c (l .3) (t .0)), idle-kept s s′ b (t .1) (l .2))
-      at (suc v) t = (inl (opens-live b (l .2) (t .0)), idle-kept s s′ c (t .1) (l .3))
-
-      turn : (v w : ℕ) → w ≡ v → Chosen (Opens apply args s s′ b × Every (Same s s′) c) (Opens apply args s s′ c × Every (Same s s′) b) v
-          → Chosen (Opened s′ b × Every (Idle s′) c) (Opened s′ c × Every (Idle s′) b) w
-      turn v w e t = subst (Chosen (Opened s′ b × Every (Idle s′) c) (Opened s′ c × Every (Idle s′) b)) (sym e) (at v t)
   inner-live (cond n a b c) (inr (inl r)) (inr (inr l)) = absurd (true≢false (sym (l .0 .1) ∙ r .0 .1))
   inner-live (cond n a b c) (inr (inr r)) (inl l) = absurd (omega arith)
   inner-live (cond n a b c) (inr (inr r)) (inr (inl l)) = absurd (true≢false (sym (r .0 .1) ∙ l .0 .1))
-  inner-live (cond n a b c) (inr (inr r)) (inr (inr l)) = inr (end (s .value (id a)) (r .1) (l .2))
+  inner-live (cond n a b c) (inr (inr r)) (inr (inr l)) =
+      inr (chosen-case (λ d. d) (λ d. d) (s .value (id a)) (chosen-both
+      (λ t o. kept _ (t .1) (finished s b (o .0) (t .0) .1) (idle-still s c (o .1)))
+      (λ t o. kept _ (t .1) (idle-still s b (o .1)) (finished s c (o .0) (t .0) .1))
+      (s .value (id a)) (s .value (id a)) refl (r .1) (l .2)))
     where
       kept : (v : ℕ) → Becomes apply args s s′ n v → Every (Still s) b → Every (Still s) c → Done s′ (cond n a b c)
       kept v h p q = (
@@ -226,12 +224,6 @@ module _ (apply : ℕ → List ℕ → ℕ) (args : ℕ → ℕ) (s s′ : View)
           still-kept s s′ c (r .4) q,
         ),
       )
-
-      end : (v : ℕ) → Chosen ((s .status (id b) ≡ 3) × Becomes apply args s s′ n (s .value (id b))) ((s .status (id c) ≡ 3)
-          × Becomes apply args s s′ n (s .value (id c))) v
-          → Chosen (Opened s b × Every (Idle s) c) (Opened s c × Every (Idle s) b) v → Done s′ (cond n a b c)
-      end zero t o = kept _ (t .1) (idle-still s b (o .1)) (finished s c (o .0) (t .0) .1)
-      end (suc v) t o = kept _ (t .1) (finished s b (o .0) (t .0) .1) (idle-still s c (o .1))
   inner-live (bind n ds b) (inl r) (inl l) = inl (inr (inl (r .1, opens-live* ds (l .1) (r .2), idle-kept s s′ b (r .3) (l .2))))
   inner-live (bind n ds b) (inl r) (inr (inl l)) = absurd (omega arith)
   inner-live (bind n ds b) (inl r) (inr (inr l)) = absurd (omega arith)

@@ -1,14 +1,15 @@
 -- a move of the node of u, seen from the body that holds u
 use Prim.Native.Nat.{ℕ}
 use mathlib.Core.Bool.{true, false}
-use mathlib.Core.Path.{_≡_, subst}
+use mathlib.Core.Path.{_≡_, subst, sym}
 use mathlib.Core.Logic.{inl, inr}
 use Rattle.table.specs.Syntax.{Expr, Exprs, const, param, prim, call, self, cond, bind, bound, none, some, id, Every, Every*, Node, Sub}
 use Rattle.table.specs.Syntax.{Sub*}
 use Rattle.rules.specs.State.{View}
 use Rattle.rules.proofs.Shape.{Still, Idle, Done, Done*, Live, Opened*, Opened}
 use Rattle.table.specs.Well.{Apart, Apart*}
-use Rattle.rules.proofs.Frame.{Same, idle-over, done-over, done-over*, opened-over, opened-over*, busy-frame, taken-over}
+use Rattle.rules.proofs.Frame.{Same, idle-over, done-over, done-over*, opened-over, opened-over*, busy-frame}
+use Rattle.rules.proofs.Branches.{chosen-map}
 use Rattle.table.proofs.SyntaxLaws.{node-id, every-node, every-node*, sub-node*, sub-node}
 
 module _ (s : View) (u : Expr) (moving : Still s (id u) → ⊥) where
@@ -72,14 +73,13 @@ module _ (s s′ : View) (u : Expr)
         inl (inr (inr (
           busy-frame s s′ X keeps holds n true (λ k. h .1 (sub-node u n b p k)) (l .0),
           done-over s s′ X keeps holds a (λ m k x. h .6 m k (sub-node u m b p x)) (l .1),
-          taken-over s s′ X keeps holds (Opened s b × Every (Idle s) c) (Opened s c × Every (Idle s) b) (Opened s′ b × Every (Idle s′) c)
-              (Opened s′ c × Every (Idle s′) b)
+          chosen-map
               (λ t. (
                 opened b (λ x. within b (h .4) p x) p (t .0),
                 idle-over s s′ X keeps holds c (λ m k x. h .8 m (sub-node u m b p x) k) (t .1),
               ))
               (λ t. absurd (idle-not s u moving b (t .1) p))
-              (s .value (id a)) (s′ .value (id a)) (keeps (id a) (λ x. h .6 (id a) (node-id a) (sub-node u (id a) b p x)) .2) (l .2),
+              (s .value (id a)) (s′ .value (id a)) (sym (keeps (id a) (λ x. h .6 (id a) (node-id a) (sub-node u (id a) b p x)) .2)) (l .2),
         )))
     within (cond n a b c) h (inr (inr (inr p))) (inl l) = absurd (idle-not s u moving c (l .3) p)
     within (cond n a b c) h (inr (inr (inr p))) (inr (inl l)) = absurd (idle-not s u moving c (l .3) p)
@@ -87,14 +87,13 @@ module _ (s s′ : View) (u : Expr)
         inl (inr (inr (
           busy-frame s s′ X keeps holds n true (λ k. h .2 (sub-node u n c p k)) (l .0),
           done-over s s′ X keeps holds a (λ m k x. h .7 m k (sub-node u m c p x)) (l .1),
-          taken-over s s′ X keeps holds (Opened s b × Every (Idle s) c) (Opened s c × Every (Idle s) b) (Opened s′ b × Every (Idle s′) c)
-              (Opened s′ c × Every (Idle s′) b)
+          chosen-map
               (λ t. absurd (idle-not s u moving c (t .1) p))
               (λ t. (
                 opened c (λ x. within c (h .5) p x) p (t .0),
                 idle-over s s′ X keeps holds b (λ m k x. h .8 m k (sub-node u m c p x)) (t .1),
               ))
-              (s .value (id a)) (s′ .value (id a)) (keeps (id a) (λ x. h .7 (id a) (node-id a) (sub-node u (id a) c p x)) .2) (l .2),
+              (s .value (id a)) (s′ .value (id a)) (sym (keeps (id a) (λ x. h .7 (id a) (node-id a) (sub-node u (id a) c p x)) .2)) (l .2),
         )))
     within (bind n ds b) h (inl p) l = subst (λ x. Live s x → Opened s′ x) p local l
     within (bind n ds b) h (inr (inl p)) (inl l) = absurd (idle-not* s u moving ds (l .1) p)
