@@ -1,6 +1,5 @@
 -- from a start: whatever the order of the steps, main's answer and the number of steps are the reading's
 use Prim.Native.Nat.{ℕ, zero, suc, _+_, _≤_, _<_}
-use mathlib.Core.Bool.{true}
 use mathlib.Core.Path.{_≡_, refl, subst, sym, ap, _∙_, fun-ext}
 use mathlib.Core.Logic.{inl, inr, ⊎-elim}
 use mathlib.Core.List.{List}
@@ -9,40 +8,42 @@ use native.Mathlib.Decide.{ℕ-discrete}
 use lib.ListN.{getD}
 use Rattle.table.specs.Syntax.{Expr, id, Every, Node}
 use Rattle.rules.specs.State.{View}
-use Rattle.rules.proofs.Shape.{Still, Busy, Done, Opened}
+use Rattle.rules.proofs.Shape.{Still, Done, Opened}
 use Rattle.rules.proofs.Moves.{finished}
-use Rattle.table.specs.Well.{Fn, CallIn, Well}
+use Rattle.table.specs.Well.{Fn, Well}
 use Rattle.table.proofs.CallPlaces.{call-node}
 use Rattle.rules.proofs.Places.{still-busy}
-use Rattle.rules.proofs.Invariant.{Step, inner, enter, leave, again, inner-sound, Active, New, Sound, new-live}
+use Rattle.rules.proofs.Invariant.{Step, inner, enter, leave, again, Active, New, Holder, Sound, new-live}
 use Rattle.rules.specs.Reading.{val, Readings, Reads}
 use Rattle.rules.proofs.Counts.{left-reads, over-left}
 use Rattle.rules.proofs.Total.{step-before}
 use Rattle.table.specs.Find.{total}
 use Rattle.rules.proofs.SumLaws.{sum-zero}
 use Rattle.rules.proofs.Remaining.{Closes, nowhere, Rest, Expects}
-use Rattle.rules.proofs.Enter as Enter
-use Rattle.rules.proofs.Leave as Leave
-use Rattle.rules.proofs.Again as Again
+use Rattle.rules.proofs.Acting.{inner-acts, enter-acts, leave-acts, again-acts}
+use Rattle.rules.proofs.Inner.{inner-sound}
+use Rattle.rules.proofs.Enter.{enter-sound}
+use Rattle.rules.proofs.Leave.{leave-sound}
+use Rattle.rules.proofs.Again.{again-sound}
 
 module _ (apply : ℕ → List ℕ → ℕ) (F : ℕ) (body : ℕ → Expr) (well : Well F body) where
-  pub step-sound : (s s′ : View) → Sound apply F body s → Step apply F body s s′ → Sound apply F body s′
-  step-sound s s′ d (inner h r u st) = inner-sound apply F body well s s′ d h r u st
-  step-sound s s′ d (enter h r n g es st) = Enter.enter-sound apply F body well s s′ d h r n g es st
-  step-sound s s′ d (leave h r n g es st) = Leave.leave-sound apply F body well s s′ d h r n g es st
-  step-sound s s′ d (again h r n es st) = Again.again-sound apply F body well s s′ d h r n es st
+  pub step-sound : (s s′ : View) → Sound F body s → Step apply F body s s′ → Sound F body s′
+  step-sound s s′ d (inner h r u st) = inner-sound (inner-acts well d r st) st
+  step-sound s s′ d (enter h r n g es st) = enter-sound (enter-acts well d r st) st
+  step-sound s s′ d (leave h r n g es st) = leave-sound (leave-acts well d r st) st
+  step-sound s s′ d (again h r n es st) = again-sound (again-acts well d r st) st
 
   -- n steps lead from s to s′
   pub data Steps (s : View) : View → ℕ → Type 0 where
     rest : Steps s s 0
     then : {t u : View} {n : ℕ} → Steps s t n → Step apply F body t u → Steps s u (suc n)
 
-  pub steps-sound : (s s′ : View) (n : ℕ) → Sound apply F body s → Steps s s′ n → Sound apply F body s′
+  pub steps-sound : (s s′ : View) (n : ℕ) → Sound F body s → Steps s s′ n → Sound F body s′
   steps-sound s s′ n d rest = d
   steps-sound s s′ n d (then {t = t} p st) = step-sound t s′ (steps-sound s t _ d p) st
 
   -- main's root is done: nothing else is under way
-  module _ (s : View) (sound : Sound apply F body s) (r : Fn F body F) (over : s .status (id (body F)) ≡ 3) where
+  module _ (s : View) (sound : Sound F body s) (r : Fn F body F) (over : s .status (id (body F)) ≡ 3) where
     main-done : Done s (body F)
     main-done = finished s (body F) (sound .opened F r (inl refl)) over
 
@@ -54,7 +55,7 @@ module _ (apply : ℕ → List ℕ → ℕ) (F : ℕ) (body : ℕ → Expr) (wel
         go (yes z) ih = z
         go (no z) ih = absurd (up (ℕ-discrete (o .0) F))
           where
-            o : (g : ℕ) × Fn F body g × (f < g) × CallIn (s .occupant f) f (body g) × Busy s (s .occupant f) true
+            o : Holder F body s f (s .occupant f)
             o = sound .held f (s .occupant f) q refl z
 
             up : Dec (o .0 ≡ F) → ⊥
@@ -67,12 +68,12 @@ module _ (apply : ℕ → List ℕ → ℕ) (F : ℕ) (body : ℕ → Expr) (wel
 
   -- a started circuit: main's body new, every other body idle, every resource free
   pub record Started (s : View) (args : List ℕ) : Type 0 where
-    pub main : New apply F body s F
+    pub main : New body s F
     pub others : (f : ℕ) → Fn F body f → (f ≡ F → ⊥) → Every (Still s) (body f)
     pub free : (f : ℕ) → s .occupant f ≡ 0
     pub arguments : (i : ℕ) → s .register F i ≡ getD args i 0
 
-  pub started-sound : (s : View) (args : List ℕ) → Started s args → Sound apply F body s
+  pub started-sound : (s : View) (args : List ℕ) → Started s args → Sound F body s
   started-sound s args st = record {
     opened = λ f q a. opened-f f a;
     rest = λ f q a. st .others f q (λ e. a (inl e));
@@ -80,8 +81,8 @@ module _ (apply : ℕ → List ℕ → ℕ) (F : ℕ) (body : ℕ → Expr) (wel
     top = st .free F;
   }
     where
-      opened-f : (f : ℕ) → Active apply F body s f → Opened s (body f)
-      opened-f f (inl e) = subst (λ x. Opened s (body x)) (sym e) (inl (new-live apply F body s (body F) (st .main .0) (st .main .1)))
+      opened-f : (f : ℕ) → Active F s f → Opened s (body f)
+      opened-f f (inl e) = subst (λ x. Opened s (body x)) (sym e) (inl (new-live s (body F) (st .main .0) (st .main .1)))
       opened-f f (inr z) = absurd (z (st .free f))
 
   sum-main : (k : ℕ) (R : ℕ → ℕ) → ((f : ℕ) → 1 ≤ f → f ≤ k → R f ≡ 0) → total R k ≡ 0
@@ -95,19 +96,19 @@ module _ (apply : ℕ → List ℕ → ℕ) (F : ℕ) (body : ℕ → Expr) (wel
   sum-last (suc k) R a h = omega (arith, sum-main k R (λ f p q. h f p (omega arith)))
 
   module _ (K : Readings) (reads : Closes apply F body K) where
-    pub steps-before : (s s′ : View) (n : ℕ) (W′ R′ : ℕ → ℕ) → Sound apply F body s → Steps s s′ n → Expects apply F body K s′ W′ R′
+    pub steps-before : (s s′ : View) (n : ℕ) (W′ R′ : ℕ → ℕ) → Sound F body s → Steps s s′ n → Expects apply F body K s′ W′ R′
         → (W R : ℕ → ℕ) × Expects apply F body K s W R × (total R F ≡ n + total R′ F) × (W 0 ≡ W′ 0)
     steps-before s s′ n W′ R′ d rest e = (W′, R′, e, omega arith, refl)
     steps-before s s′ n W′ R′ d (then {t = t} {n = k} p st) e =
-        let b = step-before apply F body K well reads t s′ (steps-sound s t k d p) W′ R′ e st in
+        let b = step-before apply K t s′ e reads well (steps-sound s t k d p) st in
         let c = steps-before s t k (b .0) (b .1) d p (b .2) in
         (c .0, c .1, c .2, omega (arith, c .3, b .3), c .4 ∙ b .4)
 
-    end : (s : View) → Sound apply F body s → Fn F body F → s .status (id (body F)) ≡ 3
+    end : (s : View) → Sound F body s → Fn F body F → s .status (id (body F)) ≡ 3
         → Expects apply F body K s (λ m. s .value (id (body F))) (λ f. 0)
     end s d r h = record { active = λ f q a. act f q a (ℕ-discrete f F); rest = λ f q a. refl }
       where
-        main : Rest apply F body K s (λ m. s .value (id (body F))) F (s .value (id (body F))) 0
+        main : Rest apply body K s (λ m. s .value (id (body F))) F (s .value (id (body F))) 0
         main = (
           val (s .value (id (body F))),
           0,
@@ -118,9 +119,9 @@ module _ (apply : ℕ → List ℕ → ℕ) (F : ℕ) (body : ℕ → Expr) (wel
           refl,
         )
 
-        act : (f : ℕ) → Fn F body f → Active apply F body s f → Dec (f ≡ F)
-            → Rest apply F body K s (λ m. s .value (id (body F))) f (s .value (id (body F))) 0
-        act f q a (yes e) = subst (λ y. Rest apply F body K s (λ m. s .value (id (body F))) y (s .value (id (body F))) 0) (sym e) main
+        act : (f : ℕ) → Fn F body f → Active F s f → Dec (f ≡ F)
+            → Rest apply body K s (λ m. s .value (id (body F))) f (s .value (id (body F))) 0
+        act f q a (yes e) = subst (λ y. Rest apply body K s (λ m. s .value (id (body F))) y (s .value (id (body F))) 0) (sym e) main
         act f q (inl a) (no e) = absurd (e a)
         act f q (inr a) (no e) = absurd (a (asleep s d r h (suc F) f (omega arith) q e))
 

@@ -94,14 +94,14 @@ module _ (s : View) where
     live-small* (some e es) o = (opened-small e (λ z. live-small e z) (o .0), live-small* es (o .1))
 
 module _ (apply : ℕ → List ℕ → ℕ) {F N : ℕ} {body at : ℕ → Expr} {home : ℕ → ℕ} (laid : Laid F N body at home) (s : View)
-    (sound : Sound apply F body s) where
+    (sound : Sound F body s) where
   pub status-bound : (m : ℕ) → 1 ≤ m → m ≤ N → s .status m ≤ 3
-  status-bound m p q = every-node (Small s) m (body (home m)) (go (active? apply F body s (home m))) (own-node laid (home m) m p q refl)
+  status-bound m p q = every-node (Small s) m (body (home m)) (go (active? F s (home m))) (own-node laid (home m) m p q refl)
     where
       fn : Fn F body (home m)
       fn = laid .home-there m (p, q)
 
-      go : Active apply F body s (home m) ⊎ (Active apply F body s (home m) → ⊥) → Every (Small s) (body (home m))
+      go : Active F s (home m) ⊎ (Active F s (home m) → ⊥) → Every (Small s) (body (home m))
       go (inl a) = opened-small s (body (home m)) (live-small s (body (home m))) (sound .opened (home m) fn a)
       go (inr a) = still-small s (body (home m)) (sound .rest (home m) fn a)
 

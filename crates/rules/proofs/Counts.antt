@@ -50,10 +50,10 @@ module _ (apply : ℕ → List ℕ → ℕ) (K : Readings) (s s′ : View) (W : 
   abbrev Now : Expr → (ℕ → ℕ) → Outcome → ℕ → Type 0
   Now = Left apply K s′ W args
 
-  opened-reads : (e : Expr) (ρ : ℕ → ℕ) (o : Outcome) (k : ℕ) → Opens apply args s s′ e → Now e ρ o k → Reads apply K args e ρ o k
+  opened-reads : (e : Expr) (ρ : ℕ → ℕ) (o : Outcome) (k : ℕ) → Opens s s′ e → Now e ρ o k → Reads apply K args e ρ o k
   opened-reads e ρ o k p h = left-reads apply K s′ W args e (inr (p .0 .0)) ρ o k h
 
-  opened-reads* : (es : Exprs) (ρ : ℕ → ℕ) (vs : List ℕ) (j : ℕ) → Opens* apply args s s′ es → Left* apply K s′ W args es ρ vs j
+  opened-reads* : (es : Exprs) (ρ : ℕ → ℕ) (vs : List ℕ) (j : ℕ) → Opens* s s′ es → Left* apply K s′ W args es ρ vs j
       → Reads* apply K args es ρ vs j
   opened-reads* none ρ vs j p h = h
   opened-reads* (some e es) ρ vs j p h = (
@@ -72,7 +72,7 @@ module _ (apply : ℕ → List ℕ → ℕ) (K : Readings) (s s′ : View) (W : 
   values-kept (some e es) k = λ i. every-id s s′ (Same s s′) e (k .0) .2 i ∷ values-kept es (k .1) i
 
   -- what became done has its value, and nothing left
-  became : (e : Expr) (v : ℕ) (ρ : ℕ → ℕ) (o : Outcome) (k : ℕ) → Becomes apply args s s′ (id e) v → Now e ρ o k → (o ≡ val v) × (k ≡ 0)
+  became : (e : Expr) (v : ℕ) (ρ : ℕ → ℕ) (o : Outcome) (k : ℕ) → Becomes s s′ (id e) v → Now e ρ o k → (o ≡ val v) × (k ≡ 0)
   became e v ρ o k r h = let x = left-done apply K s′ W args e (r .0) ρ o k h in (x .1 ∙ ap val (r .2), x .2)
 
   -- what became busy
@@ -145,8 +145,8 @@ module _ (apply : ℕ → List ℕ → ℕ) (K : Readings) (s s′ : View) (W : 
       ends : (v : ℕ) → (o ≡ val v) × (k ≡ 0) → 1 + k ≡ last o + 0
       ends v e = omega (arith, ap last (e .0), e .1)
 
-      at : (v : ℕ) → Chosen ((s .status (id b) ≡ 3) × Becomes apply args s s′ n (s .value (id b))) ((s .status (id c) ≡ 3)
-          × Becomes apply args s s′ n (s .value (id c))) v
+      at : (v : ℕ) → Chosen ((s .status (id b) ≡ 3) × Becomes s s′ n (s .value (id b))) ((s .status (id c) ≡ 3)
+          × Becomes s s′ n (s .value (id c))) v
           → Chosen (Left apply K s W args b ρ o 0) (Left apply K s W args c ρ o 0) v × (1 + k ≡ last o + 0)
       at zero t =
           let e = became (cond n a b c) (s .value (id c)) ρ o k (t .1) h in (inl (t .0, e .0, refl), ends (s .value (id c)) e)

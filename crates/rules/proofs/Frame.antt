@@ -9,8 +9,13 @@ use Rattle.rules.proofs.Shape.{Still, Idle, Open, Busy, Done, Done*, Li
 use Rattle.rules.proofs.Branches.{chosen-map}
 use Rattle.table.proofs.SyntaxLaws.{node-id}
 
+-- a node's entries
 abbrev pub Same : View → View → ℕ → Type 0
 Same s s′ m = (s′ .status m ≡ s .status m) × (s′ .second m ≡ s .second m) × (s′ .value m ≡ s .value m)
+
+-- a function's registers and occupant
+abbrev pub SameFunction : View → View → ℕ → Type 0
+SameFunction s s′ f = (s′ .occupant f ≡ s .occupant f) × ((i : ℕ) → s′ .register f i ≡ s .register f i)
 
 -- what holds of a node by its status and phase alone goes over
 module _ (s s′ : View) (X : ℕ → Type 0) (keeps : (m : ℕ) → (X m → ⊥) → Same s s′ m) (holds : (g m : ℕ) → (X m → ⊥) → (m ≡ 0 → ⊥)

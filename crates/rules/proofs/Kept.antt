@@ -201,7 +201,7 @@ module _ (apply : ℕ → List ℕ → ℕ) {F N : ℕ} {body at : ℕ → Expr}
         (call-phase apply laid (view (l .state)) c f p q e (l .nodes) (k .phased))
 
   -- a call that waits at an occupied resource is listed
-  waits-listed : (s : View) → Sound apply F body s → (n : ℕ) → Range N n → Waits s (at n) → Listed body at F n
+  waits-listed : (s : View) → Sound F body s → (n : ℕ) → Range N n → Waits s (at n) → Listed body at F n
   waits-listed s sound n r w =
       let e : w .0 ≡ n = sym (ap id (w .3)) ∙ laid .number n r in
       let x = waiting-listed apply F body s (callee-at at) (sets body at F) (laid .well) sound callees bodies

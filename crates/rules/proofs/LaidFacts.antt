@@ -70,11 +70,11 @@ root-node m (some e es) (inr i) = inr (root-node m es i)
 -- a chain whose roots are opened, and nothing else of it changed
 module _ (apply : ℕ → List ℕ → ℕ) (args : ℕ → ℕ) (s s′ : View) where
   pub opens-all : (e : Expr) → Apart e → (s′ .status (id e) ≡ 1) × (s′ .second (id e) ≡ s .second (id e))
-      → ((m : ℕ) → Node m e → (m ≡ id e → ⊥) → Same s s′ m) → Opens apply args s s′ e
+      → ((m : ℕ) → Node m e → (m ≡ id e → ⊥) → Same s s′ m) → Opens s s′ e
   opens-all e a o f = (o, under-all (Same s s′) e a f)
 
   pub opens-all* : (es : Exprs) → Apart* es → ((m : ℕ) → In m (roots es) → (s′ .status m ≡ 1) × (s′ .second m ≡ s .second m))
-      → ((m : ℕ) → Node* m es → (In m (roots es) → ⊥) → Same s s′ m) → Opens* apply args s s′ es
+      → ((m : ℕ) → Node* m es → (In m (roots es) → ⊥) → Same s s′ m) → Opens* s s′ es
   opens-all* none a o f = tt
   opens-all* (some e es) a o f = (
     opens-all e (a .0) (o (id e) (inl refl)) (λ m k d. f m (inl k) (⊎-elim d (λ i. a .2 m k (root-node m es i)))),

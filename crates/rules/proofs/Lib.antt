@@ -50,6 +50,8 @@ pub mod SelfCalls
 pub mod Mix
 -- its invariant, and the four kinds of step that keep it
 pub mod Invariant
+pub mod Acting
+pub mod Inner
 pub mod Enter
 pub mod Leave
 pub mod Again
@@ -60,7 +62,6 @@ pub mod Collide
 -- the whole rest falls by one with each step, and the answer is the reading's, which is unique
 pub mod SumLaws
 pub mod Remaining
-pub mod TotalEnter
 pub mod Total
 pub mod Answers
 pub mod Levels

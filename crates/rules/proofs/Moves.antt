@@ -29,7 +29,7 @@ abbrev pub Finished* : View → Exprs → Type 0
 Finished* s none = Unit {0}
 Finished* s (some e es) = (s .status (id e) ≡ 3) × Finished* s es
 
-module _ (apply : ℕ → List ℕ → ℕ) (args : ℕ → ℕ) (s s′ : View) where
+module _ (s s′ : View) where
   abbrev pub Becomes : ℕ → ℕ → Type 0
   Becomes n v = (s′ .status n ≡ 3) × (s′ .second n ≡ false) × (s′ .value n ≡ v)
 
@@ -46,25 +46,26 @@ module _ (apply : ℕ → List ℕ → ℕ) (args : ℕ → ℕ) (s s′ : View)
   abbrev pub Keeps* : Exprs → Type 0
   Keeps* es = Every* (Same s s′) es
 
+module _ (apply : ℕ → List ℕ → ℕ) (args : ℕ → ℕ) (s s′ : View) where
   abbrev pub Inner : Expr → Type 0
-  Inner (const n v) = Open s n × Becomes n v
-  Inner (param n i) = Open s n × Becomes n (args i)
+  Inner (const n v) = Open s n × Becomes s s′ n v
+  Inner (param n i) = Open s n × Becomes s s′ n (args i)
   Inner (prim n op es) =
-      (Open s n × Busy s′ n false × Opens* es)
-      ⊎ ((s .status n ≡ 2) × Finished* s es × Becomes n (apply op (values (s .value) es)) × Keeps* es)
-  Inner (call n g es) = Open s n × Busy s′ n false × Opens* es
-  Inner (self n es) = Open s n × Busy s′ n false × Opens* es
+      (Open s n × Busy s′ n false × Opens* s s′ es)
+      ⊎ ((s .status n ≡ 2) × Finished* s es × Becomes s s′ n (apply op (values (s .value) es)) × Keeps* s s′ es)
+  Inner (call n g es) = Open s n × Busy s′ n false × Opens* s s′ es
+  Inner (self n es) = Open s n × Busy s′ n false × Opens* s s′ es
   Inner (cond n a b c) =
-      (Open s n × Busy s′ n false × Opens a × Keeps b × Keeps c)
-      ⊎ (Busy s n false × (s .status (id a) ≡ 3) × Busy s′ n true × Keeps a × Chosen (Opens b × Keeps c) (Opens c × Keeps b)
+      (Open s n × Busy s′ n false × Opens s s′ a × Keeps s s′ b × Keeps s s′ c)
+      ⊎ (Busy s n false × (s .status (id a) ≡ 3) × Busy s′ n true × Keeps s s′ a × Chosen (Opens s s′ b × Keeps s s′ c) (Opens s s′ c × Keeps s s′ b)
       (s .value (id a)))
-      ⊎ (Busy s n true × Chosen ((s .status (id b) ≡ 3) × Becomes n (s .value (id b))) ((s .status (id c) ≡ 3)
-      × Becomes n (s .value (id c))) (s .value (id a)) × Keeps a × Keeps b × Keeps c)
+      ⊎ (Busy s n true × Chosen ((s .status (id b) ≡ 3) × Becomes s s′ n (s .value (id b))) ((s .status (id c) ≡ 3)
+      × Becomes s s′ n (s .value (id c))) (s .value (id a)) × Keeps s s′ a × Keeps s s′ b × Keeps s s′ c)
   Inner (bind n ds b) =
-      (Open s n × Busy s′ n false × Opens* ds × Keeps b)
-      ⊎ (Busy s n false × Finished* s ds × Busy s′ n true × Keeps* ds × Opens b)
-      ⊎ (Busy s n true × (s .status (id b) ≡ 3) × Becomes n (s .value (id b)) × Keeps* ds × Keeps b)
-  Inner (bound n d) = Open s n × Becomes n (s .value d)
+      (Open s n × Busy s′ n false × Opens* s s′ ds × Keeps s s′ b)
+      ⊎ (Busy s n false × Finished* s ds × Busy s′ n true × Keeps* s s′ ds × Opens s s′ b)
+      ⊎ (Busy s n true × (s .status (id b) ≡ 3) × Becomes s s′ n (s .value (id b)) × Keeps* s s′ ds × Keeps s s′ b)
+  Inner (bound n d) = Open s n × Becomes s s′ n (s .value d)
 
 -- carrying over a whole expression, node by node
 module _ (P Q R : ℕ → Type 0) (f : (n : ℕ) → P n → Q n → R n) where
@@ -156,7 +157,7 @@ module _ (s : View) where
 
 -- the shape after a step inside a body
 module _ (apply : ℕ → List ℕ → ℕ) (args : ℕ → ℕ) (s s′ : View) where
-  pub opens-live : (e : Expr) → Every (Idle s) e → Opens apply args s s′ e → Live s′ e
+  pub opens-live : (e : Expr) → Every (Idle s) e → Opens s s′ e → Live s′ e
   opens-live (const n v) i o = (o .0 .0, o .0 .1 ∙ i .1)
   opens-live (param n j) i o = (o .0 .0, o .0 .1 ∙ i .1)
   opens-live (prim n op es) i o = inl ((o .0 .0, o .0 .1 ∙ i .0 .1), idle-kept* s s′ es (o .1) (i .1))
@@ -172,11 +173,11 @@ module _ (apply : ℕ → List ℕ → ℕ) (args : ℕ → ℕ) (s s′ : View)
   opens-live (bind n ds b) i o = inl ((o .0 .0, o .0 .1 ∙ i .0 .1), idle-kept* s s′ ds (o .1 .0) (i .1), idle-kept s s′ b (o .1 .1) (i .2))
   opens-live (bound n d) i o = (o .0 .0, o .0 .1 ∙ i .1)
 
-  pub opens-live* : (es : Exprs) → Every* (Idle s) es → Opens* apply args s s′ es → Opened* s′ es
+  pub opens-live* : (es : Exprs) → Every* (Idle s) es → Opens* s s′ es → Opened* s′ es
   opens-live* none i o = tt
   opens-live* (some e es) i o = (inl (opens-live e (i .0) (o .0)), opens-live* es (i .1) (o .1))
 
-  becomes-still : (n v : ℕ) → Becomes apply args s s′ n v → Still s′ n
+  becomes-still : (n v : ℕ) → Becomes s s′ n v → Still s′ n
   becomes-still n v h = (inr (h .0), h .1)
 
   pub inner-live : (u : Expr) → Inner apply args s s′ u → Live s u → Opened s′ u
@@ -214,7 +215,7 @@ module _ (apply : ℕ → List ℕ → ℕ) (args : ℕ → ℕ) (s s′ : View)
       (λ t o. kept _ (t .1) (idle-still s b (o .1)) (finished s c (o .0) (t .0) .1))
       (s .value (id a)) (s .value (id a)) refl (r .1) (l .2)))
     where
-      kept : (v : ℕ) → Becomes apply args s s′ n v → Every (Still s) b → Every (Still s) c → Done s′ (cond n a b c)
+      kept : (v : ℕ) → Becomes s s′ n v → Every (Still s) b → Every (Still s) c → Done s′ (cond n a b c)
       kept v h p q = (
         h .0,
         (

@@ -1,8 +1,8 @@
 -- over steps from a start, whatever the tags: entries exceed leavings by one where a resource is occupied, and by none elsewhere
-use Prim.Native.Nat.{ℕ, suc, _+_, _/_, _%_, _≤_, _<_}
+use Prim.Native.Nat.{ℕ, suc, _+_, _/_, _%_, _≤_}
 use mathlib.Core.Bool.{Bool, true, false, true≢false}
 use mathlib.Core.Path.{_≡_, refl, subst, sym, ap, _∙_}
-use mathlib.Core.Logic.{_⊎_, inl, inr, ⊎-elim}
+use mathlib.Core.Logic.{_⊎_, inl, inr}
 use mathlib.Core.List.{List, _∷_}
 use native.Mathlib.Omega.{arith}
 use native.Mathlib.Decide.{ℕ-discrete}
@@ -11,15 +11,15 @@ use borrow.Author.Tests.{eqb-true, eq-eqb, ne-eqb}
 use Rattle.table.proofs.LaidOut.{call-here}
 use Rattle.table.specs.Syntax.{Expr, Exprs, const, param, prim, call, self, cond, bind, bound, id, Sub}
 use Rattle.rules.specs.State.{View, State512, view}
-use Rattle.rules.proofs.Shape.{Still, Busy, Live}
+use Rattle.rules.proofs.Shape.{Busy, busy-moves}
 use Rattle.table.specs.Well.{Fn, CallIn, Laid}
 use Rattle.table.proofs.CallPlaces.{call-node, sub-call}
-use Rattle.rules.proofs.Places.{sub-live}
 use Rattle.table.specs.Pick.{pick, Range}
 use Rattle.table.specs.Environment.{put}
 use Rattle.table.specs.Find.{total}
 use Rattle.rules.proofs.SumLaws.{sum-ext, sum-add, sum-put, sum-zero, put-same, put-other}
-use Rattle.rules.proofs.Invariant.{Sound, stepping}
+use Rattle.rules.proofs.Invariant.{Holder, Sound}
+use Rattle.rules.proofs.Acting.{stepping-live, second-phase}
 use Rattle.rules.specs.Step.{does, Move, act, perform}
 use Rattle.rules.proofs.Performed.{Does, Acted}
 use Rattle.rules.proofs.StepFacts.{Good, moved-does, moved-step}
@@ -96,7 +96,7 @@ module _ (apply : ℕ → List ℕ → ℕ) {F N : ℕ} {body at : ℕ → Expr}
       let k = called c f p q e in
       ph (home c) c f (laid .home-there c (p, q)) (sub-call c f (k .0) (body (home c)) (k .1))
 
-  module _ (s : View) (sound : Sound apply F body s) where
+  module _ (s : View) (sound : Sound F body s) where
     third-two : (c : ℕ) → third s c ≡ 2 → Busy s c true
     third-two c e = go (eqb (s .status c) 2) (s .second c) refl refl e
       where
@@ -117,17 +117,9 @@ module _ (apply : ℕ → List ℕ → ℕ) {F N : ℕ} {body at : ℕ → Expr}
     occupies : (c f : ℕ) → 1 ≤ c → c ≤ N → calls (at c) f ≡ true → third s c ≡ 2 → s .occupant f ≡ c
     occupies c f p q e t =
         let k = called c f p q e in
-        let m : Still s c → ⊥ = λ y. ⊎-elim (λ z. omega (arith, b .0, z)) (λ z. omega (arith, b .0, z)) (y .0) in
-        go (k .0) (sub-live s (call c f (k .0)) m (body (home c)) (k .1)
-        (stepping apply F body (laid .well) s s sound (home c) (laid .home-there c (p, q)) (call c f (k .0)) (k .1) m .1))
-      where
-        b : Busy s c true
-        b = third-two c t
-
-        go : (es : Exprs) → Live s (call c f es) → s .occupant f ≡ c
-        go es (inl l) = absurd (omega (arith, b .0, l .0 .0))
-        go es (inr (inl l)) = absurd (true≢false (sym (b .1) ∙ l .0 .1))
-        go es (inr (inr l)) = l .2
+        let b = third-two c t in
+        second-phase s c f (k .0) b
+        (stepping-live sound (home c) (laid .home-there c (p, q)) (call c f (k .0)) (k .1) (busy-moves s c (b .0))) .1
 
     module _ (f : ℕ) (r : Fn F body f) where
       -- 1 for a call of f in its second phase
@@ -152,7 +144,7 @@ module _ (apply : ℕ → List ℕ → ℕ) {F N : ℕ} {body at : ℕ → Expr}
           o : ℕ
           o = s .occupant f
 
-          held : (g : ℕ) × Fn F body g × (f < g) × CallIn o f (body g) × Busy s o true
+          held : Holder F body s f o
           held = sound .held f o r refl z
 
           i : (home o ≡ held .0) × (1 ≤ o) × (o ≤ N)

@@ -8,7 +8,8 @@ use Rattle.table.specs.Syntax.{Expr}
 use Rattle.rules.specs.State.{View, State512, Sized, view}
 use Rattle.rules.proofs.Frame.{Same}
 use Rattle.rules.specs.Step.{Move, begins, turns, finishes, enters, leaves, restarts, perform, circuitStep}
-use Rattle.rules.proofs.Performed.{SameFunction, Does, Fair}
+use Rattle.rules.proofs.Frame.{SameFunction}
+use Rattle.rules.proofs.Performed.{Does, Fair}
 use Rattle.table.specs.Pick.{Range}
 use Rattle.table.specs.Well.{Laid}
 use Rattle.rules.proofs.StepTaken.{step-cases}

@@ -8,7 +8,7 @@ use native.Mathlib.Omega.{arith}
 use Rattle.table.specs.Syntax.{Expr, Exprs, const, param, prim, call, self, cond, bind, bound, none, some, id, Every, Every*, Node, Node*}
 use Rattle.table.specs.Syntax.{Sub, Sub*}
 use Rattle.rules.specs.State.{View}
-use Rattle.rules.proofs.Shape.{Still, Idle, Done*, Live, Opened*, Opened}
+use Rattle.rules.proofs.Shape.{Still, Idle, Done*, Live, Opened*, Opened, busy-moves}
 use Rattle.rules.proofs.Branches.{chosen-case, chosen-both}
 use Rattle.table.proofs.SyntaxLaws.{every-node, every-node*}
 use Rattle.rules.proofs.Within.{idle-not, idle-not*, done-not, done-not*}
@@ -63,10 +63,10 @@ module _ (s : View) (u : Expr) (moving : Still s (id u) → ⊥) where
 -- nothing is busy in what is still or idle
 module _ (s : View) (c : ℕ) (busy : s .status c ≡ 2) where
   pub still-busy : (e : Expr) → Every (Still s) e → Node c e → ⊥
-  still-busy e h k = ⊎-elim (λ z. omega arith) (λ z. omega arith) (every-node (Still s) c e h k .0)
+  still-busy e h k = busy-moves s c busy (every-node (Still s) c e h k)
 
   pub still-busy* : (es : Exprs) → Every* (Still s) es → Node* c es → ⊥
-  still-busy* es h k = ⊎-elim (λ z. omega arith) (λ z. omega arith) (every-node* (Still s) c es h k .0)
+  still-busy* es h k = busy-moves s c busy (every-node* (Still s) c es h k)
 
   pub idle-busy : (e : Expr) → Every (Idle s) e → Node c e → ⊥
   idle-busy e h k = omega (arith, every-node (Idle s) c e h k .0)

@@ -127,12 +127,12 @@ module _ (apply : ℕ → List ℕ → ℕ) (F : ℕ) (body : ℕ → Expr) (s :
     seek* none o = inl tt
     seek* (some e es) o = pair e es (opened-seen e (λ z. seek e z) (o .0)) (seek* es (o .1))
 
-  module _ (well : Well F body) (sound : Sound apply F body s) where
+  module _ (well : Well F body) (sound : Sound F body s) where
     abbrev pub Goes : Type 0
     Goes = (h : ℕ) × Fn F body h × Hit (λ u. Sub u (body h))
 
-    run : (k : ℕ) → ((g : ℕ) → g < k → Fn F body g → Active apply F body s g → (s .status (id (body g)) ≡ 3 → ⊥) → Goes)
-        → Fn F body k → Active apply F body s k → (s .status (id (body k)) ≡ 3 → ⊥) → Goes
+    run : (k : ℕ) → ((g : ℕ) → g < k → Fn F body g → Active F s g → (s .status (id (body g)) ≡ 3 → ⊥) → Goes)
+        → Fn F body k → Active F s k → (s .status (id (body k)) ≡ 3 → ⊥) → Goes
     run k ih r a n = go (sound .opened k r a)
       where
         wait : (c g : ℕ) → CallIn c g (body k) → (s .occupant g ≡ 0 → ⊥) → Goes
@@ -149,7 +149,7 @@ module _ (apply : ℕ → List ℕ → ℕ) (F : ℕ) (body : ℕ → Expr) (s :
         go (inr d) = absurd (n (d .0))
         go (inl l) = ⊎-elim (λ x. (k, r, x)) (λ x. wait (x .0) (x .1) (x .2) (x .3)) (seek (body k) l)
 
-    below : (k : ℕ) (g : ℕ) → g < k → Fn F body g → Active apply F body s g → (s .status (id (body g)) ≡ 3 → ⊥) → Goes
+    below : (k : ℕ) (g : ℕ) → g < k → Fn F body g → Active F s g → (s .status (id (body g)) ≡ 3 → ⊥) → Goes
     below zero g h = absurd (not-suc-le-zero h)
     below (suc k) g h = run g (λ f q. below k f (omega (arith, h, q)))
 

@@ -6,7 +6,7 @@ use mathlib.Core.List.{List}
 use native.Mathlib.Omega.{arith}
 use Rattle.table.specs.Syntax.{Expr, Exprs, const, param, prim, call, self, cond, bind, bound, none, some, id, Sub, Sub*}
 use Rattle.rules.specs.State.{View}
-use Rattle.rules.proofs.Shape.{Still, Live, Opened}
+use Rattle.rules.proofs.Shape.{Still, Live, Opened, busy-moves}
 use Rattle.rules.specs.Reading.{again, Readings}
 use Rattle.rules.proofs.Branches.{chosen-case, chosen-map}
 use Rattle.rules.proofs.Within.{idle-not, done-not}
@@ -44,7 +44,7 @@ module _ (n : ℕ) (es : Exprs) where
 
 module _ (s : View) (n : ℕ) (es : Exprs) (at : s .status n ≡ 2) (ready : Finished* s es) where
   moves : Still s n → ⊥
-  moves h = ⊎-elim (λ z. omega arith) (λ z. omega arith) (h .0)
+  moves = busy-moves s n at
 
   abbrev U : Expr
   U = self n es

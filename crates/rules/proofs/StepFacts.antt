@@ -29,7 +29,7 @@ told-accepted false v = tt
 module _ (apply : ℕ → List ℕ → ℕ) {F N : ℕ} {body at : ℕ → Expr} {home : ℕ → ℕ} (laid : Laid F N body at home) where
   pub record Good (s : State512) : Type 0 where
     pub sized : Sized s
-    pub sound : Sound apply F body (view s)
+    pub sound : Sound F body (view s)
 
   abbrev pub step : (ℕ → Bool) → State512 → ℕ → Stepped
   step = circuitStep apply F N body at home
