@@ -37,7 +37,7 @@ module _ {F : ℕ} {body : ℕ → Expr} {s s′ : View} {h n : ℕ} {es : Exprs
 
       rest-f : (f : ℕ) → Fn F body f → (Active F s′ f → ⊥) → Dec (f ≡ h) → Every (Still s′) (body f)
       rest-f f q a (yes e) = absurd (a (active-over (st .occupants f) (subst (Active F s) (sym e) (active x))))
-      rest-f f q a (no e) = still-over s s′ X (st .keeps) holds (body f) (elsewhere x f q e)
+      rest-f f q a (no e) = still-over s s′ X (st .keeps) (body f) (elsewhere x f q e)
           (x .sound .rest f q (λ b. a (active-over (st .occupants f) b)))
 
       not-h : (f c k : ℕ) → Fn F body k → CallIn c f (body k) → Busy s c true → X c → ⊥

@@ -93,7 +93,7 @@ module _ (s : View) where
     live-small* none o = tt
     live-small* (some e es) o = (opened-small e (λ z. live-small e z) (o .0), live-small* es (o .1))
 
-module _ (apply : ℕ → List ℕ → ℕ) {F N : ℕ} {body at : ℕ → Expr} {home : ℕ → ℕ} (laid : Laid F N body at home) (s : View)
+module _ {F N : ℕ} {body at : ℕ → Expr} {home : ℕ → ℕ} (laid : Laid F N body at home) (s : View)
     (sound : Sound F body s) where
   pub status-bound : (m : ℕ) → 1 ≤ m → m ≤ N → s .status m ≤ 3
   status-bound m p q = every-node (Small s) m (body (home m)) (go (active? F s (home m))) (own-node laid (home m) m p q refl)

@@ -3,7 +3,6 @@ use Prim.Native.Nat.{ℕ, zero, suc, _+_, _<_}
 use mathlib.Core.Bool.{true, false, true≢false}
 use mathlib.Core.Path.{_≡_, refl, subst, sym, ap, _∙_}
 use mathlib.Core.Logic.{_⊎_, inl, inr}
-use mathlib.Core.List.{List}
 use native.Mathlib.Omega.{arith}
 use native.Mathlib.Decide.{ℕ-discrete, decLt}
 use Rattle.table.specs.Syntax.{Expr, Exprs, const, param, prim, call, self, cond, bind, bound, none, some, Sub, Sub*}
@@ -18,7 +17,7 @@ use Rattle.list.specs.Sets.{Calls}
 use Rattle.list.specs.Conflict.{C, A}
 use Rattle.rules.proofs.Exclusive.{Way, Way*, way-C, meet}
 
-module _ (apply : ℕ → List ℕ → ℕ) (F : ℕ) (body : ℕ → Expr) (s : View) (callee : ℕ → ℕ) (B : ℕ → Calls) where
+module _ (F : ℕ) (body : ℕ → Expr) (s : View) (callee : ℕ → ℕ) (B : ℕ → Calls) where
   -- a busy call whose arguments are done is a way to itself and to each call of the body that it calls
   module _ (n g α : ℕ) (es : Exprs) (busy : s .status n ≡ 2) (done : Done* s es) (goes : (n ≡ α) ⊎ B g α) where
     own : (e : Expr) → call n g es ≡ e → Way s callee B n α e

@@ -100,9 +100,9 @@ module _ (t : List ℕ) (F N : ℕ) (check : checkOf t ≡ accepted F N) where
   stands-well tags F N e s g =
       ap (λ c. after c rest) e
       ∙ goes-on 24 (not (over 3 (nodes t) (s .status))) 0 _ (not-over (over 3 (nodes t) (s .status))
-      (over-none 3 (nodes t) (s .status) (status-bound operate lay (view s) (g .sound)))) refl
+      (over-none 3 (nodes t) (s .status) (status-bound lay (view s) (g .sound)))) refl
       ∙ goes-on 24 (not (over (nodes t) (functions t) (s .occupant))) 0 _ (not-over (over (nodes t) (functions t) (s .occupant))
-      (over-none (nodes t) (functions t) (s .occupant) (occupant-bound operate lay (view s) (g .sound)))) refl
+      (over-none (nodes t) (functions t) (s .occupant) (occupant-bound lay (view s) (g .sound)))) refl
     where
       rest : Unit {0} → Verdict
       rest _ =

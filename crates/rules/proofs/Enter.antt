@@ -62,7 +62,7 @@ module _ {F : ℕ} {body : ℕ → Expr} {s s′ : View} {h n g : ℕ} {es : Exp
       let b = mix-out (body g) s s′ n (apart-callee x n (node-h x)) in
       inl (inr (inr (
         (sym (b .0) ∙ st .enters .0, sym (b .1) ∙ st .enters .1),
-        done-over* s t (λ m. m ≡ n) keeps-t (λ f m k z e. occupants f m z e) es
+        done-over* s t (λ m. m ≡ n) keeps-t es
             (λ m k e. apart-arguments x (subst (λ y. Node* y es) e k)) (finished* s es (first-phase s n g es (st .waits) l) (st .ready)),
         st .occupies,
         n≢0 x,
@@ -90,7 +90,7 @@ module _ {F : ℕ} {body : ℕ → Expr} {s s′ : View} {h n g : ℕ} {es : Exp
       rest-f : (f : ℕ) → Fn F body f → (Active F s′ f → ⊥) → Dec (f ≡ h) → Dec (f ≡ g) → Every (Still s′) (body f)
       rest-f f q a (yes e) d = absurd (a (active-over (st .keepsFn f (λ y. h≢g x (sym e ∙ y)) .0) (subst (Active F s) (sym e) (active x))))
       rest-f f q a (no e) (yes d) = absurd (a (inr (λ z. n≢0 x (sym (st .occupies) ∙ subst (λ y. s′ .occupant y ≡ 0) d z))))
-      rest-f f q a (no e) (no d) = still-over s s′ X keeps-x (λ f m k z e. occupants f m z e) (body f) (clear f q e d)
+      rest-f f q a (no e) (no d) = still-over s s′ X keeps-x (body f) (clear f q e d)
           (x .sound .rest f q (λ b. a (active-over (st .keepsFn f d .0) b)))
 
       not-x : (f c k : ℕ) → Fn F body k → CallIn c f (body k) → Busy s c true → X c → ⊥

@@ -18,8 +18,7 @@ abbrev pub SameFunction : View → View → ℕ → Type 0
 SameFunction s s′ f = (s′ .occupant f ≡ s .occupant f) × ((i : ℕ) → s′ .register f i ≡ s .register f i)
 
 -- what holds of a node by its status and phase alone goes over
-module _ (s s′ : View) (X : ℕ → Type 0) (keeps : (m : ℕ) → (X m → ⊥) → Same s s′ m) (holds : (g m : ℕ) → (X m → ⊥) → (m ≡ 0 → ⊥)
-    → s .occupant g ≡ m → s′ .occupant g ≡ m) where
+module _ (s s′ : View) (X : ℕ → Type 0) (keeps : (m : ℕ) → (X m → ⊥) → Same s s′ m) where
   abbrev Clear : Expr → Type 0
   Clear e = (m : ℕ) → Node m e → X m → ⊥
 
@@ -76,83 +75,85 @@ module _ (s s′ : View) (X : ℕ → Type 0) (keeps : (m : ℕ) → (X m → �
   done-over* none c d = tt
   done-over* (some e es) c d = (done-over e (λ m k. c m (inl k)) (d .0), done-over* es (λ m k. c m (inr k)) (d .1))
 
-  mutual
-    pub live-over : (e : Expr) → Clear e → Live s e → Live s′ e
-    live-over (const n v) c l = open-frame n (c n refl) l
-    live-over (param n i) c l = open-frame n (c n refl) l
-    live-over (prim n op es) c (inl l) = inl (open-frame n (c n (inl refl)) (l .0), idle-over* es (λ m k. c m (inr k)) (l .1))
-    live-over (prim n op es) c (inr l) = inr (busy-frame n false (c n (inl refl)) (l .0), opened-over* es (λ m k. c m (inr k)) (l .1))
-    live-over (call n g es) c (inl l) = inl (open-frame n (c n (inl refl)) (l .0), idle-over* es (λ m k. c m (inr k)) (l .1))
-    live-over (call n g es) c (inr (inl l)) =
-        inr (inl (busy-frame n false (c n (inl refl)) (l .0), opened-over* es (λ m k. c m (inr k)) (l .1)))
-    live-over (call n g es) c (inr (inr l)) =
-        inr (inr (
-          busy-frame n true (c n (inl refl)) (l .0),
-          done-over* es (λ m k. c m (inr k)) (l .1),
-          holds g n (c n (inl refl)) (l .3) (l .2),
-          l .3,
-        ))
-    live-over (self n es) c (inl l) = inl (open-frame n (c n (inl refl)) (l .0), idle-over* es (λ m k. c m (inr k)) (l .1))
-    live-over (self n es) c (inr l) = inr (busy-frame n false (c n (inl refl)) (l .0), opened-over* es (λ m k. c m (inr k)) (l .1))
-    live-over (cond n a b d) c (inl l) =
-        inl (
-          open-frame n (c n (inl refl)) (l .0),
-          idle-over a (λ m k. c m (inr (inl k))) (l .1),
-          idle-over b (λ m k. c m (inr (inr (inl k)))) (l .2),
-          idle-over d (λ m k. c m (inr (inr (inr k)))) (l .3),
-        )
-    live-over (cond n a b d) c (inr (inl l)) =
-        inr (inl (
-          busy-frame n false (c n (inl refl)) (l .0),
-          ⊎-elim (λ x. inl (live-over a (λ m k. c m (inr (inl k))) x)) (λ x. inr (done-over a (λ m k. c m (inr (inl k))) x))
-              (l .1),
-          idle-over b (λ m k. c m (inr (inr (inl k)))) (l .2),
-          idle-over d (λ m k. c m (inr (inr (inr k)))) (l .3),
-        ))
-    live-over (cond n a b d) c (inr (inr l)) =
-        inr (inr (
-          busy-frame n true (c n (inl refl)) (l .0),
-          done-over a (λ m k. c m (inr (inl k))) (l .1),
-          chosen-map
-              (λ t. (
-                ⊎-elim (λ x. inl (live-over b (λ m k. c m (inr (inr (inl k)))) x))
-                    (λ x. inr (done-over b (λ m k. c m (inr (inr (inl k)))) x)) (t .0),
-                idle-over d (λ m k. c m (inr (inr (inr k)))) (t .1),
-              ))
-              (λ t. (
-                ⊎-elim (λ x. inl (live-over d (λ m k. c m (inr (inr (inr k)))) x))
-                    (λ x. inr (done-over d (λ m k. c m (inr (inr (inr k)))) x)) (t .0),
-                idle-over b (λ m k. c m (inr (inr (inl k)))) (t .1),
-              ))
-              (s .value (id a)) (s′ .value (id a)) (sym (keeps (id a) (c (id a) (inr (inl (node-id a)))) .2)) (l .2),
-        ))
-    live-over (bind n ds b) c (inl l) =
-        inl (
-          open-frame n (c n (inl refl)) (l .0),
-          idle-over* ds (λ m k. c m (inr (inl k))) (l .1),
-          idle-over b (λ m k. c m (inr (inr k))) (l .2),
-        )
-    live-over (bind n ds b) c (inr (inl l)) =
-        inr (inl (
-          busy-frame n false (c n (inl refl)) (l .0),
-          opened-over* ds (λ m k. c m (inr (inl k))) (l .1),
-          idle-over b (λ m k. c m (inr (inr k))) (l .2),
-        ))
-    live-over (bind n ds b) c (inr (inr l)) =
-        inr (inr (
-          busy-frame n true (c n (inl refl)) (l .0),
-          done-over* ds (λ m k. c m (inr (inl k))) (l .1),
-          ⊎-elim (λ x. inl (live-over b (λ m k. c m (inr (inr k))) x)) (λ x. inr (done-over b (λ m k. c m (inr (inr k))) x)) (l .2),
-        ))
-    live-over (bound n d) c l = open-frame n (c n refl) l
+  -- a call in its second phase also wants its callee's occupant
+  module _ (holds : (g m : ℕ) → (X m → ⊥) → (m ≡ 0 → ⊥) → s .occupant g ≡ m → s′ .occupant g ≡ m) where
+    mutual
+      pub live-over : (e : Expr) → Clear e → Live s e → Live s′ e
+      live-over (const n v) c l = open-frame n (c n refl) l
+      live-over (param n i) c l = open-frame n (c n refl) l
+      live-over (prim n op es) c (inl l) = inl (open-frame n (c n (inl refl)) (l .0), idle-over* es (λ m k. c m (inr k)) (l .1))
+      live-over (prim n op es) c (inr l) = inr (busy-frame n false (c n (inl refl)) (l .0), opened-over* es (λ m k. c m (inr k)) (l .1))
+      live-over (call n g es) c (inl l) = inl (open-frame n (c n (inl refl)) (l .0), idle-over* es (λ m k. c m (inr k)) (l .1))
+      live-over (call n g es) c (inr (inl l)) =
+          inr (inl (busy-frame n false (c n (inl refl)) (l .0), opened-over* es (λ m k. c m (inr k)) (l .1)))
+      live-over (call n g es) c (inr (inr l)) =
+          inr (inr (
+            busy-frame n true (c n (inl refl)) (l .0),
+            done-over* es (λ m k. c m (inr k)) (l .1),
+            holds g n (c n (inl refl)) (l .3) (l .2),
+            l .3,
+          ))
+      live-over (self n es) c (inl l) = inl (open-frame n (c n (inl refl)) (l .0), idle-over* es (λ m k. c m (inr k)) (l .1))
+      live-over (self n es) c (inr l) = inr (busy-frame n false (c n (inl refl)) (l .0), opened-over* es (λ m k. c m (inr k)) (l .1))
+      live-over (cond n a b d) c (inl l) =
+          inl (
+            open-frame n (c n (inl refl)) (l .0),
+            idle-over a (λ m k. c m (inr (inl k))) (l .1),
+            idle-over b (λ m k. c m (inr (inr (inl k)))) (l .2),
+            idle-over d (λ m k. c m (inr (inr (inr k)))) (l .3),
+          )
+      live-over (cond n a b d) c (inr (inl l)) =
+          inr (inl (
+            busy-frame n false (c n (inl refl)) (l .0),
+            ⊎-elim (λ x. inl (live-over a (λ m k. c m (inr (inl k))) x)) (λ x. inr (done-over a (λ m k. c m (inr (inl k))) x))
+                (l .1),
+            idle-over b (λ m k. c m (inr (inr (inl k)))) (l .2),
+            idle-over d (λ m k. c m (inr (inr (inr k)))) (l .3),
+          ))
+      live-over (cond n a b d) c (inr (inr l)) =
+          inr (inr (
+            busy-frame n true (c n (inl refl)) (l .0),
+            done-over a (λ m k. c m (inr (inl k))) (l .1),
+            chosen-map
+                (λ t. (
+                  ⊎-elim (λ x. inl (live-over b (λ m k. c m (inr (inr (inl k)))) x))
+                      (λ x. inr (done-over b (λ m k. c m (inr (inr (inl k)))) x)) (t .0),
+                  idle-over d (λ m k. c m (inr (inr (inr k)))) (t .1),
+                ))
+                (λ t. (
+                  ⊎-elim (λ x. inl (live-over d (λ m k. c m (inr (inr (inr k)))) x))
+                      (λ x. inr (done-over d (λ m k. c m (inr (inr (inr k)))) x)) (t .0),
+                  idle-over b (λ m k. c m (inr (inr (inl k)))) (t .1),
+                ))
+                (s .value (id a)) (s′ .value (id a)) (sym (keeps (id a) (c (id a) (inr (inl (node-id a)))) .2)) (l .2),
+          ))
+      live-over (bind n ds b) c (inl l) =
+          inl (
+            open-frame n (c n (inl refl)) (l .0),
+            idle-over* ds (λ m k. c m (inr (inl k))) (l .1),
+            idle-over b (λ m k. c m (inr (inr k))) (l .2),
+          )
+      live-over (bind n ds b) c (inr (inl l)) =
+          inr (inl (
+            busy-frame n false (c n (inl refl)) (l .0),
+            opened-over* ds (λ m k. c m (inr (inl k))) (l .1),
+            idle-over b (λ m k. c m (inr (inr k))) (l .2),
+          ))
+      live-over (bind n ds b) c (inr (inr l)) =
+          inr (inr (
+            busy-frame n true (c n (inl refl)) (l .0),
+            done-over* ds (λ m k. c m (inr (inl k))) (l .1),
+            ⊎-elim (λ x. inl (live-over b (λ m k. c m (inr (inr k))) x)) (λ x. inr (done-over b (λ m k. c m (inr (inr k))) x)) (l .2),
+          ))
+      live-over (bound n d) c l = open-frame n (c n refl) l
 
-    pub opened-over* : (es : Exprs) → Clear* es → Opened* s es → Opened* s′ es
-    opened-over* none c o = tt
-    opened-over* (some e es) c o = (
-      ⊎-elim (λ x. inl (live-over e (λ m k. c m (inl k)) x)) (λ x. inr (done-over e (λ m k. c m (inl k)) x)) (o .0),
-      opened-over* es (λ m k. c m (inr k)) (o .1),
-    )
+      pub opened-over* : (es : Exprs) → Clear* es → Opened* s es → Opened* s′ es
+      opened-over* none c o = tt
+      opened-over* (some e es) c o = (
+        ⊎-elim (λ x. inl (live-over e (λ m k. c m (inl k)) x)) (λ x. inr (done-over e (λ m k. c m (inl k)) x)) (o .0),
+        opened-over* es (λ m k. c m (inr k)) (o .1),
+      )
 
-  pub opened-over : (e : Expr) → Clear e → Opened s e → Opened s′ e
-  opened-over e c (inl l) = inl (live-over e c l)
-  opened-over e c (inr d) = inr (done-over e c d)
+    pub opened-over : (e : Expr) → Clear e → Opened s e → Opened s′ e
+    opened-over e c (inl l) = inl (live-over e c l)
+    opened-over e c (inr d) = inr (done-over e c d)

@@ -14,6 +14,7 @@ use Rattle.table.proofs.CallPlaces.{sub-call}
 use Rattle.rules.specs.State.{View, State512, Sized, view}
 use Rattle.rules.specs.Step.{Act, stuck, blocked, does, done, act, over, taken, answered, Stepped, outcome, circuitStep}
 use Rattle.rules.specs.Companions.{Agree}
+use Rattle.rules.proofs.LaidFacts.{fn-main}
 use Rattle.rules.proofs.Frame.{Same}
 use Rattle.rules.proofs.ActSame.{Beside, act-same, read-own}
 use Rattle.rules.proofs.ListsAgree.{over-agree}
@@ -27,7 +28,7 @@ module _ (apply : ℕ → List ℕ → ℕ) {F N : ℕ} {body at : ℕ → Expr}
       let i = laid .inside f m q k in
       (agree .status m (i .1, i .2), agree .second m (i .1, i .2), agree .value m (i .1, i .2))
 
-  beside : (u : Expr) → Sub u (body h) → ((n d : ℕ) → u ≡ bound n d → Range N d) → Beside apply body h s′ s u
+  beside : (u : Expr) → Sub u (body h) → ((n d : ℕ) → u ≡ bound n d → Range N d) → Beside body h s′ s u
   beside (const n v) p b = tt
   beside (param n i) p b = agree .register h i r
   beside (bound n d) p b = agree .value d (b n d refl)
@@ -42,7 +43,7 @@ module _ (apply : ℕ → List ℕ → ℕ) {F N : ℕ} {body at : ℕ → Expr}
 
   act-agree : (u : Expr) → Sub u (body h) → ((n d : ℕ) → u ≡ bound n d → Range N d) → act apply body h s u ≡ act apply body h s′ u
   act-agree u p b = act-same apply body h s′ s u
-      (read-own apply body h s′ s u (λ m k. within h m r (sub-node u m (body h) p k)) (beside u p b))
+      (read-own body h s′ s u (λ m k. within h m r (sub-node u m (body h) p k)) (beside u p b))
 
 -- two answers that are one, with states that agree
 abbrev pub Alike : (F N : ℕ) → Stepped → Stepped → Type 0
@@ -52,7 +53,7 @@ module _ (apply : ℕ → List ℕ → ℕ) {F N : ℕ} {body at : ℕ → Expr}
     (s s′ : State512) (z : Sized s) (z′ : Sized s′) (agree : Agree (Range N) (Range F) (view s) (view s′)) (n : ℕ)
     (bounds : (m d : ℕ) → Range N n → at n ≡ bound m d → Range N d) where
   main-in : Range N (id (body F))
-  main-in = let i = laid .inside F (id (body F)) (laid .some-function, omega arith) (node-id (body F)) in (i .1, i .2)
+  main-in = let i = laid .inside F (id (body F)) (fn-main laid) (node-id (body F)) in (i .1, i .2)
 
   both-tests : (b b′ : Bool) (x x′ y y′ : Stepped) → b ≡ b′ → Alike F N x x′ → (b ≡ false → Alike F N y y′) → Alike F N (pick b x y)
       (pick b′ x′ y′)

@@ -15,6 +15,7 @@ use Rattle.table.specs.Syntax.{Expr, id, Sub}
 use Rattle.rules.specs.State.{View, State512, In, view, circuitStart}
 use Rattle.rules.specs.Reading.{Readings, readings}
 use Rattle.table.specs.Pick.{pick, Range}
+use Rattle.rules.proofs.LaidFacts.{fn-main}
 use Rattle.rules.proofs.Levels.{closes}
 use Rattle.table.specs.Well.{Fn, CallIn, Laid}
 use Rattle.list.specs.Conflict.{C}
@@ -38,9 +39,6 @@ module _ (apply : ℕ → List ℕ → ℕ) {F N : ℕ} {body at : ℕ → Expr}
   abbrev K : Readings
   K = readings apply body F
 
-  fn-main : Fn F body F
-  fn-main = (laid .some-function, omega arith)
-
   -- the readings are what the abstract proof asks for
   program-reads : Closes apply F body K
   program-reads = closes apply body F (laid .well)
@@ -51,8 +49,8 @@ module _ (apply : ℕ → List ℕ → ℕ) {F N : ℕ} {body at : ℕ → Expr}
   -- what holds after any list of steps from s₀
   pub record Kept (s₀ : View) (l : Log) : Type 0 where
     pub good : Good apply laid (l .state)
-    pub steps : Steps apply F body (laid .well) s₀ (view (l .state)) (length (l .nodes))
-    pub phased : Phased apply F body (view (l .state)) (l .nodes)
+    pub steps : Steps apply F body s₀ (view (l .state)) (length (l .nodes))
+    pub phased : Phased F body (view (l .state)) (l .nodes)
     pub said : (v : ℕ) → In (answered v) (l .answers) → (view (l .state) .status (id (body F)) ≡ 3) ×
         (view (l .state) .value (id (body F)) ≡ v)
     pub says : view (l .state) .status (id (body F)) ≡ 3 → (v : ℕ) × In (answered v) (l .answers)
@@ -118,8 +116,8 @@ module _ (apply : ℕ → List ℕ → ℕ) {F N : ℕ} {body at : ℕ → Expr}
   pub kept-alike : (s₀ : View) (l p : Log) → Alike l p → Kept s₀ l → Kept s₀ p
   kept-alike s₀ l p j k = record {
     good = subst (Good apply laid) (j .state) (k .good);
-    steps = subst (λ x. Steps apply F body (laid .well) s₀ (view x) (length (p .nodes))) (j .state)
-        (subst (Steps apply F body (laid .well) s₀ (view (l .state))) (j .number) (k .steps));
+    steps = subst (λ x. Steps apply F body s₀ (view x) (length (p .nodes))) (j .state)
+        (subst (Steps apply F body s₀ (view (l .state))) (j .number) (k .steps));
     phased = λ f c g q i. ap (λ x. x % 3) (sym (j .counts c)) ∙ k .phased f c g q i ∙ ap (λ x. third (view x) c) (j .state);
     said = λ v i. subst (λ x. (view x .status (id (body F)) ≡ 3) × (view x .value (id (body F)) ≡ v)) (j .state)
         (k .said v (j .into (answered v) i));
@@ -130,8 +128,8 @@ module _ (apply : ℕ → List ℕ → ℕ) {F N : ℕ} {body at : ℕ → Expr}
     abbrev s₀ : View
     s₀ = view (circuitStart F body args)
 
-    started : Started apply F body (laid .well) s₀ args
-    started = start-started apply laid args few
+    started : Started F body s₀ args
+    started = start-started laid args few
 
     no-steps : (c : ℕ) → count c [] % 3 ≡ 0
     unfolding count
@@ -140,13 +138,13 @@ module _ (apply : ℕ → List ℕ → ℕ) {F N : ℕ} {body at : ℕ → Expr}
     pub start-kept : Kept s₀ (begin (circuitStart F body args))
     start-kept = record {
       good = record {
-        sized = start-sized apply laid args;
-        sound = started-sound apply F body (laid .well) s₀ args started;
+        sized = start-sized F body args;
+        sound = started-sound s₀ args started;
       };
       steps = rest;
-      phased = λ f c g q i. no-steps c ∙ sym (third-rest s₀ c (start-rest apply laid args c));
+      phased = λ f c g q i. no-steps c ∙ sym (third-rest s₀ c (start-rest laid args c));
       said = λ v i. absurd i;
-      says = λ e. absurd (omega (arith, e, open-root apply laid args));
+      says = λ e. absurd (omega (arith, e, open-root laid args));
     }
 
     -- what such a log says
@@ -156,7 +154,7 @@ module _ (apply : ℕ → List ℕ → ℕ) {F N : ℕ} {body at : ℕ → Expr}
       kept-right v i =
           let x = k .said v i in
           subst (λ w. K F args w (length (l .nodes))) (x .1)
-          (answer apply F body (laid .well) K program-reads s₀ (view (l .state)) args (length (l .nodes)) fn-main started
+          (answer (laid .well) program-reads s₀ (view (l .state)) args (length (l .nodes)) (fn-main laid) started
           (k .steps) (x .0))
 
       pub kept-balance : (f : ℕ) → 1 ≤ f → f ≤ F
@@ -180,7 +178,7 @@ module _ (apply : ℕ → List ℕ → ℕ) {F N : ℕ} {body at : ℕ → Expr}
         go : Dec (view (l .state) .occupant F ≡ 0) → view (l .state) .occupant F ≡ 0
         go (yes e) = e
         go (no e) =
-            let h = k .good .sound .held F (view (l .state) .occupant F) fn-main refl e in
+            let h = k .good .sound .held F (view (l .state) .occupant F) (fn-main laid) refl e in
             absurd (omega (arith, h .1 .1, h .2))
 
     -- main has answered, or some step would be taken
@@ -204,7 +202,7 @@ module _ (apply : ℕ → List ℕ → ℕ) {F N : ℕ} {body at : ℕ → Expr}
   waits-listed : (s : View) → Sound F body s → (n : ℕ) → Range N n → Waits s (at n) → Listed body at F n
   waits-listed s sound n r w =
       let e : w .0 ≡ n = sym (ap id (w .3)) ∙ laid .number n r in
-      let x = waiting-listed apply F body s (callee-at at) (sets body at F) (laid .well) sound callees bodies
+      let x = waiting-listed F body s (callee-at at) (sets body at F) (laid .well) sound callees bodies
       (home n) (fn-home apply laid n r) (w .0) (w .1) (w .2)
       (subst (λ u. Sub u (body (home n))) (w .3) (laid .placed n r)) (w .4) (w .5) (w .6) in
       subst (Listed body at F) e (x .0, x .1 .0, x .1 .1, x .2)

@@ -3,7 +3,6 @@ use Prim.Native.Nat.{ℕ, suc, _≤_}
 use mathlib.Core.Bool.{Bool, true, false, _&&_}
 use mathlib.Core.Path.{_≡_, refl, subst, sym, ap, _∙_}
 use mathlib.Core.Logic.{inl, inr, ⊎-elim}
-use mathlib.Core.List.{List}
 use native.Mathlib.Omega.{arith}
 use lib.ListN.{length}
 use lib.Dec.{eqb}
@@ -12,7 +11,7 @@ use Rattle.table.specs.Syntax.{Expr, Exprs, const, param, prim, call, self, con
 use Rattle.table.specs.Syntax.{size, roots}
 use Rattle.rules.specs.State.{View, In}
 use Rattle.table.specs.Environment.{values}
-use Rattle.table.specs.Well.{Apart, Apart*, Laid}
+use Rattle.table.specs.Well.{Apart, Apart*, Fn, Laid}
 use Rattle.rules.proofs.Frame.{Same}
 use Rattle.table.proofs.SyntaxLaws.{node-id, sub-node}
 use Rattle.rules.proofs.Moves.{Under, Finished*, Opens, Opens*}
@@ -68,7 +67,7 @@ root-node m (some e es) (inl p) = inl (subst (λ x. Node x e) (sym p) (node-id e
 root-node m (some e es) (inr i) = inr (root-node m es i)
 
 -- a chain whose roots are opened, and nothing else of it changed
-module _ (apply : ℕ → List ℕ → ℕ) (args : ℕ → ℕ) (s s′ : View) where
+module _ (s s′ : View) where
   pub opens-all : (e : Expr) → Apart e → (s′ .status (id e) ≡ 1) × (s′ .second (id e) ≡ s .second (id e))
       → ((m : ℕ) → Node m e → (m ≡ id e → ⊥) → Same s s′ m) → Opens s s′ e
   opens-all e a o f = (o, under-all (Same s s′) e a f)
@@ -97,6 +96,9 @@ module _ (s : View) where
   finished-all-done (some e es) t = ap (λ b. b && all-done s es) (eq-eqb (s .status (id e)) 3 (t .0)) ∙ finished-all-done es (t .1)
 
 module _ {F N : ℕ} {body at : ℕ → Expr} {home : ℕ → ℕ} (laid : Laid F N body at home) where
+  pub fn-main : Fn F body F
+  fn-main = (laid .some-function, omega arith)
+
   pub own-node : (g m : ℕ) → 1 ≤ m → m ≤ N → home m ≡ g → Node m (body g)
   own-node g m p q e =
       subst (λ f. Node m (body f)) e (subst (λ x. Node x (body (home m))) (laid .number m (p, q))

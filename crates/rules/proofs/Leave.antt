@@ -58,7 +58,7 @@ module _ {F : ℕ} {body : ℕ → Expr} {s s′ : View} {h n g : ℕ} {es : Exp
         st .becomes .0,
         (
           (inr (st .becomes .0), st .becomes .1),
-          done*-still s′ es (done-over* s s′ (λ m. m ≡ n) (st .keeps) (λ f m k z e. occupants f m k e) es
+          done*-still s′ es (done-over* s s′ (λ m. m ≡ n) (st .keeps) es
               (λ m k e. apart-arguments x (subst (λ y. Node* y es) e k)) (second-phase s n g es (st .holds) l .0)),
         ),
       )
@@ -83,9 +83,9 @@ module _ {F : ℕ} {body : ℕ → Expr} {s s′ : View} {h n g : ℕ} {es : Exp
       rest-f : (f : ℕ) → Fn F body f → (Active F s′ f → ⊥) → Dec (f ≡ h) → Dec (f ≡ g) → Every (Still s′) (body f)
       rest-f f q a (yes e) d = absurd (a (active-over (st .keepsFn f (λ y. h≢g x (sym e ∙ y)) .0) (subst (Active F s) (sym e) (active x))))
       rest-f f q a (no e) (yes d) =
-          subst (λ y. Every (Still s′) (body y)) (sym d) (still-over s s′ (λ m. m ≡ n) (st .keeps) (λ f m k z e. occupants f m k e) (body g)
+          subst (λ y. Every (Still s′) (body y)) (sym d) (still-over s s′ (λ m. m ≡ n) (st .keeps) (body g)
           (clear g (fn-g x) (λ y. h≢g x (sym y))) (done-g .1))
-      rest-f f q a (no e) (no d) = still-over s s′ (λ m. m ≡ n) (st .keeps) (λ f m k z e. occupants f m k e) (body f) (clear f q e)
+      rest-f f q a (no e) (no d) = still-over s s′ (λ m. m ≡ n) (st .keeps) (body f) (clear f q e)
           (x .sound .rest f q (λ b. a (active-over (st .keepsFn f d .0) b)))
 
       held-f : (f c : ℕ) → Fn F body f → s′ .occupant f ≡ c → (c ≡ 0 → ⊥) → Dec (f ≡ g) → Holder F body s′ f c

@@ -156,7 +156,7 @@ module _ (s : View) where
   idle-still e h = both (Idle s) (Idle s) (Still s) idle-still-node e h h
 
 -- the shape after a step inside a body
-module _ (apply : ℕ → List ℕ → ℕ) (args : ℕ → ℕ) (s s′ : View) where
+module _ (s s′ : View) where
   pub opens-live : (e : Expr) → Every (Idle s) e → Opens s s′ e → Live s′ e
   opens-live (const n v) i o = (o .0 .0, o .0 .1 ∙ i .1)
   opens-live (param n j) i o = (o .0 .0, o .0 .1 ∙ i .1)
@@ -180,67 +180,68 @@ module _ (apply : ℕ → List ℕ → ℕ) (args : ℕ → ℕ) (s s′ : View)
   becomes-still : (n v : ℕ) → Becomes s s′ n v → Still s′ n
   becomes-still n v h = (inr (h .0), h .1)
 
-  pub inner-live : (u : Expr) → Inner apply args s s′ u → Live s u → Opened s′ u
-  inner-live (const n v) r l = inr (r .1 .0, becomes-still n v (r .1))
-  inner-live (param n i) r l = inr (r .1 .0, becomes-still n (args i) (r .1))
-  inner-live (prim n op es) (inl r) (inl l) = inl (inr (r .1, opens-live* es (l .1) (r .2)))
-  inner-live (prim n op es) (inl r) (inr l) = absurd (omega arith)
-  inner-live (prim n op es) (inr r) (inl l) = absurd (omega arith)
-  inner-live (prim n op es) (inr r) (inr l) =
-      inr (r .2 .0, (becomes-still n _ (r .2), done*-still s′ es (done-kept* s s′ es (r .3) (finished* s es (l .1) (r .1)))))
-  inner-live (call n g es) r (inl l) = inl (inr (inl (r .1, opens-live* es (l .1) (r .2))))
-  inner-live (call n g es) r (inr (inl l)) = absurd (omega arith)
-  inner-live (call n g es) r (inr (inr l)) = absurd (omega arith)
-  inner-live (self n es) r (inl l) = inl (inr (r .1, opens-live* es (l .1) (r .2)))
-  inner-live (self n es) r (inr l) = absurd (omega arith)
-  inner-live (cond n a b c) (inl r) (inl l) =
-      inl (inr (inl (r .1, inl (opens-live a (l .1) (r .2)), idle-kept s s′ b (r .3) (l .2), idle-kept s s′ c (r .4) (l .3))))
-  inner-live (cond n a b c) (inl r) (inr (inl l)) = absurd (omega arith)
-  inner-live (cond n a b c) (inl r) (inr (inr l)) = absurd (omega arith)
-  inner-live (cond n a b c) (inr (inl r)) (inl l) = absurd (omega arith)
-  inner-live (cond n a b c) (inr (inl r)) (inr (inl l)) =
-      inl (inr (inr (
-        r .2,
-        done-kept s s′ a (r .3) (finished s a (l .1) (r .1)),
-        chosen-map (λ t. (inl (opens-live b (l .2) (t .0)), idle-kept s s′ c (t .1) (l .3)))
-            (λ t. (inl (opens-live c (l .3) (t .0)), idle-kept s s′ b (t .1) (l .2)))
-            (s .value (id a)) (s′ .value (id a)) (sym (every-id s s′ (Same s s′) a (r .3) .2)) (r .4),
-      )))
-  inner-live (cond n a b c) (inr (inl r)) (inr (inr l)) = absurd (true≢false (sym (l .0 .1) ∙ r .0 .1))
-  inner-live (cond n a b c) (inr (inr r)) (inl l) = absurd (omega arith)
-  inner-live (cond n a b c) (inr (inr r)) (inr (inl l)) = absurd (true≢false (sym (r .0 .1) ∙ l .0 .1))
-  inner-live (cond n a b c) (inr (inr r)) (inr (inr l)) =
-      inr (chosen-case (λ d. d) (λ d. d) (s .value (id a)) (chosen-both
-      (λ t o. kept _ (t .1) (finished s b (o .0) (t .0) .1) (idle-still s c (o .1)))
-      (λ t o. kept _ (t .1) (idle-still s b (o .1)) (finished s c (o .0) (t .0) .1))
-      (s .value (id a)) (s .value (id a)) refl (r .1) (l .2)))
-    where
-      kept : (v : ℕ) → Becomes s s′ n v → Every (Still s) b → Every (Still s) c → Done s′ (cond n a b c)
-      kept v h p q = (
-        h .0,
-        (
-          becomes-still n v h,
-          still-kept s s′ a (r .2) (l .1 .1),
-          still-kept s s′ b (r .3) p,
-          still-kept s s′ c (r .4) q,
-        ),
-      )
-  inner-live (bind n ds b) (inl r) (inl l) = inl (inr (inl (r .1, opens-live* ds (l .1) (r .2), idle-kept s s′ b (r .3) (l .2))))
-  inner-live (bind n ds b) (inl r) (inr (inl l)) = absurd (omega arith)
-  inner-live (bind n ds b) (inl r) (inr (inr l)) = absurd (omega arith)
-  inner-live (bind n ds b) (inr (inl r)) (inl l) = absurd (omega arith)
-  inner-live (bind n ds b) (inr (inl r)) (inr (inl l)) =
-      inl (inr (inr (r .2, done-kept* s s′ ds (r .3) (finished* s ds (l .1) (r .1)), inl (opens-live b (l .2) (r .4)))))
-  inner-live (bind n ds b) (inr (inl r)) (inr (inr l)) = absurd (true≢false (sym (l .0 .1) ∙ r .0 .1))
-  inner-live (bind n ds b) (inr (inr r)) (inl l) = absurd (omega arith)
-  inner-live (bind n ds b) (inr (inr r)) (inr (inl l)) = absurd (true≢false (sym (r .0 .1) ∙ l .0 .1))
-  inner-live (bind n ds b) (inr (inr r)) (inr (inr l)) =
-      inr (
-        r .2 .0,
-        (
-          becomes-still n _ (r .2),
-          done*-still s′ ds (done-kept* s s′ ds (r .3) (l .1)),
-          still-kept s s′ b (r .4) (finished s b (l .2) (r .1) .1),
-        ),
-      )
-  inner-live (bound n d) r l = inr (r .1 .0, becomes-still n _ (r .1))
+  module _ (apply : ℕ → List ℕ → ℕ) (args : ℕ → ℕ) where
+    pub inner-live : (u : Expr) → Inner apply args s s′ u → Live s u → Opened s′ u
+    inner-live (const n v) r l = inr (r .1 .0, becomes-still n v (r .1))
+    inner-live (param n i) r l = inr (r .1 .0, becomes-still n (args i) (r .1))
+    inner-live (prim n op es) (inl r) (inl l) = inl (inr (r .1, opens-live* es (l .1) (r .2)))
+    inner-live (prim n op es) (inl r) (inr l) = absurd (omega arith)
+    inner-live (prim n op es) (inr r) (inl l) = absurd (omega arith)
+    inner-live (prim n op es) (inr r) (inr l) =
+        inr (r .2 .0, (becomes-still n _ (r .2), done*-still s′ es (done-kept* s s′ es (r .3) (finished* s es (l .1) (r .1)))))
+    inner-live (call n g es) r (inl l) = inl (inr (inl (r .1, opens-live* es (l .1) (r .2))))
+    inner-live (call n g es) r (inr (inl l)) = absurd (omega arith)
+    inner-live (call n g es) r (inr (inr l)) = absurd (omega arith)
+    inner-live (self n es) r (inl l) = inl (inr (r .1, opens-live* es (l .1) (r .2)))
+    inner-live (self n es) r (inr l) = absurd (omega arith)
+    inner-live (cond n a b c) (inl r) (inl l) =
+        inl (inr (inl (r .1, inl (opens-live a (l .1) (r .2)), idle-kept s s′ b (r .3) (l .2), idle-kept s s′ c (r .4) (l .3))))
+    inner-live (cond n a b c) (inl r) (inr (inl l)) = absurd (omega arith)
+    inner-live (cond n a b c) (inl r) (inr (inr l)) = absurd (omega arith)
+    inner-live (cond n a b c) (inr (inl r)) (inl l) = absurd (omega arith)
+    inner-live (cond n a b c) (inr (inl r)) (inr (inl l)) =
+        inl (inr (inr (
+          r .2,
+          done-kept s s′ a (r .3) (finished s a (l .1) (r .1)),
+          chosen-map (λ t. (inl (opens-live b (l .2) (t .0)), idle-kept s s′ c (t .1) (l .3)))
+              (λ t. (inl (opens-live c (l .3) (t .0)), idle-kept s s′ b (t .1) (l .2)))
+              (s .value (id a)) (s′ .value (id a)) (sym (every-id s s′ (Same s s′) a (r .3) .2)) (r .4),
+        )))
+    inner-live (cond n a b c) (inr (inl r)) (inr (inr l)) = absurd (true≢false (sym (l .0 .1) ∙ r .0 .1))
+    inner-live (cond n a b c) (inr (inr r)) (inl l) = absurd (omega arith)
+    inner-live (cond n a b c) (inr (inr r)) (inr (inl l)) = absurd (true≢false (sym (r .0 .1) ∙ l .0 .1))
+    inner-live (cond n a b c) (inr (inr r)) (inr (inr l)) =
+        inr (chosen-case (λ d. d) (λ d. d) (s .value (id a)) (chosen-both
+        (λ t o. kept _ (t .1) (finished s b (o .0) (t .0) .1) (idle-still s c (o .1)))
+        (λ t o. kept _ (t .1) (idle-still s b (o .1)) (finished s c (o .0) (t .0) .1))
+        (s .value (id a)) (s .value (id a)) refl (r .1) (l .2)))
+      where
+        kept : (v : ℕ) → Becomes s s′ n v → Every (Still s) b → Every (Still s) c → Done s′ (cond n a b c)
+        kept v h p q = (
+          h .0,
+          (
+            becomes-still n v h,
+            still-kept s s′ a (r .2) (l .1 .1),
+            still-kept s s′ b (r .3) p,
+            still-kept s s′ c (r .4) q,
+          ),
+        )
+    inner-live (bind n ds b) (inl r) (inl l) = inl (inr (inl (r .1, opens-live* ds (l .1) (r .2), idle-kept s s′ b (r .3) (l .2))))
+    inner-live (bind n ds b) (inl r) (inr (inl l)) = absurd (omega arith)
+    inner-live (bind n ds b) (inl r) (inr (inr l)) = absurd (omega arith)
+    inner-live (bind n ds b) (inr (inl r)) (inl l) = absurd (omega arith)
+    inner-live (bind n ds b) (inr (inl r)) (inr (inl l)) =
+        inl (inr (inr (r .2, done-kept* s s′ ds (r .3) (finished* s ds (l .1) (r .1)), inl (opens-live b (l .2) (r .4)))))
+    inner-live (bind n ds b) (inr (inl r)) (inr (inr l)) = absurd (true≢false (sym (l .0 .1) ∙ r .0 .1))
+    inner-live (bind n ds b) (inr (inr r)) (inl l) = absurd (omega arith)
+    inner-live (bind n ds b) (inr (inr r)) (inr (inl l)) = absurd (true≢false (sym (r .0 .1) ∙ l .0 .1))
+    inner-live (bind n ds b) (inr (inr r)) (inr (inr l)) =
+        inr (
+          r .2 .0,
+          (
+            becomes-still n _ (r .2),
+            done*-still s′ ds (done-kept* s s′ ds (r .3) (l .1)),
+            still-kept s s′ b (r .4) (finished s b (l .2) (r .1) .1),
+          ),
+        )
+    inner-live (bound n d) r l = inr (r .1 .0, becomes-still n _ (r .1))

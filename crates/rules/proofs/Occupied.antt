@@ -41,13 +41,13 @@ thirds-split : (k t : ℕ) → k % 3 ≡ t → enterings k ≡ exits k + t / 2
 thirds-split k t e = omega arith
 
 -- of the steps taken at a call, the remainder by three is its phase
-abbrev pub Phased : (ℕ → List ℕ → ℕ) → ℕ → (ℕ → Expr) → View → List ℕ → Type 0
-Phased apply F body s ns = (f c g : ℕ) → Fn F body f → CallIn c g (body f) → count c ns % 3 ≡ third s c
+abbrev pub Phased : ℕ → (ℕ → Expr) → View → List ℕ → Type 0
+Phased F body s ns = (f c g : ℕ) → Fn F body f → CallIn c g (body f) → count c ns % 3 ≡ third s c
 
 module _ (apply : ℕ → List ℕ → ℕ) {F N : ℕ} {body at : ℕ → Expr} {home : ℕ → ℕ} (laid : Laid F N body at home) where
   module _ (s : State512) (good : Good apply laid s) (n : ℕ) (r : Range N n) (m : Move)
       (here : act apply body (home n) (view s) (at n) ≡ does m) where
-    pub moved-phased : (ns : List ℕ) → Phased apply F body (view s) ns → Phased apply F body (view (perform N home body s n m)) (n ∷ ns)
+    pub moved-phased : (ns : List ℕ) → Phased F body (view s) ns → Phased F body (view (perform N home body s n m)) (n ∷ ns)
     moved-phased ns ph f c g q i = go (ℕ-discrete c n)
       where
         x : Does N home body (view s) (view (perform N home body s n m)) n m
@@ -90,7 +90,7 @@ module _ (apply : ℕ → List ℕ → ℕ) {F N : ℕ} {body at : ℕ → Expr}
       (k .1, subst (λ x. Sub (call x f (k .1)) (body (home c))) i (subst (λ u. Sub u (body (home c))) (k .2) (laid .placed c (p, q))))
 
   -- the phase of a call, by the number of its steps
-  pub call-phase : (s : View) (c f : ℕ) → 1 ≤ c → c ≤ N → calls (at c) f ≡ true → (ns : List ℕ) → Phased apply F body s ns
+  pub call-phase : (s : View) (c f : ℕ) → 1 ≤ c → c ≤ N → calls (at c) f ≡ true → (ns : List ℕ) → Phased F body s ns
       → count c ns % 3 ≡ third s c
   call-phase s c f p q e ns ph =
       let k = called c f p q e in
@@ -164,7 +164,7 @@ module _ (apply : ℕ → List ℕ → ℕ) {F N : ℕ} {body at : ℕ → Expr}
               go (no e) = inside-not c p q (λ x. e (sym x)) ∙ sym (put-other (λ x. 0) o 1 c e)
 
       -- document 01's sentence on entries and leavings
-      pub entries-leavings : (ns : List ℕ) → Phased apply F body s ns
+      pub entries-leavings : (ns : List ℕ) → Phased F body s ns
           → entries N at f ns ≡ leavings N at f ns + pick (eqb (s .occupant f) 0) 0 1
       entries-leavings ns ph =
           sum-add N (λ c. pick (calls (at c) f) (enterings (count c ns)) 0) (λ c. pick (calls (at c) f) (exits (count c ns)) 0) inside split
@@ -180,7 +180,7 @@ module _ (apply : ℕ → List ℕ → ℕ) {F N : ℕ} {body at : ℕ → Expr}
                   (ph (home c) c f (laid .home-there c (p, q)) (sub-call c f (k .0) (body (home c)) (k .1)))
               go false e = refl
 
-      pub entries-one : (ns : List ℕ) → Phased apply F body s ns → entries N at f ns ≤ leavings N at f ns + 1
+      pub entries-one : (ns : List ℕ) → Phased F body s ns → entries N at f ns ≤ leavings N at f ns + 1
       entries-one ns ph = go (eqb (s .occupant f) 0) (entries-leavings ns ph)
         where
           go : (b : Bool) → entries N at f ns ≡ leavings N at f ns + pick b 0 1 → entries N at f ns ≤ leavings N at f ns + 1

@@ -3,7 +3,6 @@ use Prim.Native.Nat.{ℕ, zero, suc, _≤_, _<_}
 use mathlib.Core.Bool.{true, false}
 use mathlib.Core.Path.{_≡_, refl, subst, sym, _∙_}
 use mathlib.Core.Logic.{_⊎_, inl, inr, ⊎-elim}
-use mathlib.Core.List.{List}
 use native.Mathlib.Omega.{arith}
 use native.Mathlib.Decide.{ℕ-discrete}
 use native.Mathlib.Nat.{not-suc-le-zero}
@@ -16,7 +15,18 @@ use Rattle.table.proofs.CallPlaces.{find}
 use Rattle.table.specs.Well.{Fn, CallIn, CallIn*, Well}
 use Rattle.rules.proofs.Invariant.{Active, Sound}
 
-module _ (apply : ℕ → List ℕ → ℕ) (F : ℕ) (body : ℕ → Expr) (s : View) where
+-- an expression stands in itself
+sub-refl : (e : Expr) → Sub e e
+sub-refl (const n v) = refl
+sub-refl (param n i) = refl
+sub-refl (prim n op es) = inl refl
+sub-refl (call n g es) = inl refl
+sub-refl (self n es) = inl refl
+sub-refl (cond n a b c) = inl refl
+sub-refl (bind n ds b) = inl refl
+sub-refl (bound n d) = refl
+
+module _ (body : ℕ → Expr) (s : View) where
   -- the node of u has a step
   abbrev pub Able : Expr → Type 0
   Able (const n v) = Open s n
@@ -51,16 +61,6 @@ module _ (apply : ℕ → List ℕ → ℕ) (F : ℕ) (body : ℕ → Expr) (s :
       → (s .status (id e) ≡ 3) ⊎ Seen (λ u. Sub u e) (λ c g. CallIn c g e)
   opened-seen e f (inl l) = inr (f l)
   opened-seen e f (inr d) = inl (d .0)
-
-  sub-refl : (e : Expr) → Sub e e
-  sub-refl (const n v) = refl
-  sub-refl (param n i) = refl
-  sub-refl (prim n op es) = inl refl
-  sub-refl (call n g es) = inl refl
-  sub-refl (self n es) = inl refl
-  sub-refl (cond n a b c) = inl refl
-  sub-refl (bind n ds b) = inl refl
-  sub-refl (bound n d) = refl
 
   own : (e : Expr) → Able e → Seen (λ u. Sub u e) (λ c g. CallIn c g e)
   own e a = inl (e, sub-refl e, a)
@@ -127,7 +127,7 @@ module _ (apply : ℕ → List ℕ → ℕ) (F : ℕ) (body : ℕ → Expr) (s :
     seek* none o = inl tt
     seek* (some e es) o = pair e es (opened-seen e (λ z. seek e z) (o .0)) (seek* es (o .1))
 
-  module _ (well : Well F body) (sound : Sound F body s) where
+  module _ {F : ℕ} (well : Well F body) (sound : Sound F body s) where
     abbrev pub Goes : Type 0
     Goes = (h : ℕ) × Fn F body h × Hit (λ u. Sub u (body h))
 

@@ -62,16 +62,16 @@ module _ (apply : ℕ → List ℕ → ℕ) {F N : ℕ} {body at : ℕ → Expr}
     pub moved-good : Good (perform N home body s n m)
     moved-good = record {
       sized = perform-sized N home s (good .sized) body n m;
-      sound = step-sound apply F body (laid .well) (view s) (view (perform N home body s n m)) (good .sound) (moved-step .0);
+      sound = step-sound (laid .well) (view s) (view (perform N home body s n m)) (good .sound) (moved-step .0);
     }
 
   -- when a step is refused, and when it isn't
   module _ (tags : ℕ → Bool) (s : State512) (good : Good s) (n : ℕ) where
     no-bad : over 3 N (s .status) ≡ false
-    no-bad = over-none 3 N (s .status) (status-bound apply laid (view s) (good .sound))
+    no-bad = over-none 3 N (s .status) (status-bound laid (view s) (good .sound))
 
     no-stray : over N F (s .occupant) ≡ false
-    no-stray = over-none N F (s .occupant) (occupant-bound apply laid (view s) (good .sound))
+    no-stray = over-none N F (s .occupant) (occupant-bound laid (view s) (good .sound))
 
     not-true : {A : Type 0} (b : Bool) → b ≡ false → b ≡ true → A
     not-true b e f = absurd (true≢false (sym f ∙ e))
@@ -117,7 +117,7 @@ module _ (apply : ℕ → List ℕ → ℕ) {F N : ℕ} {body at : ℕ → Expr}
         (view (perform N home body s n m) .value (id (body F))))
 
     -- a node that is able to in the abstract circuit
-    pub step-able : (h : ℕ) → Fn F body h → (u : Expr) → Sub u (body h) → id u ≡ n → Able apply F body (view s) u
+    pub step-able : (h : ℕ) → Fn F body h → (u : Expr) → Sub u (body h) → id u ≡ n → Able body (view s) u
         → (view s .status (id (body F)) ≡ 3 → ⊥) → Accepted (step tags s n .answer)
     step-able h q u p e a d = step-moves there d (subst (λ f. Moves (act apply body f (view s) (at n))) (sym (i .0))
         (subst (λ x. Moves (act apply body h (view s) x)) same (able-moves apply laid (view s) h q u a)))
@@ -136,5 +136,5 @@ module _ (apply : ℕ → List ℕ → ℕ) {F N : ℕ} {body at : ℕ → Expr}
   pub some-step : (tags : ℕ → Bool) (s : State512) → Good s → (view s .status (id (body F)) ≡ 3 → ⊥)
       → (n : ℕ) × Accepted (step tags s n .answer)
   some-step tags s good d =
-      let x = progress apply F body (view s) (laid .well) (good .sound) (laid .some-function, omega arith) d in
+      let x = progress body (view s) (laid .well) (good .sound) (laid .some-function, omega arith) d in
       (id (x .2 .0), step-able tags s good (id (x .2 .0)) (x .0) (x .1) (x .2 .0) (x .2 .1) refl (x .2 .2) d)

@@ -90,7 +90,7 @@ module _ (apply : ℕ → List ℕ → ℕ) {F N : ℕ} {body at : ℕ → Expr}
 
     -- the chain below a node that becomes busy
     begun : (n : ℕ) (es : Exprs) → (Node* n es → ⊥) → Apart* es → Begins s s′ n (roots es) → Opens* s s′ es
-    begun n es a b d = opens-all* apply (s .register h) s s′ es b (λ m i. (d .opens m i, d .seconds m))
+    begun n es a b d = opens-all* s s′ es b (λ m i. (d .opens m i, d .seconds m))
         (λ m k i. (d .others m (λ e. a (subst (λ x. Node* x es) e k)) i, d .seconds m, d .valued m))
 
     kept* : (n v : ℕ) (es : Exprs) → (Node* n es → ⊥) → Finishes s s′ n v → Keeps* s s′ es
@@ -135,7 +135,7 @@ module _ (apply : ℕ → List ℕ → ℕ) {F N : ℕ} {body at : ℕ → Expr}
 
     -- one expression below a node that becomes busy, or in its second phase
     begun₁ : (n : ℕ) (e : Expr) → (Node n e → ⊥) → Apart e → Begins s s′ n (id e ∷ []) → Opens s s′ e
-    begun₁ n e a b d = opens-all apply (s .register h) s s′ e b (d .opens (id e) (inl refl), d .seconds (id e))
+    begun₁ n e a b d = opens-all s s′ e b (d .opens (id e) (inl refl), d .seconds (id e))
         (λ m k i. (d .others m (λ p. a (subst (λ x. Node x e) p k)) (⊎-elim i (λ z. z)), d .seconds m, d .valued m))
 
     begun-kept : (n q : ℕ) (e : Expr) → (Node n e → ⊥) → (Node q e → ⊥) → Begins s s′ n (q ∷ []) → Keeps s s′ e
@@ -147,7 +147,7 @@ module _ (apply : ℕ → List ℕ → ℕ) {F N : ℕ} {body at : ℕ → Expr}
         ))
 
     turned : (n : ℕ) (e : Expr) → (Node n e → ⊥) → Apart e → Turns s s′ n (id e) → Opens s s′ e
-    turned n e a b d = opens-all apply (s .register h) s s′ e b (d .opens, d .seconds (id e) (λ p. a (subst (λ x. Node x e) p (node-id e))))
+    turned n e a b d = opens-all s s′ e b (d .opens, d .seconds (id e) (λ p. a (subst (λ x. Node x e) p (node-id e))))
         (λ m k i. (d .others m i, d .seconds m (λ p. a (subst (λ x. Node x e) p k)), d .valued m))
 
     turned-same : (n q m : ℕ) → Turns s s′ n q → (m ≡ n → ⊥) → (m ≡ q → ⊥) → Same s s′ m

@@ -131,7 +131,7 @@ module _ (apply : ℕ → List ℕ → ℕ) {F N : ℕ} {body at : ℕ → Expr}
         tt
 
     -- a node that has a step in the abstract circuit moves
-    pub able-moves : (u : Expr) → Able apply F body s u → Moves (act apply body h s u)
+    pub able-moves : (u : Expr) → Able body s u → Moves (act apply body h s u)
     able-moves (const n v) o = at-open Moves (s .status n) _ _ (o .0) tt
     able-moves (param n i) o = at-open Moves (s .status n) _ _ (o .0) tt
     able-moves (bound n d) o = at-open Moves (s .status n) _ _ (o .0) tt
