@@ -24,7 +24,7 @@ use Rattle.rules.specs.Operations.{operate}
 use Rattle.rules.specs.Circuit.{circuitOf, stepAfter, stepOf, Possible}
 use Rattle.rules.specs.Runs.{MainDone}
 use Rattle.rules.specs.Companions.{AgreeWithin, AgreePast}
-use Rattle.rules.proofs.StepTaken.{step-cases}
+use Rattle.rules.proofs.StepCases.{number, place, step-cases}
 use Rattle.rules.proofs.Past.{nodes-past, functions-past}
 use Rattle.rules.proofs.Ignores.{step-agree}
 use Rattle.rules.proofs.Demands.{after-both, lay}
@@ -74,9 +74,8 @@ module _ (t tags : List ℕ) where
   -- "The state is unchanged by a refusal"
   pub refused-unchanged : (s : State512) (n k p : ℕ) → stepOf t tags s n .answer ≡ refused k p → stepOf t tags s n ≡ refusal s k p
   refused-unchanged s n k p = by-check (λ f. f s n .answer ≡ refused k p → f s n ≡ refusal s k p) (λ i q e. same-refusal i q e)
-      (λ F N c. step-cases operate (lay t F N c) (tagged tags) s n (λ r. r .answer ≡ refused k p → r ≡ refusal s k p)
-      (λ e. same-refusal 12 0) (λ e. same-refusal 24 0) (λ e. same-refusal 24 0) (λ r e. same-refusal 20 n) (λ r e h. same-refusal 21 n)
-      (λ r e h. same-refusal (pick (tagged tags n) 22 23) n)
+      (λ F N c. step-cases operate (functions t) (nodes t) (bodyOf t) (exprAt t) (owner t) (tagged tags) s n
+      (λ r. r .answer ≡ refused k p → r ≡ refusal s k p) (λ c. same-refusal (number c) (place c))
       (λ r e m h. not-refused (done (view (perform (nodes t) (owner t) (bodyOf t) s n m)) (id (bodyOf t (functions t)))) _
       (perform (nodes t) (owner t) (bodyOf t) s n m)))
     where
@@ -91,8 +90,8 @@ module _ (t tags : List ℕ) where
   -- where main's root is done no step is possible: "once main's root is done the query says none"
   pub done-none : (s : State512) (n : ℕ) → MainDone t s → Possible t tags s n → ⊥
   done-none s n d = by-check (λ f. Accepted (f s n .answer) → ⊥) (λ k p x. x)
-      (λ F N c. step-cases operate (lay t F N c) (tagged tags) s n (λ r. Accepted (r .answer) → ⊥)
-      (λ e x. x) (λ e x. x) (λ e x. x) (λ r e x. x) (λ r e h x. x) (λ r e h x. x)
+      (λ F N c. step-cases operate (functions t) (nodes t) (bodyOf t) (exprAt t) (owner t) (tagged tags) s n
+      (λ r. Accepted (r .answer) → ⊥) (λ c x. x)
       (λ r e m h x. eqb-false (view s .status (id (bodyOf t (functions t)))) 3 e d))
 
   -- "A step ignores .. state entries past F and N"

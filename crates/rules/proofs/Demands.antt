@@ -94,7 +94,7 @@ module _ (t : List ℕ) (F N : ℕ) (check : checkOf t ≡ accepted F N) where
       go (TableCheck.refused i p) x = absurd x
 
   -- a sound state is never refused 24
-  stands-well : (tags : List ℕ) (F N : ℕ) → checkWith t tags ≡ accepted F N → (s : State512) → Good operate lay s
+  stands-well : (tags : List ℕ) (F N : ℕ) → checkWith t tags ≡ accepted F N → (s : State512) → Good (functions t) (bodyOf t) s
       → standing t tags s ≡ accepted (functions t) (nodes t)
   unfolding standing after
   stands-well tags F N e s g =

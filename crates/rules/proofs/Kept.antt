@@ -24,8 +24,9 @@ use Rattle.rules.proofs.Collide.{waiting-listed}
 use Rattle.rules.proofs.Remaining.{Closes}
 use Rattle.rules.proofs.Answers.{Steps, rest, then, Started, started-sound, answer}
 use Rattle.rules.specs.Step.{taken, answered, refused, refusal, circuitStep, Move, does, act, done, perform}
-use Rattle.rules.proofs.StepTaken.{Waits, step-cases}
-use Rattle.rules.proofs.StepFacts.{Good, fn-home, moved-step, moved-good, step-waits, step-over, some-step}
+use Rattle.rules.proofs.StepTaken.{Waits}
+use Rattle.rules.proofs.StepCases.{number, place, step-cases}
+use Rattle.rules.proofs.StepFacts.{Good, moved-step, moved-good, step-waits, step-over, some-step}
 use Rattle.rules.proofs.Thirds.{third, third-rest}
 use Rattle.rules.specs.Play.{Ask, Log, count, calls, entries, leavings, Accepted}
 use Rattle.rules.proofs.Logs.{begin, logged, more, Alike}
@@ -48,7 +49,7 @@ module _ (apply : ℕ → List ℕ → ℕ) {F N : ℕ} {body at : ℕ → Expr}
 
   -- what holds after any list of steps from s₀
   pub record Kept (s₀ : View) (l : Log) : Type 0 where
-    pub good : Good apply laid (l .state)
+    pub good : Good F body (l .state)
     pub steps : Steps apply F body s₀ (view (l .state)) (length (l .nodes))
     pub phased : Phased F body (view (l .state)) (l .nodes)
     pub said : (v : ℕ) → In (answered v) (l .answers) → (view (l .state) .status (id (body F)) ≡ 3) ×
@@ -106,16 +107,14 @@ module _ (apply : ℕ → List ℕ → ℕ) {F N : ℕ} {body at : ℕ → Expr}
           said-more v (inr i) = unsaid v i
 
     pub more-kept : (a : Ask (ℕ → Bool)) → Kept s₀ (more (circuitStep apply F N body at home) l a)
-    more-kept a = step-cases apply laid (a .tags) (l .state) (a .node) (λ r. Kept s₀ (logged l (a .node) r))
-        (λ e. refused-kept (a .node) 12 0) (λ e. refused-kept (a .node) 24 0) (λ e. refused-kept (a .node) 24 0)
-        (λ r e. refused-kept (a .node) 20 (a .node)) (λ r e h. refused-kept (a .node) 21 (a .node))
-        (λ r e h. refused-kept (a .node) (pick (a .tags (a .node)) 22 23) (a .node))
+    more-kept a = step-cases apply F N body at home (a .tags) (l .state) (a .node) (λ r. Kept s₀ (logged l (a .node) r))
+        (λ c. refused-kept (a .node) (number c) (place c))
         (λ r e m h. moved-kept (a .node) r e m h (done (view (perform N home body (l .state) (a .node) m)) (id (body F))) refl)
 
   -- the order of a log does not matter
   pub kept-alike : (s₀ : View) (l p : Log) → Alike l p → Kept s₀ l → Kept s₀ p
   kept-alike s₀ l p j k = record {
-    good = subst (Good apply laid) (j .state) (k .good);
+    good = subst (Good F body) (j .state) (k .good);
     steps = subst (λ x. Steps apply F body s₀ (view x) (length (p .nodes))) (j .state)
         (subst (Steps apply F body s₀ (view (l .state))) (j .number) (k .steps));
     phased = λ f c g q i. ap (λ x. x % 3) (sym (j .counts c)) ∙ k .phased f c g q i ∙ ap (λ x. third (view x) c) (j .state);
@@ -203,7 +202,7 @@ module _ (apply : ℕ → List ℕ → ℕ) {F N : ℕ} {body at : ℕ → Expr}
   waits-listed s sound n r w =
       let e : w .0 ≡ n = sym (ap id (w .3)) ∙ laid .number n r in
       let x = waiting-listed F body s (callee-at at) (sets body at F) (laid .well) sound callees bodies
-      (home n) (fn-home apply laid n r) (w .0) (w .1) (w .2)
+      (home n) (laid .home-there n r) (w .0) (w .1) (w .2)
       (subst (λ u. Sub u (body (home n))) (w .3) (laid .placed n r)) (w .4) (w .5) (w .6) in
       subst (Listed body at F) e (x .0, x .1 .0, x .1 .1, x .2)
     where

@@ -19,6 +19,7 @@ pub mod StepSound
 pub mod Numbered
 pub mod Bounded
 pub mod StepTaken
+pub mod StepCases
 pub mod StepFacts
 pub mod Past
 pub mod ListsAgree

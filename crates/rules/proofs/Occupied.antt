@@ -45,7 +45,7 @@ abbrev pub Phased : ℕ → (ℕ → Expr) → View → List ℕ → Type 0
 Phased F body s ns = (f c g : ℕ) → Fn F body f → CallIn c g (body f) → count c ns % 3 ≡ third s c
 
 module _ (apply : ℕ → List ℕ → ℕ) {F N : ℕ} {body at : ℕ → Expr} {home : ℕ → ℕ} (laid : Laid F N body at home) where
-  module _ (s : State512) (good : Good apply laid s) (n : ℕ) (r : Range N n) (m : Move)
+  module _ (s : State512) (good : Good F body s) (n : ℕ) (r : Range N n) (m : Move)
       (here : act apply body (home n) (view s) (at n) ≡ does m) where
     pub moved-phased : (ns : List ℕ) → Phased F body (view s) ns → Phased F body (view (perform N home body s n m)) (n ∷ ns)
     moved-phased ns ph f c g q i = go (ℕ-discrete c n)

@@ -12,7 +12,7 @@ use Rattle.rules.proofs.Frame.{SameFunction}
 use Rattle.rules.proofs.Performed.{Does, Fair}
 use Rattle.table.specs.Pick.{Range}
 use Rattle.table.specs.Well.{Laid}
-use Rattle.rules.proofs.StepTaken.{step-cases}
+use Rattle.rules.proofs.StepCases.{step-cases}
 use Rattle.rules.proofs.StepFacts.{moved-does}
 
 module _ (F N : ℕ) (home : ℕ → ℕ) (body : ℕ → Expr) (s s′ : View) (n : ℕ) (r : Range N n) where
@@ -38,21 +38,13 @@ module _ (F N : ℕ) (home : ℕ → ℕ) (body : ℕ → Expr) (s s′ : View) 
 
 module _ (apply : ℕ → List ℕ → ℕ) {F N : ℕ} {body at : ℕ → Expr} {home : ℕ → ℕ} (laid : Laid F N body at home)
     (tags : ℕ → Bool) (s : State512) (sized : Sized s) (n : ℕ) where
-  same : (m : ℕ) → Same (view s) (view s) m
-  same m = (refl, refl, refl)
-
-  same-function : (f : ℕ) → SameFunction (view s) (view s) f
-  same-function f = (refl, λ i. refl)
-
   pub nodes-past : (m : ℕ) → N < m → Same (view s) (view (circuitStep apply F N body at home tags s n .state)) m
-  nodes-past m h = step-cases apply laid tags s n (λ r. Same (view s) (view (r .state)) m)
-      (λ e. same m) (λ e. same m) (λ e. same m) (λ r e. same m) (λ r e k. same m) (λ r e k. same m)
+  nodes-past m h = step-cases apply F N body at home tags s n (λ r. Same (view s) (view (r .state)) m) (λ c. (refl, refl, refl))
       (λ r e a k. let d = moved-does apply laid s sized n r a k in
       does-past F N home body (view s) (view (perform N home body s n a)) n r a (d .0) (d .1) m h)
 
   pub functions-past : (f : ℕ) → F < f → SameFunction (view s) (view (circuitStep apply F N body at home tags s n .state)) f
-  functions-past f h = step-cases apply laid tags s n (λ r. SameFunction (view s) (view (r .state)) f)
-      (λ e. same-function f) (λ e. same-function f) (λ e. same-function f) (λ r e. same-function f) (λ r e k. same-function f)
-      (λ r e k. same-function f)
+  functions-past f h = step-cases apply F N body at home tags s n (λ r. SameFunction (view s) (view (r .state)) f)
+      (λ c. (refl, λ i. refl))
       (λ r e a k. let d = moved-does apply laid s sized n r a k in
       does-past-functions F N home body (view s) (view (perform N home body s n a)) n r a (d .0) (d .1) f h)

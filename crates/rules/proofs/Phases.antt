@@ -12,7 +12,8 @@ use Rattle.rules.specs.State.{View, State512, view}
 use Rattle.rules.specs.Step.{Act, does, begins, enters, leaves, done, all-done, act, circuitStep}
 use Rattle.rules.specs.Play.{calls, Accepted}
 use Rattle.rules.proofs.ActCases.{by-pick, by-state}
-use Rattle.rules.proofs.StepTaken.{Moves, step-cases}
+use Rattle.rules.proofs.StepTaken.{Moves}
+use Rattle.rules.proofs.StepCases.{step-cases}
 use Rattle.rules.proofs.Thirds.{third, third-busy, third-rest}
 use Rattle.rules.proofs.Occupied.{calls-call}
 
@@ -67,9 +68,8 @@ module _ (apply : ℕ → List ℕ → ℕ) {F N : ℕ} {body at : ℕ → Expr}
   -- a step taken at a node is its move
   pub accepted-moves : (n : ℕ) → Accepted (circuitStep apply F N body at home tags s n .answer)
       → Moves (act apply body (home n) (view s) (at n))
-  accepted-moves n = step-cases apply laid tags s n (λ r. Accepted (r .answer) → Moves (act apply body (home n) (view s) (at n)))
-      (λ e. absurd) (λ e. absurd) (λ e. absurd) (λ r e. absurd) (λ r e h. absurd) (λ r e h. absurd)
-      (λ r e m h a. subst Moves (sym h) tt)
+  accepted-moves n = step-cases apply F N body at home tags s n
+      (λ r. Accepted (r .answer) → Moves (act apply body (home n) (view s) (at n))) (λ c. absurd) (λ r e m h a. subst Moves (sym h) tt)
 
   pub step-phases : (c f : ℕ) → Range N c → calls (at c) f ≡ true → Accepted (circuitStep apply F N body at home tags s c .answer)
       → (k : ℕ) → k % 3 ≡ third (view s) c → PhasesOf (act apply body (home c) (view s) (at c)) f k

@@ -5,10 +5,10 @@ use mathlib.Core.Path.{_≡_, refl, subst, sym}
 use mathlib.Core.Logic.{inl, inr, ⊎-elim}
 use mathlib.Core.List.{List}
 use native.Mathlib.Omega.{arith}
-use lib.Dec.{eqb, ltb}
-use borrow.Author.Tests.{eqb-true, eq-eqb, eqb-false, ltb-true, ltb-false}
+use lib.Dec.{eqb}
+use borrow.Author.Tests.{eq-eqb, eqb-false}
 use Rattle.table.specs.Syntax.{Expr, Exprs, const, param, prim, call, self, cond, bind, bound, id, Node, Sub}
-use Rattle.rules.specs.State.{View, State512, view}
+use Rattle.rules.specs.State.{View}
 use Rattle.table.specs.Environment.{values}
 use Rattle.rules.proofs.Shape.{Busy}
 use Rattle.rules.specs.Reading.{Chosen}
@@ -18,7 +18,6 @@ use Rattle.table.proofs.CallPlaces.{sub-call}
 use Rattle.table.specs.Pick.{pick, Range}
 use Rattle.rules.proofs.Progress.{Able}
 use Rattle.rules.specs.Step.{Act, stuck, blocked, does, Move, turns, finishes, restarts, done, all-done, branch, by-status, act}
-use Rattle.rules.specs.Step.{refused, Stepped, told, outcome, over, perform, circuitStep}
 use Rattle.rules.proofs.Performed.{Owns, FairAct}
 use Rattle.table.specs.Well.{Fn, Laid}
 use Rattle.rules.proofs.LaidFacts.{length-values, root-node, all-done-finished, finished-all-done}
@@ -196,47 +195,3 @@ module _ (apply : ℕ → List ℕ → ℕ) {F N : ℕ} {body at : ℕ → Expr}
         (λ e k. (n, g, es, refl, (t, w), all-done-finished s es f, eqb-false (s .occupant g) 0 e)))
         (λ e. absurd)))
         absurd
-
-  -- the cases of a step, in the order of document 01
-  module _ (tags : ℕ → Bool) (s : State512) (n : ℕ) (P : Stepped → Type 0) where
-    abbrev Refuses : ℕ → ℕ → Type 0
-    Refuses k p = P (record { answer = refused k p; state = s })
-
-    abbrev Main : Bool
-    Main = done (view s) (id (body F))
-
-    abbrev Here : Act
-    Here = act apply body (home n) (view s) (at n)
-
-    by-test : (b : Bool) (x y : Stepped) → (b ≡ true → P x) → (b ≡ false → P y) → P (pick b x y)
-    by-test true x y f g = f refl
-    by-test false x y f g = g refl
-
-    pub by-outcome : (a : Act) → (a ≡ stuck → Refuses 21 n) → (a ≡ blocked → Refuses (pick (tags n) 22 23) n)
-        → ((m : Move) → a ≡ does m → P (record {
-          answer = told (id (body F)) (view (perform N home body s n m));
-          state = perform N home body s n m;
-        }))
-        → P (outcome apply F N body at home tags s n a)
-    by-outcome stuck f g h = f refl
-    by-outcome blocked f g h = g refl
-    by-outcome (does m) f g h = h m refl
-
-    pub step-cases : ((Range N n → ⊥) → Refuses 12 0)
-        → (over 3 N (s .status) ≡ true → Refuses 24 0) → (over N F (s .occupant) ≡ true → Refuses 24 0)
-        → (Range N n → Main ≡ true → Refuses 20 n)
-        → (Range N n → Main ≡ false → Here ≡ stuck → Refuses 21 n)
-        → (Range N n → Main ≡ false → Here ≡ blocked → Refuses (pick (tags n) 22 23) n)
-        → (Range N n → Main ≡ false → (m : Move) → Here ≡ does m
-        → P (record { answer = told (id (body F)) (view (perform N home body s n m)); state = perform N home body s n m }))
-        → P (circuitStep apply F N body at home tags s n)
-    unfolding circuitStep
-    step-cases c12 c24 c24′ c20 c21 c22 c =
-        by-test (eqb n 0) _ _ (λ e. c12 (λ r. omega (arith, r .0, eqb-true n 0 e)))
-        (λ e0. by-test (ltb N n) _ _ (λ e. c12 (λ r. omega (arith, r .1, ltb-true N n e)))
-        (λ e1. by-test (over 3 N (s .status)) _ _ c24 (λ e2. by-test (over N F (s .occupant)) _ _ c24′
-        (λ e3. by-test Main _ _ (c20 (there e0 e1)) (λ e4. by-outcome Here (c21 (there e0 e1) e4) (c22 (there e0 e1) e4)
-        (c (there e0 e1) e4))))))
-      where
-        there : eqb n 0 ≡ false → ltb N n ≡ false → Range N n
-        there a b = (omega (arith, eqb-false n 0 a), ltb-false N n b)
