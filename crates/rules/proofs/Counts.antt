@@ -13,7 +13,7 @@ use Rattle.rules.proofs.Shape.{Live}
 use Rattle.rules.proofs.Frame.{Same}
 use Rattle.table.specs.Environment.{extend, values}
 use Rattle.rules.proofs.Left.{Going, Left, Left*, Over}
-use Rattle.table.specs.Well.{Fits}
+use Rattle.table.specs.Well.{Sees}
 use Rattle.rules.proofs.Moves.{Finished*, Becomes, Opens, Opens*, Inner, every-id}
 
 module _ (apply : ℕ → List ℕ → ℕ) (K : Readings) (s : View) (W : ℕ → ℕ) (args : ℕ → ℕ) where
@@ -79,7 +79,7 @@ module _ (apply : ℕ → List ℕ → ℕ) (K : Readings) (s s′ : View) (W : 
   begun : (e : Expr) (ρ : ℕ → ℕ) (o : Outcome) (k : ℕ) → s′ .status (id e) ≡ 2 → Now e ρ o k → Going apply K s′ W args e ρ o k
   begun e ρ o k b h = left-going apply K s′ W args e b ρ o k h
 
-  pub inner-left : (u : Expr) → Inner apply args s s′ u → Live s u → (ρ : ℕ → ℕ) (o : Outcome) (k : ℕ) → Fits (s .value) u ρ → Now u ρ o k
+  pub inner-left : (u : Expr) → Inner apply args s s′ u → Live s u → (ρ : ℕ → ℕ) (o : Outcome) (k : ℕ) → Sees (s .value) u ρ → Now u ρ o k
       → Left apply K s W args u ρ o (1 + k)
   inner-left (const n v) r l ρ o k f h =
       let b = became (const n v) v ρ o k (r .1) h in inr (inl (inr (r .0 .0), (b .0, omega (arith, b .1))))

@@ -23,12 +23,12 @@ use Rattle.rules.proofs.Invariant.{Sound}
 use Rattle.rules.proofs.Collide.{waiting-listed}
 use Rattle.rules.proofs.Remaining.{Closes}
 use Rattle.rules.proofs.Answers.{Steps, rest, then, Started, started-sound, answer}
-use Rattle.rules.specs.Step.{taken, answered, refused, refusal, circuitStep, Move, does, act, done, perform}
+use Rattle.rules.specs.Step.{taken, answered, denied, refusal, circuitStep, Move, does, act, done, perform}
 use Rattle.rules.proofs.StepTaken.{Waits}
 use Rattle.rules.proofs.StepCases.{number, place, step-cases}
 use Rattle.rules.proofs.StepFacts.{Good, moved-step, moved-good, step-waits, step-over, some-step}
 use Rattle.rules.proofs.Thirds.{third, third-rest}
-use Rattle.rules.specs.Play.{Ask, Log, count, calls, entries, leavings, Accepted}
+use Rattle.rules.specs.Play.{Ask, Log, count, calls, entries, leavings, IsTaken}
 use Rattle.rules.proofs.Logs.{begin, logged, more, Alike}
 use Rattle.rules.proofs.Occupied.{Phased, moved-phased, call-phase, entries-leavings, entries-one}
 use Rattle.rules.proofs.Phases.{PhasesOf, step-phases}
@@ -57,7 +57,7 @@ module _ (apply : ℕ → List ℕ → ℕ) {F N : ℕ} {body at : ℕ → Expr}
     pub says : view (l .state) .status (id (body F)) ≡ 3 → (v : ℕ) × In (answered v) (l .answers)
 
   module _ (s₀ : View) (l : Log) (k : Kept s₀ l) where
-    pub refused-kept : (n i p : ℕ) → Kept s₀ (logged l n (record { answer = refused i p; state = l .state }))
+    pub refused-kept : (n i p : ℕ) → Kept s₀ (logged l n (record { answer = denied i p; state = l .state }))
     refused-kept n i p = record {
       good = k .good;
       steps = k .steps;
@@ -66,7 +66,7 @@ module _ (apply : ℕ → List ℕ → ℕ) {F N : ℕ} {body at : ℕ → Expr}
       says = λ e. (k .says e .0, inr (k .says e .1));
     }
       where
-        said-more : (v : ℕ) → (answered v ≡ refused i p) ⊎ In (answered v) (l .answers)
+        said-more : (v : ℕ) → (answered v ≡ denied i p) ⊎ In (answered v) (l .answers)
             → (view (l .state) .status (id (body F)) ≡ 3) × (view (l .state) .value (id (body F)) ≡ v)
         said-more v (inl e) = let z : _≡_ {A = ℕ} 0 1 = cc in absurd (omega arith)
         said-more v (inr i) = k .said v i
@@ -182,17 +182,17 @@ module _ (apply : ℕ → List ℕ → ℕ) {F N : ℕ} {body at : ℕ → Expr}
 
     -- main has answered, or some step would be taken
     pub kept-lively : (tags : ℕ → Bool) → ((v : ℕ) × In (answered v) (l .answers))
-        ⊎ ((n : ℕ) × Accepted (circuitStep apply F N body at home tags (l .state) n .answer))
+        ⊎ ((n : ℕ) × IsTaken (circuitStep apply F N body at home tags (l .state) n .answer))
     kept-lively tags = go (ℕ-discrete (view (l .state) .status (id (body F))) 3)
       where
         go : Dec (view (l .state) .status (id (body F)) ≡ 3) → ((v : ℕ) × In (answered v) (l .answers))
-            ⊎ ((n : ℕ) × Accepted (circuitStep apply F N body at home tags (l .state) n .answer))
+            ⊎ ((n : ℕ) × IsTaken (circuitStep apply F N body at home tags (l .state) n .answer))
         go (yes e) = inl (k .says e)
         go (no e) = inr (some-step apply laid tags (l .state) (k .good) e)
 
     -- of the steps taken at a call, those that enter and those that leave
     pub kept-phases : (c f : ℕ) → 1 ≤ c → c ≤ N → calls (at c) f ≡ true → (tags : ℕ → Bool)
-        → Accepted (circuitStep apply F N body at home tags (l .state) c .answer)
+        → IsTaken (circuitStep apply F N body at home tags (l .state) c .answer)
         → PhasesOf (act apply body (home c) (view (l .state)) (at c)) f (count c (l .nodes))
     kept-phases c f p q e tags a = step-phases apply laid tags (l .state) c f (p, q) e a (count c (l .nodes))
         (call-phase apply laid (view (l .state)) c f p q e (l .nodes) (k .phased))
@@ -218,7 +218,7 @@ module _ (apply : ℕ → List ℕ → ℕ) {F N : ℕ} {body at : ℕ → Expr}
     not-23 false e z = true≢false (sym e)
 
     -- where the tags hold the list, no step is refused 23
-    pub kept-silent : (l : Log) → Kept s₀ l → (n p : ℕ) → refused 23 p ≡ circuitStep apply F N body at home tags (l .state) n .answer → ⊥
+    pub kept-silent : (l : Log) → Kept s₀ l → (n p : ℕ) → denied 23 p ≡ circuitStep apply F N body at home tags (l .state) n .answer → ⊥
     kept-silent l k n p e =
         let w = step-waits apply laid tags (l .state) (k .good) n 23 p (sym e) (inr refl) in
         not-23 (tags n) (holds n (waits-listed (view (l .state)) (k .good .sound) n (w .0) (w .1))) (w .2)

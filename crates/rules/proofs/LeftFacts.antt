@@ -12,7 +12,7 @@ use Rattle.table.specs.Environment.{values, extend}
 use Rattle.rules.proofs.Shape.{Still, Live, Opened*, Opened}
 use Rattle.rules.specs.Reading.{Outcome, val, Readings}
 use Rattle.rules.proofs.Branches.{chosen-map, chosen-both}
-use Rattle.table.specs.Well.{Apart, Apart*, Fits, Fits*}
+use Rattle.table.specs.Well.{Apart, Apart*, Sees, Sees*}
 use Rattle.rules.proofs.Frame.{Same}
 use Rattle.table.proofs.SyntaxLaws.{node-id, sub-node, sub-node*}
 use Rattle.rules.proofs.Within.{idle-not, idle-not*, done-not, done-not*}
@@ -134,16 +134,16 @@ module _ (apply : ℕ → List ℕ → ℕ) (K : Readings) (s s′ : View) (W W�
 module _ (apply : ℕ → List ℕ → ℕ) (K : Readings) (s s′ : View) (W W′ : ℕ → ℕ) (args : ℕ → ℕ) (u : Expr) (d : ℕ)
     (keeps : (m : ℕ) → (Node m u → ⊥) → Same s s′ m) (expects : (m : ℕ) → (Node m u → ⊥) → W′ m ≡ W m)
     (moving : Still s (id u) → ⊥)
-    (local : (ρ : ℕ → ℕ) (o : Outcome) (k : ℕ) → Live s u → Fits (s .value) u ρ → Left apply K s′ W′ args u ρ o k
+    (local : (ρ : ℕ → ℕ) (o : Outcome) (k : ℕ) → Live s u → Sees (s .value) u ρ → Left apply K s′ W′ args u ρ o k
     → Left apply K s W args u ρ o (d + k)) where
   abbrev Back : Expr → Type 0
-  Back e = (ρ : ℕ → ℕ) (o : Outcome) (k : ℕ) → Live s e → Fits (s .value) e ρ → Left apply K s′ W′ args e ρ o k
+  Back e = (ρ : ℕ → ℕ) (o : Outcome) (k : ℕ) → Live s e → Sees (s .value) e ρ → Left apply K s′ W′ args e ρ o k
       → Left apply K s W args e ρ o (d + k)
 
   here : (e : Expr) → u ≡ e → Back e
   here e p = subst Back p local
 
-  back-opened : (e : Expr) → Back e → Sub u e → (ρ : ℕ → ℕ) (o : Outcome) (k : ℕ) → Opened s e → Fits (s .value) e ρ
+  back-opened : (e : Expr) → Back e → Sub u e → (ρ : ℕ → ℕ) (o : Outcome) (k : ℕ) → Opened s e → Sees (s .value) e ρ
       → Left apply K s′ W′ args e ρ o k → Left apply K s W args e ρ o (d + k)
   back-opened e f p ρ o k (inl l) g h = f ρ o k l g h
   back-opened e f p ρ o k (inr x) g h = absurd (done-not s u moving e x p)
@@ -297,7 +297,7 @@ module _ (apply : ℕ → List ℕ → ℕ) (K : Readings) (s s′ : View) (W W�
         (going (bind n ds b) (λ x. q .1 (sub-node u n b p x)) (l .0 .0) ρ o k h)
     left-within (bound n i) a p ρ o k l f h = here (bound n i) p ρ o k l f h
 
-    pub left-within* : (es : Exprs) → Apart* es → Sub* u es → (ρ : ℕ → ℕ) (vs : List ℕ) (j : ℕ) → Opened* s es → Fits* (s .value) es ρ
+    pub left-within* : (es : Exprs) → Apart* es → Sub* u es → (ρ : ℕ → ℕ) (vs : List ℕ) (j : ℕ) → Opened* s es → Sees* (s .value) es ρ
         → Left* apply K s′ W′ args es ρ vs j → Left* apply K s W args es ρ vs (d + j)
     left-within* none a p ρ vs j l f h = absurd p
     left-within* (some e es) a (inl p) ρ vs j l f h = (

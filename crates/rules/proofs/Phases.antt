@@ -10,7 +10,7 @@ use Rattle.table.specs.Pick.{Range}
 use Rattle.table.specs.Well.{Laid}
 use Rattle.rules.specs.State.{View, State512, view}
 use Rattle.rules.specs.Step.{Act, does, begins, enters, leaves, done, all-done, act, circuitStep}
-use Rattle.rules.specs.Play.{calls, Accepted}
+use Rattle.rules.specs.Play.{calls, IsTaken}
 use Rattle.rules.proofs.ActCases.{by-pick, by-state}
 use Rattle.rules.proofs.StepTaken.{Moves}
 use Rattle.rules.proofs.StepCases.{step-cases}
@@ -66,16 +66,16 @@ module _ (apply : ℕ → List ℕ → ℕ) (body : ℕ → Expr) (s : View) (h 
 module _ (apply : ℕ → List ℕ → ℕ) {F N : ℕ} {body at : ℕ → Expr} {home : ℕ → ℕ} (laid : Laid F N body at home)
     (tags : ℕ → Bool) (s : State512) where
   -- a step taken at a node is its move
-  pub accepted-moves : (n : ℕ) → Accepted (circuitStep apply F N body at home tags s n .answer)
+  pub taken-moves : (n : ℕ) → IsTaken (circuitStep apply F N body at home tags s n .answer)
       → Moves (act apply body (home n) (view s) (at n))
-  accepted-moves n = step-cases apply F N body at home tags s n
-      (λ r. Accepted (r .answer) → Moves (act apply body (home n) (view s) (at n))) (λ c. absurd) (λ r e m h a. subst Moves (sym h) tt)
+  taken-moves n = step-cases apply F N body at home tags s n
+      (λ r. IsTaken (r .answer) → Moves (act apply body (home n) (view s) (at n))) (λ c. absurd) (λ r e m h a. subst Moves (sym h) tt)
 
-  pub step-phases : (c f : ℕ) → Range N c → calls (at c) f ≡ true → Accepted (circuitStep apply F N body at home tags s c .answer)
+  pub step-phases : (c f : ℕ) → Range N c → calls (at c) f ≡ true → IsTaken (circuitStep apply F N body at home tags s c .answer)
       → (k : ℕ) → k % 3 ≡ third (view s) c → PhasesOf (act apply body (home c) (view s) (at c)) f k
   step-phases c f r e a k ph =
       let x = calls-call apply laid (at c) f e in
       let i : x .0 ≡ c = sym (ap id (x .2)) ∙ laid .number c r in
       subst (λ u. PhasesOf (act apply body (home c) (view s) u) f k) (sym (x .2))
       (call-phases apply body (view s) (home c) (x .0) f (x .1) k (ph ∙ ap (third (view s)) (sym i))
-      (subst (λ u. Moves (act apply body (home c) (view s) u)) (x .2) (accepted-moves c a)))
+      (subst (λ u. Moves (act apply body (home c) (view s) u)) (x .2) (taken-moves c a)))

@@ -6,7 +6,7 @@ use native.Mathlib.Omega.{arith}
 use native.Mathlib.Decide.{ℕ-discrete}
 use lib.ListN.{getD}
 use Rattle.table.specs.Syntax.{Expr, Node}
-use Rattle.table.specs.Well.{Fn, Fits}
+use Rattle.table.specs.Well.{Fn, Sees}
 use Rattle.table.specs.Environment.{put}
 use Rattle.table.specs.Find.{total}
 use Rattle.rules.specs.State.{View}
@@ -57,7 +57,7 @@ module _ (apply : ℕ → List ℕ → ℕ) (body : ℕ → Expr) (K : Readings)
     -- the function whose part u takes the step
     module _ {F h : ℕ} {u : Expr} (x : Acting F body s h u) (d : ℕ) (keeps : (m : ℕ) → (Node m u → ⊥) → Same s s′ m)
         (expects : (m : ℕ) → (Node m u → ⊥) → W′ m ≡ W m)
-        (local : (ρ : ℕ → ℕ) (o : Outcome) (k : ℕ) → Live s u → Fits (s .value) u ρ → Left apply K s′ W′ (s .register h) u ρ o k
+        (local : (ρ : ℕ → ℕ) (o : Outcome) (k : ℕ) → Live s u → Sees (s .value) u ρ → Left apply K s′ W′ (s .register h) u ρ o k
         → Left apply K s W (s .register h) u ρ o (d + k)) where
       pub rest-own : (k : ℕ) → SameFunction s s′ h → W′ (s .occupant h) ≡ W (s .occupant h) → Rest s′ W′ h (W′ (s′ .occupant h)) k
           → Rest s W h (W (s .occupant h)) (d + k)
@@ -66,7 +66,7 @@ module _ (apply : ℕ → List ℕ → ℕ) (body : ℕ → Expr) (K : Readings)
         d + y .1,
         y .2,
         left-within apply K s s′ W W′ (s .register h) u d keeps expects (x .moving) local (body h) (apart x) (x .place) nowhere (y .0) (y .1)
-            (live x) (x .well .fits h (s .value) (x .fn))
+            (live x) (x .well .sees h (s .value) (x .fn))
             (subst (λ r. Left apply K s′ W′ r (body h) nowhere (y .0) (y .1)) (fun-ext (g .1)) (y .3)),
         subst (λ v. Ends K h (y .0) v (y .2)) (ap W′ (g .0) ∙ e) (y .4),
         omega (arith, y .5),

@@ -13,9 +13,9 @@ use Rattle.table.specs.Pick.{pick, Range}
 use Rattle.rules.proofs.Invariant.{Sound}
 use Rattle.rules.proofs.Progress.{Able, progress}
 use Rattle.rules.proofs.Answers.{step-sound}
-use Rattle.rules.specs.Step.{does, Move, done, act, Reply, taken, answered, refused, refusal, Stepped, perform, circuitStep}
+use Rattle.rules.specs.Step.{does, Move, done, act, Reply, taken, answered, denied, refusal, Stepped, perform, circuitStep}
 use Rattle.rules.proofs.Performed.{Does, Acted, Fair, FairAct, perform-does, perform-sized}
-use Rattle.rules.specs.Play.{Accepted}
+use Rattle.rules.specs.Play.{IsTaken}
 use Rattle.table.specs.Well.{Fn, Laid}
 use Rattle.rules.proofs.LaidFacts.{fn-main}
 use Rattle.rules.proofs.StepSound.{StepAt, acted-step}
@@ -25,9 +25,9 @@ use Rattle.rules.proofs.StepCases.{held-only, step-cases}
 use Rattle.rules.proofs.Numbered.{sub-unique}
 use Rattle.rules.proofs.Bounded.{over-none, status-bound, occupant-bound}
 
-pub told-accepted : (b : Bool) (v : ℕ) → Accepted (pick b (answered v) taken)
-told-accepted true v = tt
-told-accepted false v = tt
+pub told-taken : (b : Bool) (v : ℕ) → IsTaken (pick b (answered v) taken)
+told-taken true v = tt
+told-taken false v = tt
 
 pub record Good (F : ℕ) (body : ℕ → Expr) (s : State512) : Type 0 where
   pub sized : Sized s
@@ -81,13 +81,13 @@ module _ (apply : ℕ → List ℕ → ℕ) {F N : ℕ} {body at : ℕ → Expr}
 
     -- 22 and 23 only for a call that waits at an occupied resource
     abbrev Held : Reply → Type 0
-    Held x = (k p : ℕ) → x ≡ refused k p → (k ≡ 22) ⊎ (k ≡ 23) → Range N n × Waits (view s) (at n) × (k ≡ pick (tags n) 22 23) × (p ≡ n)
+    Held x = (k p : ℕ) → x ≡ denied k p → (k ≡ 22) ⊎ (k ≡ 23) → Range N n × Waits (view s) (at n) × (k ≡ pick (tags n) 22 23) × (p ≡ n)
 
     told-not : (b : Bool) (v : ℕ) → Held (pick b (answered v) taken)
     told-not true v k p e h = let z : _≡_ {A = ℕ} 0 1 = cc in absurd (omega arith)
     told-not false v k p e h = let z : _≡_ {A = ℕ} 0 1 = cc in absurd (omega arith)
 
-    cause-held : (c : Causes) → Held (refused (number c) (place c))
+    cause-held : (c : Causes) → Held (denied (number c) (place c))
     cause-held c k p e h =
         let i : number c ≡ k = cc in
         let j : place c ≡ p = cc in
@@ -114,15 +114,15 @@ module _ (apply : ℕ → List ℕ → ℕ) {F N : ℕ} {body at : ℕ → Expr}
 
     -- a node that moves isn't refused
     pub step-moves : Range N n → (view s .status (id (body F)) ≡ 3 → ⊥) → Moves (act apply body (home n) (view s) (at n))
-        → Accepted (step tags s n .answer)
-    step-moves r e a = step-cases apply F N body at home tags s n (λ r. Accepted (r .answer))
+        → IsTaken (step tags s n .answer)
+    step-moves r e a = step-cases apply F N body at home tags s n (λ r. IsTaken (r .answer))
         (λ c. ⊎-elim (λ x. e (eqb-true (view s .status (id (body F))) 3 (x .0))) (λ x. x .1 a) (sound-cause r c))
-        (λ q f m h. told-accepted (done (view (perform N home body s n m)) (id (body F)))
+        (λ q f m h. told-taken (done (view (perform N home body s n m)) (id (body F)))
         (view (perform N home body s n m) .value (id (body F))))
 
     -- a node that is able to in the abstract circuit
     pub step-able : (h : ℕ) → Fn F body h → (u : Expr) → Sub u (body h) → id u ≡ n → Able body (view s) u
-        → (view s .status (id (body F)) ≡ 3 → ⊥) → Accepted (step tags s n .answer)
+        → (view s .status (id (body F)) ≡ 3 → ⊥) → IsTaken (step tags s n .answer)
     step-able h q u p e a d = step-moves there d (subst (λ f. Moves (act apply body f (view s) (at n))) (sym (i .0))
         (subst (λ x. Moves (act apply body h (view s) x)) same (able-moves apply laid (view s) h q u a)))
       where
@@ -138,7 +138,7 @@ module _ (apply : ℕ → List ℕ → ℕ) {F N : ℕ} {body at : ℕ → Expr}
 
   -- while main's root isn't done, some node's step isn't refused
   pub some-step : (tags : ℕ → Bool) (s : State512) → Good F body s → (view s .status (id (body F)) ≡ 3 → ⊥)
-      → (n : ℕ) × Accepted (step tags s n .answer)
+      → (n : ℕ) × IsTaken (step tags s n .answer)
   some-step tags s good d =
       let x = progress body (view s) (laid .well) (good .sound) (fn-main laid) d in
       (id (x .2 .0), step-able tags s good (id (x .2 .0)) (x .0) (x .1) (x .2 .0) (x .2 .1) refl (x .2 .2) d)

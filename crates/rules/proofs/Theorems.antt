@@ -12,7 +12,7 @@ use Rattle.table.specs.Expressions.{exprAt, bodyOf}
 use Rattle.table.specs.Pick.{pick}
 use Rattle.list.specs.Tags.{checkWith, tagsOf, Holding}
 use Rattle.rules.specs.State.{State512, Sized, In, entry, circuitStart}
-use Rattle.rules.specs.Step.{refused, refusal}
+use Rattle.rules.specs.Step.{denied, refusal}
 use Rattle.rules.specs.Play.{Ask, count, calls}
 use Rattle.rules.specs.Circuit.{started, startOf, stepOf, playsOf, playOf, entriesOf, leavingsOf, Possible}
 use Rattle.rules.specs.Runs.{standing, runOf, RunPlays, MainDone, mainValue, Driven, Drives, Found, nothing, Finds}
@@ -34,7 +34,7 @@ demand = Demands.demand
 -- its parts
 module _ (t tags args : List ℕ) (s : State512) (start : startOf t tags args ≡ started s) (holds : Holding t tags) (ns : List ℕ) where
   -- no step is refused 23
-  pub arbitrated : (place : ℕ) → In (refused 23 place) (playOf t tags s ns .answers) → ⊥
+  pub arbitrated : (place : ℕ) → In (denied 23 place) (playOf t tags s ns .answers) → ⊥
   arbitrated = demand t tags args s start holds ns .arbitrated
 
   -- "a resource's entries are never more than one above its leavings": after every prefix, counted by the steps taken at calls,
@@ -127,7 +127,7 @@ module _ (t tags : List ℕ) where
   step-keeps = AnyState.step-keeps t tags
 
   -- "The state is unchanged by a refusal"
-  pub refused-unchanged : (s : State512) (n k p : ℕ) → stepOf t tags s n .answer ≡ refused k p → stepOf t tags s n ≡ refusal s k p
+  pub refused-unchanged : (s : State512) (n k p : ℕ) → stepOf t tags s n .answer ≡ denied k p → stepOf t tags s n ≡ refusal s k p
   refused-unchanged = AnyState.refused-unchanged t tags
 
   -- a step keeps a state whose values and registers are 32-bit

@@ -76,9 +76,9 @@ AgreePast t s s′ = Agree (λ n. nodes t < n) (λ f. functions t < f) (view s) 
 -- a run over the list ms, after steps asked at the numbers `ns` from a start, and what it tells
 -- "The steps of a run are such steps, and the number it tells is that of the steps taken in it"
 pub record RunDemand (t tags : List ℕ) (s : State512) (ns ms : List ℕ) (r : Ran) : Type 0 where
-  pub state : r .state ≡ playOf t tags s (ns ++ take (r .taken) ms) .state
-  pub steps : playOf t tags s (ns ++ take (r .taken) ms) .nodes ≡ playOf t tags s ns .nodes ++ take (r .taken) ms
-  pub number : r .taken ≡ length (take (r .taken) ms)
+  pub state : r .state ≡ playOf t tags s (ns ++ take (r .steps) ms) .state
+  pub steps : playOf t tags s (ns ++ take (r .steps) ms) .nodes ≡ playOf t tags s ns .nodes ++ take (r .steps) ms
+  pub number : r .steps ≡ length (take (r .steps) ms)
 
 -- a run with a budget, after steps asked at the numbers `ns` from a start; it picks the steps `picked`
 pub record DriveDemand (t tags args : List ℕ) (s : State512) (ns : List ℕ) (r : Driven) : Type 0 where
@@ -86,9 +86,9 @@ pub record DriveDemand (t tags args : List ℕ) (s : State512) (ns : List ℕ) (
   -- "The steps of a run are such steps, and the number it tells is that of the steps taken in it"
   pub state : r .state ≡ playOf t tags s (ns ++ picked) .state
   pub steps : playOf t tags s (ns ++ picked) .nodes ≡ playOf t tags s ns .nodes ++ picked
-  pub number : r .taken ≡ length picked
+  pub number : r .steps ≡ length picked
   -- its answer is the reading's, and all steps since the start are its count
-  pub right : (v : ℕ) → r .ended ≡ gave v → ReadsTo t args v (length (playOf t tags s ns .nodes) + r .taken)
+  pub right : (v : ℕ) → r .ended ≡ gave v → ReadsTo t args v (length (playOf t tags s ns .nodes) + r .steps)
   -- it never says at rest: before main answers some step is possible, and an answer is looked at first
   pub never-rests : r .ended ≡ atRest → ⊥
   pub never-barred : (number place : ℕ) → r .ended ≡ barred number place → ⊥

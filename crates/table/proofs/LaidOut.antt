@@ -4,7 +4,7 @@ use mathlib.Core.Path.{_≡_, refl, subst, sym, ap, _∙_}
 use mathlib.Core.List.{List}
 use native.Mathlib.Omega.{arith}
 use lib.ListN.{length}
-use Rattle.table.specs.Syntax.{Expr, Sub, Exprs, call, none, some, id, size, width, roots}
+use Rattle.table.specs.Syntax.{Expr, Sub, Exprs, call, none, some, id, size, arity, roots}
 use Rattle.table.specs.Well.{Fn, Laid, CallIn}
 use Rattle.table.proofs.CallPlaces.{call-node, call-at}
 use Rattle.table.specs.Bytes.{functions, nodes, params, word, first}
@@ -29,10 +29,10 @@ module _ (t : List ℕ) (ok : Passed t) where
   few n f i j h = subst (λ k. k ≤ 8) (sym h ∙ ap length (sym (roots-kids t ok n i)) ∙ length-roots (exprsAt t (first t n)))
       (params-small t ok f j)
 
-  narrow-at : (n : ℕ) → IsNode t n → width (exprAt t n) ≤ 8
+  narrow-at : (n : ℕ) → IsNode t n → arity (exprAt t n) ≤ 8
   narrow-at n i = go (view t ok n i) (owner-in t (ok .linking) n i)
     where
-      go : View t n → IsFunction t (owner t n) → width (exprAt t n) ≤ 8
+      go : View t n → IsFunction t (owner t n) → arity (exprAt t n) ≤ 8
       go (is-const k z e) o = rw e (omega arith)
       go (is-param k z l e) o = rw e (omega arith)
       go (is-prim k q e) o = rw e (omega arith)
@@ -54,7 +54,7 @@ module _ (t : List ℕ) (ok : Passed t) where
     inside = λ f m i k. let r = node-owner t ok f m i k in (r .1, r .0 .0, r .0 .1);
     narrow = λ f u i s.
         let r = part-is t ok f i u s in
-        subst (λ x. width x ≤ 8) (sym (r .0)) (narrow-at (id u) (r .1));
+        subst (λ x. arity x ≤ 8) (sym (r .0)) (narrow-at (id u) (r .1));
   }
 
 -- the check's own F and N are the table's

@@ -3,7 +3,7 @@ use Prim.Native.Nat.{ℕ, _≤_, _<_}
 use mathlib.Core.Path.{_≡_}
 use mathlib.Core.Logic.{_⊎_}
 use Rattle.table.specs.Syntax.{Expr, Exprs, const, param, prim, call, self, cond, bind, bound, none, some, id, Node, Node*, Sub}
-use Rattle.table.specs.Syntax.{width}
+use Rattle.table.specs.Syntax.{arity}
 use Rattle.table.specs.Environment.{values, extend}
 use Rattle.table.specs.Pick.{Range}
 
@@ -72,19 +72,19 @@ Tail (bound n d) = Unit {0}
 -- the state holds what the environment says of each definiens in scope
 module _ (value : ℕ → ℕ) where
   abbrev mutual
-    pub Fits : Expr → (ℕ → ℕ) → Type 0
-    Fits (const n v) ρ = Unit {0}
-    Fits (param n i) ρ = Unit {0}
-    Fits (prim n op es) ρ = Fits* es ρ
-    Fits (call n g es) ρ = Fits* es ρ
-    Fits (self n es) ρ = Fits* es ρ
-    Fits (cond n a b c) ρ = Fits a ρ × Fits b ρ × Fits c ρ
-    Fits (bind n ds b) ρ = Fits* ds ρ × Fits b (extend ds (values value ds) ρ)
-    Fits (bound n d) ρ = ρ d ≡ value d
+    pub Sees : Expr → (ℕ → ℕ) → Type 0
+    Sees (const n v) ρ = Unit {0}
+    Sees (param n i) ρ = Unit {0}
+    Sees (prim n op es) ρ = Sees* es ρ
+    Sees (call n g es) ρ = Sees* es ρ
+    Sees (self n es) ρ = Sees* es ρ
+    Sees (cond n a b c) ρ = Sees a ρ × Sees b ρ × Sees c ρ
+    Sees (bind n ds b) ρ = Sees* ds ρ × Sees b (extend ds (values value ds) ρ)
+    Sees (bound n d) ρ = ρ d ≡ value d
 
-    pub Fits* : Exprs → (ℕ → ℕ) → Type 0
-    Fits* none ρ = Unit {0}
-    Fits* (some e es) ρ = Fits e ρ × Fits* es ρ
+    pub Sees* : Exprs → (ℕ → ℕ) → Type 0
+    Sees* none ρ = Unit {0}
+    Sees* (some e es) ρ = Sees e ρ × Sees* es ρ
 
 -- f is a function with a body
 abbrev pub Fn : ℕ → (ℕ → Expr) → ℕ → Type 0
@@ -97,7 +97,7 @@ pub record Well (F : ℕ) (body : ℕ → Expr) : Type 0 where
   pub nonzero : (f m : ℕ) → Fn F body f → Node m (body f) → m ≡ 0 → ⊥
   pub below : (f c g : ℕ) → Fn F body f → CallIn c g (body f) → (1 ≤ g) × (g < f)
   pub tail : (f : ℕ) → Fn F body f → Tail (body f)
-  pub fits : (f : ℕ) (value : ℕ → ℕ) → Fn F body f → Fits value (body f) (λ d. 0)
+  pub sees : (f : ℕ) (value : ℕ → ℕ) → Fn F body f → Sees value (body f) (λ d. 0)
 
 pub record Laid (F N : ℕ) (body at : ℕ → Expr) (home : ℕ → ℕ) : Type 0 where
   pub some-function : 1 ≤ F
@@ -108,4 +108,4 @@ pub record Laid (F N : ℕ) (body at : ℕ → Expr) (home : ℕ → ℕ) : Type
   pub placed : (n : ℕ) → Range N n → Sub (at n) (body (home n))
   pub number : (n : ℕ) → Range N n → id (at n) ≡ n
   pub inside : (f m : ℕ) → Fn F body f → Node m (body f) → (home m ≡ f) × (1 ≤ m) × (m ≤ N)
-  pub narrow : (f : ℕ) (u : Expr) → Fn F body f → Sub u (body f) → width u ≤ 8
+  pub narrow : (f : ℕ) (u : Expr) → Fn F body f → Sub u (body f) → arity u ≤ 8
