@@ -83,7 +83,8 @@ module _ (body : ℕ → Expr) (h : ℕ) (s s′ : View) where
   SameRead (prim n op es) = (s′ .status n ≡ s .status n) × Seen* s s′ es
   SameRead (call n g es) = (s′ .status n ≡ s .status n) × (s′ .second n ≡ s .second n) × Seen* s s′ es × Beside (call n g es)
   SameRead (self n es) = (s′ .status n ≡ s .status n) × Seen* s s′ es
-  SameRead (cond n a b c) = (s′ .status n ≡ s .status n) × (s′ .second n ≡ s .second n) × Seen s s′ (id a) × Seen s s′ (id b) × Seen s s′ (id c)
+  SameRead (cond n a b c) =
+      (s′ .status n ≡ s .status n) × (s′ .second n ≡ s .second n) × Seen s s′ (id a) × Seen s s′ (id b) × Seen s s′ (id c)
   SameRead (bind n ds b) = (s′ .status n ≡ s .status n) × (s′ .second n ≡ s .second n) × Seen* s s′ ds × Seen s s′ (id b)
 
   pub read-own : (u : Expr) → ((m : ℕ) → Node m u → Same s s′ m) → Beside u → SameRead u

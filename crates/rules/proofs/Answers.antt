@@ -116,8 +116,8 @@ module _ {apply : ℕ → List ℕ → ℕ} {F : ℕ} {body : ℕ → Expr} (wel
         act f q (inr a) (no e) = absurd (a (asleep s d r h (suc F) f (omega arith) q e))
 
     -- the third demand's last sentence
-    pub answer : (s s′ : View) (args : List ℕ) (n : ℕ) → Fn F body F → Started F body s args → Steps apply F body s s′ n → s′ .status (id (body F)) ≡ 3
-        → K F args (s′ .value (id (body F))) n
+    pub answer : (s s′ : View) (args : List ℕ) (n : ℕ) → Fn F body F → Started F body s args → Steps apply F body s s′ n
+        → s′ .status (id (body F)) ≡ 3 → K F args (s′ .value (id (body F))) n
     answer s s′ args n r st p h =
         let d = started-sound s args st in
         let d′ = steps-sound s s′ n d p in

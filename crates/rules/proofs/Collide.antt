@@ -148,7 +148,8 @@ module _ (F : ℕ) (body : ℕ → Expr) (s : View) (callee : ℕ → ℕ) (B : 
           fn = r;
           active = stepping sound h r (call n g es) p m .0;
           u = n;
-          goes = way n g n es (b .0) (finished* s es (first-phase s n g es b (stepping-live sound h r (call n g es) p m)) f) (inl refl) (body h) p;
+          goes = way n g n es (b .0) (finished* s es (first-phase s n g es b (stepping-live sound h r (call n g es) p m)) f) (inl refl)
+              (body h) p;
         } in
         collide (suc (F + F)) n (s .occupant g) here (o .0) (callees h n g r k ∙ sym (o .2) ∙ ap callee (o .3))
         (λ e. true≢false (sym (o .4) ∙ ap (s .second) (sym (o .3)) ∙ ap (s .second) (sym e) ∙ b .1))

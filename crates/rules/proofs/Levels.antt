@@ -110,8 +110,8 @@ module _ (apply : ℕ → List ℕ → ℕ) (body : ℕ → Expr) where
       sums : i ≡ 0 → j ≡ j + i
       sums z = omega arith
 
-      round : (o : Outcome) → Ends (readings apply body F) (suc t) o v i → Reads apply (readings apply body t) (λ x. getD vs x 0) (body (suc t)) (λ d. 0) o j
-          → Own t vs v (j + i)
+      round : (o : Outcome) → Ends (readings apply body F) (suc t) o v i
+          → Reads apply (readings apply body t) (λ x. getD vs x 0) (body (suc t)) (λ d. 0) o j → Own t vs v (j + i)
       round (val w) e z = subst (Own t vs v) (sums (e .1))
           (stops (subst (λ n. Reads apply (readings apply body t) (λ x. getD vs x 0) (body (suc t)) (λ d. 0) (val n) j) (sym (e .0)) z))
       round (again ws) e z = goes ws j i z (level-out F t v i ws (r .1) e) refl

@@ -57,8 +57,8 @@ module _ (apply : ℕ → List ℕ → ℕ) (args : ℕ → ℕ) (s s′ : View)
   Inner (self n es) = Open s n × Busy s′ n false × Opens* s s′ es
   Inner (cond n a b c) =
       (Open s n × Busy s′ n false × Opens s s′ a × Keeps s s′ b × Keeps s s′ c)
-      ⊎ (Busy s n false × (s .status (id a) ≡ 3) × Busy s′ n true × Keeps s s′ a × Chosen (Opens s s′ b × Keeps s s′ c) (Opens s s′ c × Keeps s s′ b)
-      (s .value (id a)))
+      ⊎ (Busy s n false × (s .status (id a) ≡ 3) × Busy s′ n true × Keeps s s′ a
+      × Chosen (Opens s s′ b × Keeps s s′ c) (Opens s s′ c × Keeps s s′ b) (s .value (id a)))
       ⊎ (Busy s n true × Chosen ((s .status (id b) ≡ 3) × Becomes s s′ n (s .value (id b))) ((s .status (id c) ≡ 3)
       × Becomes s s′ n (s .value (id c))) (s .value (id a)) × Keeps s s′ a × Keeps s s′ b × Keeps s s′ c)
   Inner (bind n ds b) =

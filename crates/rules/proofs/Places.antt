@@ -41,11 +41,13 @@ module _ (s : View) (u : Expr) (moving : Still s (id u) → ⊥) where
     sub-live (cond n a b c) (inr (inr (inl p))) (inl l) = absurd (idle-not s u moving b (l .2) p)
     sub-live (cond n a b c) (inr (inr (inl p))) (inr (inl l)) = absurd (idle-not s u moving b (l .2) p)
     sub-live (cond n a b c) (inr (inr (inl p))) (inr (inr l)) =
-        chosen-case (λ o. opened-live b (λ x. sub-live b p x) p (o .0)) (λ o. absurd (idle-not s u moving b (o .1) p)) (s .value (id a)) (l .2)
+        chosen-case (λ o. opened-live b (λ x. sub-live b p x) p (o .0)) (λ o. absurd (idle-not s u moving b (o .1) p))
+        (s .value (id a)) (l .2)
     sub-live (cond n a b c) (inr (inr (inr p))) (inl l) = absurd (idle-not s u moving c (l .3) p)
     sub-live (cond n a b c) (inr (inr (inr p))) (inr (inl l)) = absurd (idle-not s u moving c (l .3) p)
     sub-live (cond n a b c) (inr (inr (inr p))) (inr (inr l)) =
-        chosen-case (λ o. absurd (idle-not s u moving c (o .1) p)) (λ o. opened-live c (λ x. sub-live c p x) p (o .0)) (s .value (id a)) (l .2)
+        chosen-case (λ o. absurd (idle-not s u moving c (o .1) p)) (λ o. opened-live c (λ x. sub-live c p x) p (o .0))
+        (s .value (id a)) (l .2)
     sub-live (bind n ds b) (inl p) l = subst (Live s) (sym p) l
     sub-live (bind n ds b) (inr (inl p)) (inl l) = absurd (idle-not* s u moving ds (l .1) p)
     sub-live (bind n ds b) (inr (inl p)) (inr (inl l)) = sub-live* ds p (l .1)

@@ -65,8 +65,8 @@ module _ (apply : ℕ → List ℕ → ℕ) (body : ℕ → Expr) (K : Readings)
         y .0,
         d + y .1,
         y .2,
-        left-within apply K s s′ W W′ (s .register h) u d keeps expects (x .moving) local (body h) (apart x) (x .place) nowhere (y .0) (y .1)
-            (live x) (x .well .sees h (s .value) (x .fn))
+        left-within apply K s s′ W W′ (s .register h) u d keeps expects (x .moving) local (body h) (apart x) (x .place) nowhere (y .0)
+            (y .1) (live x) (x .well .sees h (s .value) (x .fn))
             (subst (λ r. Left apply K s′ W′ r (body h) nowhere (y .0) (y .1)) (fun-ext (g .1)) (y .3)),
         subst (λ v. Ends K h (y .0) v (y .2)) (ap W′ (g .0) ∙ e) (y .4),
         omega (arith, y .5),

@@ -46,7 +46,8 @@ module _ (apply : ℕ → List ℕ → ℕ) {F N : ℕ} {body at : ℕ → Expr}
       (laid .placed n r))) in
       (f, perform-does F N home (laid .functions) (laid .nodes) s sized body n m r f)
 
-  module _ (s : State512) (good : Good F body s) (n : ℕ) (r : Range N n) (m : Move) (here : act apply body (home n) (view s) (at n) ≡ does m) where
+  module _ (s : State512) (good : Good F body s) (n : ℕ) (r : Range N n) (m : Move)
+      (here : act apply body (home n) (view s) (at n) ≡ does m) where
     pub moved-step : StepAt apply F body (view s) (view (perform N home body s n m)) n
     moved-step =
         let t : View = view (perform N home body s n m) in
@@ -100,7 +101,8 @@ module _ (apply : ℕ → List ℕ → ℕ) {F N : ℕ} {body at : ℕ → Expr}
 
     pub step-waits : Held (step tags s n .answer)
     step-waits = step-cases apply F N body at home tags s n (λ r. Held (r .answer)) cause-held
-        (λ r e m h. told-not (done (view (perform N home body s n m)) (id (body F))) (view (perform N home body s n m) .value (id (body F))))
+        (λ r e m h. told-not (done (view (perform N home body s n m)) (id (body F)))
+        (view (perform N home body s n m) .value (id (body F))))
 
     -- main done: 20 at every node
     pub step-over : Range N n → view s .status (id (body F)) ≡ 3 → step tags s n ≡ refusal s 20 n

@@ -1,4 +1,4 @@
--- when a step is taken, when it is refused, and that a step taken is one of the abstract circuit
+-- what a node's act tells of it: its move is fair, a node that is able moves, and one that is blocked waits
 use Prim.Native.Nat.{ℕ, zero, suc, _≤_, _<_}
 use mathlib.Core.Bool.{Bool, true, false}
 use mathlib.Core.Path.{_≡_, refl, subst, sym}

@@ -1,24 +1,20 @@
--- the theorems on the circuit, for a reader: what is claimed, with document 01's words; the proofs are where each line points
-use Prim.Native.Nat.{ℕ, _+_, _≤_}
-use mathlib.Core.Bool.{true}
+-- the theorems on the circuit, for a reader: each with its statement, whose parts are the fields of the records in specs/
+use Prim.Native.Nat.{ℕ}
 use mathlib.Core.Path.{_≡_}
-use mathlib.Core.Logic.{_⊎_}
 use mathlib.Core.List.{List}
-use lib.Dec.{eqb}
-use lib.ListN.{length, take}
-use Rattle.table.specs.Bytes.{functions, nodes, params}
+use lib.ListN.{length}
+use Rattle.table.specs.Bytes.{functions, params}
 use Rattle.table.specs.Check.{accepted, checkOf}
-use Rattle.table.specs.Expressions.{exprAt, bodyOf}
-use Rattle.table.specs.Pick.{pick}
-use Rattle.list.specs.Tags.{checkWith, tagsOf, Holding}
-use Rattle.rules.specs.State.{State512, Sized, In, entry, circuitStart}
+use Rattle.table.specs.Expressions.{bodyOf}
+use Rattle.list.specs.Tags.{tagsOf}
+use Rattle.rules.specs.State.{State512, Sized, circuitStart}
 use Rattle.rules.specs.Step.{denied, refusal}
-use Rattle.rules.specs.Play.{Ask, count, calls}
-use Rattle.rules.specs.Circuit.{started, startOf, stepOf, playsOf, playOf, entriesOf, leavingsOf, Possible}
-use Rattle.rules.specs.Runs.{standing, runOf, RunPlays, MainDone, mainValue, Driven, Drives, Found, nothing, Finds}
+use Rattle.rules.specs.Play.{Ask}
+use Rattle.rules.specs.Circuit.{started, startOf, stepOf, playsOf, playOf}
+use Rattle.rules.specs.Runs.{standing, runOf, RunPlays, MainDone, Driven, Drives, Found, nothing, Finds}
 use Rattle.rules.specs.Reading.{ReadsTo}
 use Rattle.rules.specs.Demand.{Answers, DemandThree, ThirdDemand}
-use Rattle.rules.specs.Companions.{Phases, UnderAnyTags, AgreeWithin, AgreePast, RunDemand, DriveDemand, Word, Words, Bytes, Fits}
+use Rattle.rules.specs.Companions.{UnderAnyTags, AgreeWithin, AgreePast, RunDemand, DriveDemand, Word, Words, Bytes, Fits}
 use Rattle.rules.proofs.Demands as Demands
 use Rattle.rules.proofs.OwnList as OwnList
 use Rattle.rules.proofs.AnyState as AnyState
@@ -30,26 +26,6 @@ use Rattle.rules.proofs.ReadingFits as ReadingFits
 -- arbiter list, and every list ns of asked numbers, which "may be empty or go on past the answer", "0 and above N too"
 pub demand : ThirdDemand
 demand = Demands.demand
-
--- its parts
-module _ (t tags args : List ℕ) (s : State512) (start : startOf t tags args ≡ started s) (holds : Holding t tags) (ns : List ℕ) where
-  -- no step is refused 23
-  pub arbitrated : (place : ℕ) → In (denied 23 place) (playOf t tags s ns .answers) → ⊥
-  arbitrated = demand t tags args s start holds ns .arbitrated
-
-  -- "a resource's entries are never more than one above its leavings": after every prefix, counted by the steps taken at calls,
-  -- of which "the second, fifth and so on enter its callee, the third, sixth and so on leave it"
-  pub exclusive : (k f : ℕ) → 1 ≤ f → f ≤ functions t
-      → entriesOf t f (playOf t tags s (take k ns) .nodes) ≤ leavingsOf t f (playOf t tags s (take k ns) .nodes) + 1
-  exclusive = demand t tags args s start holds ns .exclusive
-
-  -- "Main has answered if a step of the list did", or "some step would be taken next": "a step asked then at some node isn't refused"
-  pub lively : ((v : ℕ) × Answers (playOf t tags s ns) v) ⊎ ((n : ℕ) × Possible t tags (playOf t tags s ns .state) n)
-  lively = demand t tags args s start holds ns .lively
-
-  -- main's value is the plain reading's, and the reading's count is the number of steps taken
-  pub right : (v : ℕ) → Answers (playOf t tags s ns) v → ReadsTo t args v (length (playOf t tags s ns .nodes))
-  right = demand t tags args s start holds ns .right
 
 -- every accepted table starts with its own list and main's number of arguments ..
 pub own-start : (t args : List ℕ) (F N : ℕ) → checkOf t ≡ accepted F N → length args ≡ params t (functions t)
@@ -73,47 +49,10 @@ pub under-any-tags : (t tags args : List ℕ) (s : State512) → startOf t tags 
     → UnderAnyTags t args s asked
 under-any-tags = Demands.under-any-tags
 
-module _ (t tags args : List ℕ) (s : State512) (start : startOf t tags args ≡ started s) (asked : List (Ask (List ℕ))) where
-  -- "entries to a function exceed its leavings by one while it is occupied and by none otherwise"
-  pub balance : (f : ℕ) → 1 ≤ f → f ≤ functions t → entriesOf t f (playsOf t s asked .nodes)
-      ≡ leavingsOf t f (playsOf t s asked .nodes) + pick (eqb (entry (playsOf t s asked .state .occupant) 0 f) 0) 0 1
-  balance = under-any-tags t tags args s start asked .balance
-
-  -- the count and the rules agree: of the steps taken at call c of f, the second, fifth, .. are those that enter f, the third, sixth, ..
-  -- those that leave it; a step at c would be taken next, `count c ..` were taken before
-  pub phases : (c f : ℕ) → 1 ≤ c → c ≤ nodes t → calls (exprAt t c) f ≡ true → (tags′ : List ℕ)
-      → Possible t tags′ (playsOf t s asked .state) c → Phases t (playsOf t s asked .state) c f (count c (playsOf t s asked .nodes))
-  phases = under-any-tags t tags args s start asked .phases
-
-  -- main's occupant stays 0
-  pub main-free : entry (playsOf t s asked .state .occupant) 0 (functions t) ≡ 0
-  main-free = under-any-tags t tags args s start asked .main-free
-
-  -- "where it never ends, main never answers"
-  pub never : ((v k : ℕ) → ReadsTo t args v k → ⊥) → (v : ℕ) → Answers (playsOf t s asked) v → ⊥
-  never = under-any-tags t tags args s start asked .never
-
-  -- after an answer every further step at a node is refused 20, and changes nothing
-  pub over : (v n F N : ℕ) (tags′ : List ℕ) → Answers (playsOf t s asked) v → 1 ≤ n → n ≤ nodes t → checkWith t tags′ ≡ accepted F N
-      → stepOf t tags′ (playsOf t s asked .state) n ≡ refusal (playsOf t s asked .state) 20 n
-  over = under-any-tags t tags args s start asked .over
-
-  -- main has answered exactly if its root is done, and with its value
-  pub answered-done : (v : ℕ) → Answers (playsOf t s asked) v → MainDone t (playsOf t s asked .state)
-      × (mainValue t (playsOf t s asked .state) ≡ v)
-  answered-done = under-any-tags t tags args s start asked .answered-done
-
-  pub done-answered : MainDone t (playsOf t s asked .state) → Answers (playsOf t s asked) (mainValue t (playsOf t s asked .state))
-  done-answered = under-any-tags t tags args s start asked .done-answered
-
-  -- 24 is never met
-  pub stands : (F N : ℕ) (tags′ : List ℕ) → checkWith t tags′ ≡ accepted F N
-      → standing t tags′ (playsOf t s asked .state) ≡ accepted (functions t) (nodes t)
-  stands = under-any-tags t tags args s start asked .stands
-
-  -- values and registers stay 32-bit
-  pub fits : Bytes t → Words args → Fits (playsOf t s asked .state)
-  fits b w = FitsProof.fits-from-start t tags args s start b w asked
+-- .. and values and registers stay 32-bit
+pub fits : (t tags args : List ℕ) (s : State512) → startOf t tags args ≡ started s → Bytes t → Words args
+    → (asked : List (Ask (List ℕ))) → Fits (playsOf t s asked .state)
+fits = FitsProof.fits-from-start
 
 -- In any state, also one that no start leads to
 module _ (t tags : List ℕ) where
