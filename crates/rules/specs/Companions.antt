@@ -1,4 +1,5 @@
--- what holds beside the third demand: under any tags, of a call's steps, of runs from a start, past N and F, of 32-bit values
+-- what holds beside the third demand: under any tags, of a call's steps, of runs from a start, past N and F, of 32-bit values, of the
+-- table's own list, of the reading
 use Prim.Native.Nat.{ℕ, _+_, _%_, _^_, _≤_, _<_}
 use mathlib.Core.Path.{_≡_}
 use mathlib.Core.Logic.{_⊎_}
@@ -7,17 +8,18 @@ use mathlib.Core.List.{List, _++_}
 use lib.Dec.{eqb}
 use lib.ListN.{length, getD, take}
 use Rattle.table.specs.Pick.{pick}
-use Rattle.table.specs.Bytes.{functions, nodes}
-use Rattle.table.specs.Check.{accepted}
-use Rattle.table.specs.Expressions.{exprAt}
-use Rattle.list.specs.Tags.{checkWith}
+use Rattle.table.specs.Bytes.{functions, nodes, params}
+use Rattle.table.specs.Check.{accepted, checkOf}
+use Rattle.table.specs.Expressions.{exprAt, bodyOf}
+use Rattle.list.specs.Tags.{checkWith, tagsOf}
 use Rattle.rules.specs.Reading.{ReadsTo}
-use Rattle.rules.specs.State.{State512, View, entry, view}
-use Rattle.rules.specs.Step.{does, enters, leaves, refusal}
+use Rattle.rules.specs.State.{State512, Sized, View, entry, view, circuitStart}
+use Rattle.rules.specs.Step.{denied, does, enters, leaves, refusal}
 use Rattle.rules.specs.Play.{Ask, count, calls}
-use Rattle.rules.specs.Circuit.{stepOf, playsOf, playOf, entriesOf, leavingsOf, Possible, actOf}
-use Rattle.rules.specs.Runs.{MainDone, mainValue, standing, gave, atRest, barred, Driven, Ran}
-use Rattle.rules.specs.Demand.{Answers}
+use Rattle.rules.specs.Circuit.{started, startOf, stepOf, playsOf, playOf, entriesOf, leavingsOf, Possible, actOf}
+use Rattle.rules.specs.Runs.{MainDone, mainValue, standing, gave, atRest, barred, Driven, Ran, runOf, RunPlays, Drives, Found}
+use Rattle.rules.specs.Runs.{nothing, Finds}
+use Rattle.rules.specs.Demand.{Answers, DemandThree}
 
 -- the steps at call node c of function f, k of them taken before: the next is the (k + 1)st
 pub record Phases (t : List ℕ) (s : State512) (c f k : ℕ) : Type 0 where
@@ -104,6 +106,55 @@ Words l = (i : ℕ) → Word (getD l i 0)
 abbrev pub Bytes : List ℕ → Type 0
 Bytes t = (i : ℕ) → getD t i 0 < 256
 
+-- values and registers are 32-bit
 pub record Fits (s : State512) : Type 0 where
   pub value : Words (s .value)
   pub registers : Words (s .registers)
+
+-- every accepted table starts with its own list and main's number of arguments ..
+abbrev pub OwnStart : Type 0
+OwnStart = (t args : List ℕ) (F N : ℕ) → checkOf t ≡ accepted F N → length args ≡ params t (functions t)
+    → startOf t (tagsOf t) args ≡ started (circuitStart (functions t) (bodyOf t) args)
+
+-- .. and the demand holds of that circuit, with no premise on the list
+abbrev pub OwnList : Type 0
+OwnList = (t args : List ℕ) (s : State512) → startOf t (tagsOf t) args ≡ started s → (ns : List ℕ) → DemandThree t (tagsOf t) args s ns
+
+-- the plain reading has one value and one count ..
+abbrev pub ReadingUnique : Type 0
+ReadingUnique = (t args : List ℕ) (v w k l : ℕ) → ReadsTo t args v k → ReadsTo t args w l → (v ≡ w) × (k ≡ l)
+
+-- .. and its value is a word, where table and arguments are
+abbrev pub ReadingWord : Type 0
+ReadingWord = (t args : List ℕ) (F N : ℕ) → checkOf t ≡ accepted F N → Bytes t → Words args → (v k : ℕ) → ReadsTo t args v k → Word v
+
+-- from a start with words every state is one of words, whatever the tags
+abbrev pub FitsFromStart : Type 0
+FitsFromStart = (t tags args : List ℕ) (s : State512) → startOf t tags args ≡ started s → Bytes t → Words args
+    → (asked : List (Ask (List ℕ))) → Fits (playsOf t s asked .state)
+
+-- of every state, also one that no start leads to
+pub record InAnyState (t tags : List ℕ) : Type 0 where
+  -- "A step ignores .. state entries past F and N": two states that agree up to them get one answer, and agree after it
+  pub step-ignores : (s s′ : State512) → Sized s → Sized s′ → AgreeWithin t s s′ → (n : ℕ)
+      → (stepOf t tags s n .answer ≡ stepOf t tags s′ n .answer) × AgreeWithin t (stepOf t tags s n .state) (stepOf t tags s′ n .state)
+  -- ".. and keeps" them
+  pub step-keeps : (s : State512) → Sized s → (n : ℕ) → AgreePast t s (stepOf t tags s n .state)
+  -- "The state is unchanged by a refusal"
+  pub refused-unchanged : (s : State512) (n k p : ℕ) → stepOf t tags s n .answer ≡ denied k p → stepOf t tags s n ≡ refusal s k p
+  -- a step keeps a state of words
+  pub step-fits : Bytes t → (s : State512) → Fits s → (n : ℕ) → Fits (stepOf t tags s n .state)
+  -- "once main's root is done the query says none"
+  pub query-over : (s : State512) (F N : ℕ) → standing t tags s ≡ accepted F N → MainDone t s → (r : Found) → Finds t tags s r → r ≡ nothing
+  -- "stops at the first refusal, and tells the steps taken and that refusal, if any", where table, tags and 24 are passed
+  pub run-plays : (s : State512) (ns : List ℕ) (F N : ℕ) → standing t tags s ≡ accepted F N → RunPlays t tags s ns (runOf t tags s ns)
+
+-- query and runs after steps asked at the numbers ns from a start; s is the state of a start with these arguments
+pub record AfterSteps (t tags args : List ℕ) (s : State512) (ns : List ℕ) : Type 0 where
+  -- a run over a list ms, and its steps as steps since the start
+  pub start-run : (ms : List ℕ) → RunPlays t tags (playOf t tags s ns .state) ms (runOf t tags (playOf t tags s ns .state) ms)
+  pub run-demand : (ms : List ℕ) → RunDemand t tags s ns ms (runOf t tags (playOf t tags s ns .state) ms)
+  -- a query says none only after the answer
+  pub start-query : Finds t tags (playOf t tags s ns .state) nothing → (v : ℕ) × Answers (playOf t tags s ns) v
+  -- a run with a budget
+  pub drive-demand : (budget : ℕ) (r : Driven) → Drives t tags (playOf t tags s ns .state) budget r → DriveDemand t tags args s ns r
