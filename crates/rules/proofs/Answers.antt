@@ -32,13 +32,13 @@ pub data Steps (apply : ℕ → List ℕ → ℕ) (F : ℕ) (body : ℕ → Expr
   then : {t u : View} {n : ℕ} → Steps apply F body s t n → Step apply F body t u → Steps apply F body s u (suc n)
 
 -- a started circuit: main's body new, every other body idle, every resource free
-pub record Started (F : ℕ) (body : ℕ → Expr) (s : View) (args : List ℕ) : Type 0 where
+pub record AtStart (F : ℕ) (body : ℕ → Expr) (s : View) (args : List ℕ) : Type 0 where
   pub main : New body s F
   pub others : (f : ℕ) → Fn F body f → (f ≡ F → ⊥) → Every (Still s) (body f)
   pub free : (f : ℕ) → s .occupant f ≡ 0
   pub arguments : (i : ℕ) → s .register F i ≡ getD args i 0
 
-pub started-sound : {F : ℕ} {body : ℕ → Expr} (s : View) (args : List ℕ) → Started F body s args → Sound F body s
+pub started-sound : {F : ℕ} {body : ℕ → Expr} (s : View) (args : List ℕ) → AtStart F body s args → Sound F body s
 started-sound {F} {body} s args st = record {
   opened = λ f q a. opened-f f a;
   rest = λ f q a. st .others f q (λ e. a (inl e));
@@ -116,7 +116,7 @@ module _ {apply : ℕ → List ℕ → ℕ} {F : ℕ} {body : ℕ → Expr} (wel
         act f q (inr a) (no e) = absurd (a (asleep s d r h (suc F) f (omega arith) q e))
 
     -- the third demand's last sentence
-    pub answer : (s s′ : View) (args : List ℕ) (n : ℕ) → Fn F body F → Started F body s args → Steps apply F body s s′ n
+    pub answer : (s s′ : View) (args : List ℕ) (n : ℕ) → Fn F body F → AtStart F body s args → Steps apply F body s s′ n
         → s′ .status (id (body F)) ≡ 3 → K F args (s′ .value (id (body F))) n
     answer s s′ args n r st p h =
         let d = started-sound s args st in

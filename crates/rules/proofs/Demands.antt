@@ -32,7 +32,7 @@ use Rattle.rules.proofs.Kept.{Kept, refused-kept, start-kept, kept-alik
 use Rattle.rules.proofs.Kept.{kept-main-free, kept-lively, kept-phases, kept-silent}
 use Rattle.rules.proofs.StepFacts.{Good}
 use Rattle.rules.proofs.Bounded.{over-none, status-bound, occupant-bound}
-use Rattle.rules.proofs.Kept as Steps
+use Rattle.rules.proofs.Kept as Lists
 
 -- what a start that was taken has passed
 pub record Passes (t tags args : List ℕ) (s : State512) : Type 0 where
@@ -130,7 +130,7 @@ module _ (t : List ℕ) (F N : ℕ) (check : checkOf t ≡ accepted F N) where
     more-kept l k a = go (checkWith t (a .tags))
       where
         go : (c : Verdict) → KeptFrom (logged l (a .node) (stepAfter c (l .state) (circuitOf t (a .tags) (l .state) (a .node))))
-        go (accepted F N) = Steps.more-kept operate lay (view s₀) l k (record { tags = tagged (a .tags); node = a .node })
+        go (accepted F N) = Lists.more-kept operate lay (view s₀) l k (record { tags = tagged (a .tags); node = a .node })
         go (refused i p) = refused-kept operate lay (view s₀) l k (a .node) i p
 
     plays-kept : (l : Log) → KeptFrom l → (asked : List (Ask (List ℕ))) → KeptFrom (plays (stepOf t) l asked)
@@ -146,9 +146,7 @@ module _ (t : List ℕ) (F N : ℕ) (check : checkOf t ≡ accepted F N) where
     unfolding entriesOf leavingsOf playsOf
     any-tags asked = record {
       balance = kept-balance operate lay args (main-few args number) l k;
-      phases = λ c f p q e tags a.
-          let x = kept-phases operate lay (view s₀) l k c f p q e (tagged tags) (possible-same tags (l .state) c a) in
-          record { entering = x .entering; entered = x .entered; leaving = x .leaving; left = x .left };
+      phases = λ c f p q e tags a. kept-phases operate lay (view s₀) l k c f p q e (tagged tags) (possible-same tags (l .state) c a);
       answered-done = k .said;
       done-answered = λ e. let x = k .says e in subst (λ v. Answers l v) (sym (k .said (x .0) (x .1) .1)) (x .1);
       lively = λ F N tags c.

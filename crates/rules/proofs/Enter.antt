@@ -45,9 +45,9 @@ module _ {F : ℕ} {body : ℕ → Expr} {s s′ : View} {h n g : ℕ} {es : Exp
   pub keeps-x : (m : ℕ) → (X m → ⊥) → Same s s′ m
   keeps-x m d = st .keeps m (λ e. d (inl e)) (λ k. d (inr k))
 
-  pub clear : (f : ℕ) → Fn F body f → (f ≡ h → ⊥) → (f ≡ g → ⊥) → (m : ℕ) → Node m (body f) → X m → ⊥
-  clear f q a b m k (inl e) = elsewhere x f q a m k (subst (λ y. Node y (body h)) (sym e) (node-h x))
-  clear f q a b m k (inr z) = b (x .well .owner f g m q (fn-g x) k z)
+  pub untouched : (f : ℕ) → Fn F body f → (f ≡ h → ⊥) → (f ≡ g → ⊥) → (m : ℕ) → Node m (body f) → X m → ⊥
+  untouched f q a b m k (inl e) = elsewhere x f q a m k (subst (λ y. Node y (body h)) (sym e) (node-h x))
+  untouched f q a b m k (inr z) = b (x .well .owner f g m q (fn-g x) k z)
 
   occupants : (f m : ℕ) → (m ≡ 0 → ⊥) → s .occupant f ≡ m → s′ .occupant f ≡ m
   occupants f m z e = go (ℕ-discrete f g)
@@ -84,13 +84,13 @@ module _ {F : ℕ} {body : ℕ → Expr} {s s′ : View} {h n g : ℕ} {es : Exp
       opened-f : (f : ℕ) → Fn F body f → Active F s′ f → Dec (f ≡ h) → Dec (f ≡ g) → Opened s′ (body f)
       opened-f f q a (yes e) d = subst (λ y. Opened s′ (body y)) (sym e) opened-h
       opened-f f q a (no e) (yes d) = subst (λ y. Opened s′ (body y)) (sym d) (inl (new-live s′ (body g) (st .new .0) (st .new .1)))
-      opened-f f q a (no e) (no d) = opened-over s s′ X keeps-x (λ f m k z e. occupants f m z e) (body f) (clear f q e d)
+      opened-f f q a (no e) (no d) = opened-over s s′ X keeps-x (λ f m k z e. occupants f m z e) (body f) (untouched f q e d)
           (x .sound .opened f q (active-over (sym (st .keepsFn f d .0)) a))
 
       rest-f : (f : ℕ) → Fn F body f → (Active F s′ f → ⊥) → Dec (f ≡ h) → Dec (f ≡ g) → Every (Still s′) (body f)
       rest-f f q a (yes e) d = absurd (a (active-over (st .keepsFn f (λ y. h≢g x (sym e ∙ y)) .0) (subst (Active F s) (sym e) (active x))))
       rest-f f q a (no e) (yes d) = absurd (a (inr (λ z. n≢0 x (sym (st .occupies) ∙ subst (λ y. s′ .occupant y ≡ 0) d z))))
-      rest-f f q a (no e) (no d) = still-over s s′ X keeps-x (body f) (clear f q e d)
+      rest-f f q a (no e) (no d) = still-over s s′ X keeps-x (body f) (untouched f q e d)
           (x .sound .rest f q (λ b. a (active-over (st .keepsFn f d .0) b)))
 
       not-x : (f c k : ℕ) → Fn F body k → CallIn c f (body k) → Busy s c true → X c → ⊥

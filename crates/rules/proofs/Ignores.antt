@@ -46,8 +46,8 @@ module _ (apply : ℕ → List ℕ → ℕ) {F N : ℕ} {body at : ℕ → Expr}
       (read-own body h s′ s u (λ m k. within h m r (sub-node u m (body h) p k)) (beside u p b))
 
 -- two answers that are one, with states that agree
-abbrev pub Alike : (F N : ℕ) → Stepped → Stepped → Type 0
-Alike F N x y = (x .answer ≡ y .answer) × Agree (Range N) (Range F) (view (x .state)) (view (y .state))
+abbrev pub OneAnswer : (F N : ℕ) → Stepped → Stepped → Type 0
+OneAnswer F N x y = (x .answer ≡ y .answer) × Agree (Range N) (Range F) (view (x .state)) (view (y .state))
 
 module _ (apply : ℕ → List ℕ → ℕ) {F N : ℕ} {body at : ℕ → Expr} {home : ℕ → ℕ} (laid : Laid F N body at home) (tags : ℕ → Bool)
     (s s′ : State512) (z : Sized s) (z′ : Sized s′) (agree : Agree (Range N) (Range F) (view s) (view s′)) (n : ℕ)
@@ -55,15 +55,15 @@ module _ (apply : ℕ → List ℕ → ℕ) {F N : ℕ} {body at : ℕ → Expr}
   main-in : Range N (id (body F))
   main-in = let i = laid .inside F (id (body F)) (fn-main laid) (node-id (body F)) in (i .1, i .2)
 
-  both-tests : (b b′ : Bool) (x x′ y y′ : Stepped) → b ≡ b′ → Alike F N x x′ → (b ≡ false → Alike F N y y′) → Alike F N (pick b x y)
+  both-tests : (b b′ : Bool) (x x′ y y′ : Stepped) → b ≡ b′ → OneAnswer F N x x′ → (b ≡ false → OneAnswer F N y y′) → OneAnswer F N (pick b x y)
       (pick b′ x′ y′)
-  both-tests b b′ x x′ y y′ e f g = subst (λ c. Alike F N (pick b x y) (pick c x′ y′)) e (go b refl)
+  both-tests b b′ x x′ y y′ e f g = subst (λ c. OneAnswer F N (pick b x y) (pick c x′ y′)) e (go b refl)
     where
-      go : (c : Bool) → b ≡ c → Alike F N (pick c x y) (pick c x′ y′)
+      go : (c : Bool) → b ≡ c → OneAnswer F N (pick c x y) (pick c x′ y′)
       go true q = f
       go false q = g q
 
-  outcome-agree : (a : Act) → Alike F N (outcome apply F N body at home tags s n a) (outcome apply F N body at home tags s′ n a)
+  outcome-agree : (a : Act) → OneAnswer F N (outcome apply F N body at home tags s n a) (outcome apply F N body at home tags s′ n a)
   outcome-agree stuck = (refl, agree)
   outcome-agree blocked = (refl, agree)
   outcome-agree (does m) =
@@ -72,7 +72,7 @@ module _ (apply : ℕ → List ℕ → ℕ) {F N : ℕ} {body at : ℕ → Expr}
       let v = x .value (id (body F)) main-in in
       ((λ i. pick (eqb (p i) 3) (answered (v i)) taken), x)
 
-  pub step-agree : Alike F N (circuitStep apply F N body at home tags s n) (circuitStep apply F N body at home tags s′ n)
+  pub step-agree : OneAnswer F N (circuitStep apply F N body at home tags s n) (circuitStep apply F N body at home tags s′ n)
   unfolding circuitStep
   step-agree =
       both-tests (eqb n 0) (eqb n 0) _ _ _ _ refl (refl, agree)
@@ -83,7 +83,7 @@ module _ (apply : ℕ → List ℕ → ℕ) {F N : ℕ} {body at : ℕ → Expr}
       (over-agree N F (s .occupant) (s′ .occupant) (λ f p q. agree .occupant f (p, q))) (refl, agree)
       (λ e3. both-tests (done (view s) (id (body F))) (done (view s′) (id (body F))) _ _ _ _
       (ap (λ x. eqb x 3) (agree .status (id (body F)) main-in)) (refl, agree)
-      (λ e4. subst (λ a. Alike F N (outcome apply F N body at home tags s n (act apply body (home n) (view s) (at n)))
+      (λ e4. subst (λ a. OneAnswer F N (outcome apply F N body at home tags s n (act apply body (home n) (view s) (at n)))
       (outcome apply F N body at home tags s′ n a)) (acts (there e0 e1)) (outcome-agree (act apply body (home n) (view s) (at n))))))))
     where
       there : eqb n 0 ≡ false → ltb N n ≡ false → Range N n

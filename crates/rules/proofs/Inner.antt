@@ -23,8 +23,8 @@ module _ {apply : ℕ → List ℕ → ℕ} {F : ℕ} {body : ℕ → Expr} {s s
   holds : (g m : ℕ) → (Node m u → ⊥) → (m ≡ 0 → ⊥) → s .occupant g ≡ m → s′ .occupant g ≡ m
   holds g m k z e = st .keepsFn g .0 ∙ e
 
-  clear : (f : ℕ) → Fn F body f → (f ≡ h → ⊥) → (m : ℕ) → Node m (body f) → Node m u → ⊥
-  clear f q e m a b = elsewhere x f q e m a (sub-node u m (body h) (st .place) b)
+  untouched : (f : ℕ) → Fn F body f → (f ≡ h → ⊥) → (m : ℕ) → Node m (body f) → Node m u → ⊥
+  untouched f q e m a b = elsewhere x f q e m a (sub-node u m (body h) (st .place) b)
 
   pub inner-sound : Sound F body s′
   inner-sound = record {
@@ -38,12 +38,12 @@ module _ {apply : ℕ → List ℕ → ℕ} {F : ℕ} {body : ℕ → Expr} {s s
       opened-f f q a (yes e) = subst (λ y. Opened s′ (body y)) (sym e)
           (within s s′ u (st .keeps) holds (x .moving) (inner-live s s′ apply (s .register h) u (st .rule)) (body h) (apart x) (st .place)
           (live x))
-      opened-f f q a (no e) = opened-over s s′ (λ m. Node m u) (st .keeps) holds (body f) (clear f q e)
+      opened-f f q a (no e) = opened-over s s′ (λ m. Node m u) (st .keeps) holds (body f) (untouched f q e)
           (x .sound .opened f q (active-over (sym (st .keepsFn f .0)) a))
 
       rest-f : (f : ℕ) → Fn F body f → (Active F s′ f → ⊥) → Dec (f ≡ h) → Every (Still s′) (body f)
       rest-f f q a (yes e) = absurd (a (active-over (st .keepsFn f .0) (subst (Active F s) (sym e) (active x))))
-      rest-f f q a (no e) = still-over s s′ (λ m. Node m u) (st .keeps) (body f) (clear f q e)
+      rest-f f q a (no e) = still-over s s′ (λ m. Node m u) (st .keeps) (body f) (untouched f q e)
           (x .sound .rest f q (λ b. a (active-over (st .keepsFn f .0) b)))
 
       not-u : (f c g : ℕ) → Fn F body g → CallIn c f (body g) → Busy s c true → Node c u → ⊥

@@ -22,7 +22,7 @@ use Rattle.list.specs.Conflict.{C}
 use Rattle.rules.proofs.Invariant.{Sound}
 use Rattle.rules.proofs.Collide.{waiting-listed}
 use Rattle.rules.proofs.Remaining.{Closes}
-use Rattle.rules.proofs.Answers.{Steps, rest, then, Started, started-sound, answer}
+use Rattle.rules.proofs.Answers.{Steps, rest, then, AtStart, started-sound, answer}
 use Rattle.rules.specs.Step.{taken, answered, denied, refusal, circuitStep, Move, does, act, done, perform}
 use Rattle.rules.proofs.StepTaken.{Waits}
 use Rattle.rules.proofs.StepCases.{number, place, step-cases}
@@ -31,7 +31,8 @@ use Rattle.rules.proofs.Thirds.{third, third-rest}
 use Rattle.rules.specs.Play.{Ask, Log, count, calls, entries, leavings, IsTaken}
 use Rattle.rules.proofs.Logs.{begin, logged, more, Alike}
 use Rattle.rules.proofs.Occupied.{Phased, moved-phased, call-phase, entries-leavings, entries-one}
-use Rattle.rules.proofs.Phases.{PhasesOf, step-phases}
+use Rattle.rules.specs.Companions.{Phases}
+use Rattle.rules.proofs.Phases.{step-phases}
 use Rattle.list.specs.CallSets.{callee, callee-at, sets, Listed}
 use Rattle.list.proofs.CallSetFacts.{body-calls}
 use Rattle.rules.proofs.StartFacts.{start-sized, start-started, start-rest, open-root}
@@ -127,7 +128,7 @@ module _ (apply : ℕ → List ℕ → ℕ) {F N : ℕ} {body at : ℕ → Expr}
     abbrev s₀ : View
     s₀ = view (circuitStart F body args)
 
-    started : Started F body s₀ args
+    started : AtStart F body s₀ args
     started = start-started laid args few
 
     no-steps : (c : ℕ) → count c [] % 3 ≡ 0
@@ -158,10 +159,10 @@ module _ (apply : ℕ → List ℕ → ℕ) {F N : ℕ} {body at : ℕ → Expr}
 
       pub kept-balance : (f : ℕ) → 1 ≤ f → f ≤ F
           → entries N at f (l .nodes) ≡ leavings N at f (l .nodes) + pick (eqb (view (l .state) .occupant f) 0) 0 1
-      kept-balance f p q = entries-leavings apply laid (view (l .state)) (k .good .sound) f (p, q) (l .nodes) (k .phased)
+      kept-balance f p q = entries-leavings laid (view (l .state)) (k .good .sound) f (p, q) (l .nodes) (k .phased)
 
       pub kept-one : (f : ℕ) → 1 ≤ f → f ≤ F → entries N at f (l .nodes) ≤ leavings N at f (l .nodes) + 1
-      kept-one f p q = entries-one apply laid (view (l .state)) (k .good .sound) f (p, q) (l .nodes) (k .phased)
+      kept-one f p q = entries-one laid (view (l .state)) (k .good .sound) f (p, q) (l .nodes) (k .phased)
 
   -- what such a state says of a step
   module _ (s₀ : View) (l : Log) (k : Kept s₀ l) where
@@ -193,9 +194,9 @@ module _ (apply : ℕ → List ℕ → ℕ) {F N : ℕ} {body at : ℕ → Expr}
     -- of the steps taken at a call, those that enter and those that leave
     pub kept-phases : (c f : ℕ) → 1 ≤ c → c ≤ N → calls (at c) f ≡ true → (tags : ℕ → Bool)
         → IsTaken (circuitStep apply F N body at home tags (l .state) c .answer)
-        → PhasesOf (act apply body (home c) (view (l .state)) (at c)) f (count c (l .nodes))
+        → Phases (act apply body (home c) (view (l .state)) (at c)) f (count c (l .nodes))
     kept-phases c f p q e tags a = step-phases apply laid tags (l .state) c f (p, q) e a (count c (l .nodes))
-        (call-phase apply laid (view (l .state)) c f p q e (l .nodes) (k .phased))
+        (call-phase laid (view (l .state)) c f p q e (l .nodes) (k .phased))
 
   -- a call that waits at an occupied resource is listed
   waits-listed : (s : View) → Sound F body s → (n : ℕ) → Range N n → Waits s (at n) → Listed body at F n

@@ -32,8 +32,8 @@ module _ {F : ℕ} {body : ℕ → Expr} {s s′ : View} {h n g : ℕ} {es : Exp
   asleep (inl e) = F≢g x (sym e)
   asleep (inr z) = z (st .frees)
 
-  pub clear : (f : ℕ) → Fn F body f → (f ≡ h → ⊥) → (m : ℕ) → Node m (body f) → m ≡ n → ⊥
-  clear f q a m k e = elsewhere x f q a m k (subst (λ y. Node y (body h)) (sym e) (node-h x))
+  pub untouched : (f : ℕ) → Fn F body f → (f ≡ h → ⊥) → (m : ℕ) → Node m (body f) → m ≡ n → ⊥
+  untouched f q a m k e = elsewhere x f q a m k (subst (λ y. Node y (body h)) (sym e) (node-h x))
 
   -- one call calls one function
   pub one-callee : (f c k : ℕ) → Fn F body k → (f ≡ g → ⊥) → CallIn c f (body k) → c ≡ n → ⊥
@@ -77,15 +77,15 @@ module _ {F : ℕ} {body : ℕ → Expr} {s s′ : View} {h n g : ℕ} {es : Exp
           (within s s′ (call n g es) (λ m k. st .keeps m (λ e. k (inl e))) (λ f m k z e. occupants f m (λ y. k (inl y)) e) (x .moving) left
           (body h) (apart x) (st .place) (live x))
       opened-f f q a (no e) (yes d) = absurd (asleep (subst (Active F s′) d a))
-      opened-f f q a (no e) (no d) = opened-over s s′ (λ m. m ≡ n) (st .keeps) (λ f m k z e. occupants f m k e) (body f) (clear f q e)
+      opened-f f q a (no e) (no d) = opened-over s s′ (λ m. m ≡ n) (st .keeps) (λ f m k z e. occupants f m k e) (body f) (untouched f q e)
           (x .sound .opened f q (active-over (sym (st .keepsFn f d .0)) a))
 
       rest-f : (f : ℕ) → Fn F body f → (Active F s′ f → ⊥) → Dec (f ≡ h) → Dec (f ≡ g) → Every (Still s′) (body f)
       rest-f f q a (yes e) d = absurd (a (active-over (st .keepsFn f (λ y. h≢g x (sym e ∙ y)) .0) (subst (Active F s) (sym e) (active x))))
       rest-f f q a (no e) (yes d) =
           subst (λ y. Every (Still s′) (body y)) (sym d) (still-over s s′ (λ m. m ≡ n) (st .keeps) (body g)
-          (clear g (fn-g x) (λ y. h≢g x (sym y))) (done-g .1))
-      rest-f f q a (no e) (no d) = still-over s s′ (λ m. m ≡ n) (st .keeps) (body f) (clear f q e)
+          (untouched g (fn-g x) (λ y. h≢g x (sym y))) (done-g .1))
+      rest-f f q a (no e) (no d) = still-over s s′ (λ m. m ≡ n) (st .keeps) (body f) (untouched f q e)
           (x .sound .rest f q (λ b. a (active-over (st .keepsFn f d .0) b)))
 
       held-f : (f c : ℕ) → Fn F body f → s′ .occupant f ≡ c → (c ≡ 0 → ⊥) → Dec (f ≡ g) → Holder F body s′ f c

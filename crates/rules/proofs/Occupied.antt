@@ -44,6 +44,17 @@ thirds-split k t e = omega arith
 abbrev pub Phased : ℕ → (ℕ → Expr) → View → List ℕ → Type 0
 Phased F body s ns = (f c g : ℕ) → Fn F body f → CallIn c g (body f) → count c ns % 3 ≡ third s c
 
+-- an expression that calls f is a call of it
+pub calls-call : (u : Expr) (f : ℕ) → calls u f ≡ true → (n : ℕ) × (es : Exprs) × (u ≡ call n f es)
+calls-call (const n v) f e = absurd (true≢false (sym e))
+calls-call (param n i) f e = absurd (true≢false (sym e))
+calls-call (prim n op es) f e = absurd (true≢false (sym e))
+calls-call (call n g es) f e = (n, es, ap (λ x. call n x es) (eqb-true g f e))
+calls-call (self n es) f e = absurd (true≢false (sym e))
+calls-call (cond n a b c) f e = absurd (true≢false (sym e))
+calls-call (bind n ds b) f e = absurd (true≢false (sym e))
+calls-call (bound n d) f e = absurd (true≢false (sym e))
+
 module _ (apply : ℕ → List ℕ → ℕ) {F N : ℕ} {body at : ℕ → Expr} {home : ℕ → ℕ} (laid : Laid F N body at home) where
   module _ (s : State512) (good : Good F body s) (n : ℕ) (r : Range N n) (m : Move)
       (here : act apply body (home n) (view s) (at n) ≡ does m) where
@@ -72,16 +83,7 @@ module _ (apply : ℕ → List ℕ → ℕ) {F N : ℕ} {body at : ℕ → Expr}
             ∙ sym (third-other apply laid (view s) (view (perform N home body s n m)) (good .sound) f c g n q i m x
             (moved-step apply laid s good n r m here .0) (moved-step apply laid s good n r m here .1) e)
 
-  pub calls-call : (u : Expr) (f : ℕ) → calls u f ≡ true → (n : ℕ) × (es : Exprs) × (u ≡ call n f es)
-  calls-call (const n v) f e = absurd (true≢false (sym e))
-  calls-call (param n i) f e = absurd (true≢false (sym e))
-  calls-call (prim n op es) f e = absurd (true≢false (sym e))
-  calls-call (call n g es) f e = (n, es, ap (λ x. call n x es) (eqb-true g f e))
-  calls-call (self n es) f e = absurd (true≢false (sym e))
-  calls-call (cond n a b c) f e = absurd (true≢false (sym e))
-  calls-call (bind n ds b) f e = absurd (true≢false (sym e))
-  calls-call (bound n d) f e = absurd (true≢false (sym e))
-
+module _ {F N : ℕ} {body at : ℕ → Expr} {home : ℕ → ℕ} (laid : Laid F N body at home) where
   -- a node that calls f, as a call of its function's body
   pub called : (c f : ℕ) → 1 ≤ c → c ≤ N → calls (at c) f ≡ true → (es : Exprs) × Sub (call c f es) (body (home c))
   called c f p q e =

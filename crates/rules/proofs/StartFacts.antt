@@ -10,7 +10,7 @@ use lib.ListN.{length, getD, length-replicate}
 use Rattle.table.specs.Syntax.{Expr, id, Node}
 use Rattle.rules.proofs.Shape.{Still, Idle}
 use Rattle.table.proofs.SyntaxLaws.{node-id}
-use Rattle.rules.proofs.Answers.{Started}
+use Rattle.rules.proofs.Answers.{AtStart}
 use Rattle.rules.proofs.StateLaws.{length-write, length-fill, entry-same, entry-other, fill-mine}
 use Rattle.rules.specs.State.{Sized, entry, view, blank, circuitStart}
 use Rattle.table.specs.Well.{Fn, Laid}
@@ -71,7 +71,7 @@ module _ {F N : ℕ} {body at : ℕ → Expr} {home : ℕ → ℕ} (laid : Laid 
   unfolding circuitStart
   given h i = fill-mine F args (blank 256 0) i (laid .some-function) (laid .functions) (length-blank 256 0) h
 
-  pub start-started : length args ≤ 8 → Started F body (view (circuitStart F body args)) args
+  pub start-started : length args ≤ 8 → AtStart F body (view (circuitStart F body args)) args
   start-started h = record {
     main = (
       (open-root, no-second (id (body F))),

@@ -96,7 +96,7 @@ module _ (apply : ℕ → List ℕ → ℕ) {F : ℕ} {body : ℕ → Expr} (K :
         others f q a e (yes d) =
             subst (λ y. Rest apply body K s W₁ y (W₁ (s .occupant y)) (R′ y)) (sym d)
             (subst (Rest apply body K s W₁ g (W₁ (s .occupant g))) (sym (after .rest g (fn-g x) (Leave.asleep x st))) over)
-        others f q a e (no d) = rest-aside apply body K s s′ W₁ W′ (λ m. m ≡ n) (st .keeps) W₁-other f (R′ f) (Leave.clear x st f q e)
+        others f q a e (no d) = rest-aside apply body K s s′ W₁ W′ (λ m. m ≡ n) (st .keeps) W₁-other f (R′ f) (Leave.untouched x st f q e)
             (st .keepsFn f d) (other f q d) (still f q (st .keepsFn f d .0) a)
 
         rest : (f : ℕ) → Fn F body f → (Active F s f → ⊥) → Dec (f ≡ g) → R′ f ≡ 0
@@ -166,7 +166,7 @@ module _ (apply : ℕ → List ℕ → ℕ) {F : ℕ} {body : ℕ → Expr} (K :
           others f q a e (yes d) = absurd (Enter.asleep x st (subst (Active F s) d a))
           others f q a e (no d) =
               subst (Rest apply body K s W′ f (W′ (s .occupant f))) (sym (R₁-other f d))
-              (rest-aside apply body K s s′ W′ W′ (Enter.X x st) (Enter.keeps-x x st) (λ m y. refl) f (R′ f) (Enter.clear x st f q e d)
+              (rest-aside apply body K s s′ W′ W′ (Enter.X x st) (Enter.keeps-x x st) (λ m y. refl) f (R′ f) (Enter.untouched x st f q e d)
               (st .keepsFn f d) refl (still f q (st .keepsFn f d .0) a))
 
           rest : (f : ℕ) → Fn F body f → (Active F s f → ⊥) → Dec (f ≡ g) → R₁ f ≡ 0

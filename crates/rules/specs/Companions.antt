@@ -14,21 +14,21 @@ use Rattle.table.specs.Expressions.{exprAt, bodyOf}
 use Rattle.list.specs.Tags.{checkWith, tagsOf}
 use Rattle.rules.specs.Reading.{ReadsTo}
 use Rattle.rules.specs.State.{State512, Sized, View, entry, view, circuitStart}
-use Rattle.rules.specs.Step.{denied, does, enters, leaves, refusal}
+use Rattle.rules.specs.Step.{Act, denied, does, enters, leaves, refusal}
 use Rattle.rules.specs.Play.{Ask, count, calls}
 use Rattle.rules.specs.Circuit.{started, startOf, stepOf, playsOf, playOf, entriesOf, leavingsOf, Possible, actOf}
 use Rattle.rules.specs.Runs.{MainDone, mainValue, standing, gave, atRest, barred, Driven, Ran, runOf, RunPlays, Drives, Found}
 use Rattle.rules.specs.Runs.{nothing, Finds}
 use Rattle.rules.specs.Demand.{Answers, DemandThree}
 
--- the steps at call node c of function f, k of them taken before: the next is the (k + 1)st
-pub record Phases (t : List ℕ) (s : State512) (c f k : ℕ) : Type 0 where
+-- x is what the next step does at a call of function f, k of the call's steps taken before: it is the (k + 1)st
+pub record Phases (x : Act) (f k : ℕ) : Type 0 where
   -- "the second, fifth and so on enter its callee", and no other does
-  pub entering : k % 3 ≡ 1 → (vs : List ℕ) × (actOf t s c ≡ does (enters f vs))
-  pub entered : (g : ℕ) (vs : List ℕ) → actOf t s c ≡ does (enters g vs) → (k % 3 ≡ 1) × (g ≡ f)
+  pub entering : k % 3 ≡ 1 → (vs : List ℕ) × (x ≡ does (enters f vs))
+  pub entered : (g : ℕ) (vs : List ℕ) → x ≡ does (enters g vs) → (k % 3 ≡ 1) × (g ≡ f)
   -- "the third, sixth and so on leave it", and no other does
-  pub leaving : k % 3 ≡ 2 → (v : ℕ) × (actOf t s c ≡ does (leaves f v))
-  pub left : (g v : ℕ) → actOf t s c ≡ does (leaves g v) → (k % 3 ≡ 2) × (g ≡ f)
+  pub leaving : k % 3 ≡ 2 → (v : ℕ) × (x ≡ does (leaves f v))
+  pub left : (g v : ℕ) → x ≡ does (leaves g v) → (k % 3 ≡ 2) × (g ≡ f)
 
 -- under any tags, changing at every step, "its table being the table of every step"; s is the state of a start with these arguments
 pub record UnderAnyTags (t args : List ℕ) (s : State512) (asked : List (Ask (List ℕ))) : Type 0 where
@@ -38,7 +38,7 @@ pub record UnderAnyTags (t args : List ℕ) (s : State512) (asked : List (Ask (L
   -- the count and the rules agree: of the steps taken at a call, those that enter and those that leave
   pub phases : (c f : ℕ) → 1 ≤ c → c ≤ nodes t → calls (exprAt t c) f ≡ true
       → (tags : List ℕ) → Possible t tags (playsOf t s asked .state) c
-      → Phases t (playsOf t s asked .state) c f (count c (playsOf t s asked .nodes))
+      → Phases (actOf t (playsOf t s asked .state) c) f (count c (playsOf t s asked .nodes))
   -- main has answered exactly if its root is done, and with its value
   pub answered-done : (v : ℕ) → Answers (playsOf t s asked) v → MainDone t (playsOf t s asked .state)
       × (mainValue t (playsOf t s asked .state) ≡ v)
