@@ -7,6 +7,7 @@ use mathlib.Core.List.{List}
 use native.Mathlib.Omega.{arith}
 use Rattle.table.specs.Syntax.{Expr, Exprs, const, param, prim, call, self, cond, bind, bound, id, Node, Node*, Sub}
 use Rattle.rules.specs.State.{View}
+use Rattle.rules.proofs.LaidFacts.{callee-fn}
 use Rattle.rules.proofs.Shape.{Still, Busy, Done*, Live, Opened*, Opened, open-moves, busy-moves}
 use Rattle.rules.proofs.Frame.{Same}
 use Rattle.table.proofs.SyntaxLaws.{node-id, sub-node, every-node, apart-sub}
@@ -79,7 +80,7 @@ module _ {F : ℕ} {body : ℕ → Expr} {s : View} {h n g : ℕ} {es : Exprs} (
   g<h = x .well .below h n g (x .fn) in-h
 
   pub fn-g : Fn F body g
-  fn-g = (g<h .0, omega (arith, g<h .1, x .fn .1))
+  fn-g = callee-fn (x .well) h n g (x .fn) in-h
 
   pub n≢0 : n ≡ 0 → ⊥
   n≢0 = x .well .nonzero h n (x .fn) node-h

@@ -7,6 +7,7 @@ use native.Mathlib.Omega.{arith}
 use native.Mathlib.Decide.{ℕ-discrete, decLt}
 use Rattle.table.specs.Syntax.{Expr, Exprs, const, param, prim, call, self, cond, bind, bound, none, some, Sub, Sub*}
 use Rattle.rules.specs.State.{View}
+use Rattle.rules.proofs.LaidFacts.{callee-fn}
 use Rattle.rules.proofs.Shape.{Busy, Done*, busy-moves}
 use Rattle.rules.proofs.Moves.{Finished*, finished*}
 use Rattle.table.proofs.CallPlaces.{find, sub-call}
@@ -140,8 +141,7 @@ module _ (F : ℕ) (body : ℕ → Expr) (s : View) (callee : ℕ → ℕ) (B : 
         → Finished* s es → (s .occupant g ≡ 0 → ⊥) → Listed n
     waiting-listed h r n g es p b f z =
         let k = sub-call n g es (body h) p in
-        let g<h = well .below h n g r k in
-        let o = holder g (s .occupant g) (g<h .0, omega (arith, g<h .1, r .1)) z (inl refl) in
+        let o = holder g (s .occupant g) (callee-fn well h n g r k) z (inl refl) in
         let m = busy-moves s n (b .0) in
         let here : Walker n = record {
           f = h;
@@ -153,4 +153,4 @@ module _ (F : ℕ) (body : ℕ → Expr) (s : View) (callee : ℕ → ℕ) (B : 
         } in
         collide (suc (F + F)) n (s .occupant g) here (o .0) (callees h n g r k ∙ sym (o .2) ∙ ap callee (o .3))
         (λ e. true≢false (sym (o .4) ∙ ap (s .second) (sym (o .3)) ∙ ap (s .second) (sym e) ∙ b .1))
-        (omega (arith, callees h n g r k, o .1)) (omega (arith, o .2, g<h .1)) (omega arith)
+        (omega (arith, callees h n g r k, o .1)) (omega (arith, o .2, well .below h n g r k .1)) (omega arith)

@@ -7,7 +7,7 @@ use native.Mathlib.Decide.{ℕ-discrete}
 use Rattle.table.specs.Syntax.{Expr, Exprs, call, Every, Node, Node*}
 use Rattle.rules.specs.State.{View}
 use Rattle.rules.proofs.Shape.{Still, Busy, Live, Opened}
-use Rattle.rules.proofs.Frame.{Same, still-over, opened-over, done-over*}
+use Rattle.rules.proofs.Frame.{Same, still-over, opened-over, done-over*, Avoids}
 use Rattle.table.proofs.SyntaxLaws.{node?}
 use Rattle.rules.proofs.Within.{within}
 use Rattle.rules.proofs.Moves.{finished*}
@@ -45,7 +45,7 @@ module _ {F : ℕ} {body : ℕ → Expr} {s s′ : View} {h n g : ℕ} {es : Exp
   pub keeps-x : (m : ℕ) → (X m → ⊥) → Same s s′ m
   keeps-x m d = st .keeps m (λ e. d (inl e)) (λ k. d (inr k))
 
-  pub untouched : (f : ℕ) → Fn F body f → (f ≡ h → ⊥) → (f ≡ g → ⊥) → (m : ℕ) → Node m (body f) → X m → ⊥
+  pub untouched : (f : ℕ) → Fn F body f → (f ≡ h → ⊥) → (f ≡ g → ⊥) → Avoids X (body f)
   untouched f q a b m k (inl e) = elsewhere x f q a m k (subst (λ y. Node y (body h)) (sym e) (node-h x))
   untouched f q a b m k (inr z) = b (x .well .owner f g m q (fn-g x) k z)
 

@@ -14,7 +14,7 @@ use Rattle.table.proofs.CallPlaces.{sub-call}
 use Rattle.rules.specs.State.{View, State512, Sized, view}
 use Rattle.rules.specs.Step.{Act, stuck, blocked, does, done, act, over, taken, answered, Stepped, outcome, circuitStep}
 use Rattle.rules.specs.Companions.{Agree}
-use Rattle.rules.proofs.LaidFacts.{fn-main}
+use Rattle.rules.proofs.LaidFacts.{fn-main, callee-fn}
 use Rattle.rules.proofs.Frame.{Same}
 use Rattle.rules.proofs.ActSame.{Beside, act-same, read-own}
 use Rattle.rules.proofs.ListsAgree.{over-agree}
@@ -36,7 +36,7 @@ module _ (apply : ℕ → List ℕ → ℕ) {F N : ℕ} {body at : ℕ → Expr}
   beside (call n g es) p b = (λ z. let k = within g (id (body g)) fn-g (node-id (body g)) in (k .0, k .2), λ z. agree .occupant g fn-g)
     where
       fn-g : Range F g
-      fn-g = let g<h = laid .well .below h n g r (sub-call n g es (body h) p) in (g<h .0, omega (arith, g<h .1, r .1))
+      fn-g = callee-fn (laid .well) h n g r (sub-call n g es (body h) p)
   beside (self n es) p b = tt
   beside (cond n x y z) p b = tt
   beside (bind n ds e) p b = tt
@@ -55,8 +55,8 @@ module _ (apply : ℕ → List ℕ → ℕ) {F N : ℕ} {body at : ℕ → Expr}
   main-in : Range N (id (body F))
   main-in = let i = laid .inside F (id (body F)) (fn-main laid) (node-id (body F)) in (i .1, i .2)
 
-  both-tests : (b b′ : Bool) (x x′ y y′ : Stepped) → b ≡ b′ → OneAnswer F N x x′ → (b ≡ false → OneAnswer F N y y′) → OneAnswer F N (pick b x y)
-      (pick b′ x′ y′)
+  both-tests : (b b′ : Bool) (x x′ y y′ : Stepped) → b ≡ b′ → OneAnswer F N x x′ → (b ≡ false → OneAnswer F N y y′)
+      → OneAnswer F N (pick b x y) (pick b′ x′ y′)
   both-tests b b′ x x′ y y′ e f g = subst (λ c. OneAnswer F N (pick b x y) (pick c x′ y′)) e (go b refl)
     where
       go : (c : Bool) → b ≡ c → OneAnswer F N (pick c x y) (pick c x′ y′)

@@ -8,7 +8,7 @@ use native.Mathlib.Decide.{ℕ-discrete}
 use Rattle.table.specs.Syntax.{Expr, Exprs, call, id, Every, Node}
 use Rattle.rules.specs.State.{View}
 use Rattle.rules.proofs.Shape.{Still, Busy, Opened}
-use Rattle.rules.proofs.Frame.{still-over, opened-over}
+use Rattle.rules.proofs.Frame.{still-over, opened-over, Avoids}
 use Rattle.table.proofs.SyntaxLaws.{sub-node}
 use Rattle.rules.proofs.Within.{within}
 use Rattle.rules.proofs.Moves.{Inner, inner-live}
@@ -23,7 +23,7 @@ module _ {apply : ℕ → List ℕ → ℕ} {F : ℕ} {body : ℕ → Expr} {s s
   holds : (g m : ℕ) → (Node m u → ⊥) → (m ≡ 0 → ⊥) → s .occupant g ≡ m → s′ .occupant g ≡ m
   holds g m k z e = st .keepsFn g .0 ∙ e
 
-  untouched : (f : ℕ) → Fn F body f → (f ≡ h → ⊥) → (m : ℕ) → Node m (body f) → Node m u → ⊥
+  untouched : (f : ℕ) → Fn F body f → (f ≡ h → ⊥) → Avoids (λ m. Node m u) (body f)
   untouched f q e m a b = elsewhere x f q e m a (sub-node u m (body h) (st .place) b)
 
   pub inner-sound : Sound F body s′

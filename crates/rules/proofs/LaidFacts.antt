@@ -1,4 +1,4 @@
--- from single nodes to expressions and back
+-- from single nodes to expressions and back; which functions have a body
 use Prim.Native.Nat.{ℕ, suc, _≤_}
 use mathlib.Core.Bool.{Bool, true, false, _&&_}
 use mathlib.Core.Path.{_≡_, refl, subst, sym, ap, _∙_}
@@ -11,7 +11,7 @@ use Rattle.table.specs.Syntax.{Expr, Exprs, const, param, prim, call, self, con
 use Rattle.table.specs.Syntax.{size, roots}
 use Rattle.rules.specs.State.{View, In}
 use Rattle.table.specs.Environment.{values}
-use Rattle.table.specs.Well.{Apart, Apart*, Fn, Laid}
+use Rattle.table.specs.Well.{Apart, Apart*, CallIn, Fn, Well, Laid}
 use Rattle.rules.proofs.Frame.{Same}
 use Rattle.table.proofs.SyntaxLaws.{node-id, sub-node}
 use Rattle.rules.proofs.Moves.{Under, Finished*, Opens, Opens*}
@@ -94,6 +94,10 @@ module _ (s : View) where
   pub finished-all-done : (es : Exprs) → Finished* s es → all-done s es ≡ true
   finished-all-done none t = refl
   finished-all-done (some e es) t = ap (λ b. b && all-done s es) (eq-eqb (s .status (id e)) 3 (t .0)) ∙ finished-all-done es (t .1)
+
+-- what a body calls is a function with a body
+pub callee-fn : {F : ℕ} {body : ℕ → Expr} → Well F body → (h c g : ℕ) → Fn F body h → CallIn c g (body h) → Fn F body g
+callee-fn well h c g r i = let b = well .below h c g r i in (b .0, omega (arith, b .1, r .1))
 
 module _ {F N : ℕ} {body at : ℕ → Expr} {home : ℕ → ℕ} (laid : Laid F N body at home) where
   pub fn-main : Fn F body F

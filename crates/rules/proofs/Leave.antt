@@ -6,7 +6,7 @@ use native.Mathlib.Decide.{ℕ-discrete}
 use Rattle.table.specs.Syntax.{Expr, Exprs, call, Every, Node, Node*}
 use Rattle.rules.specs.State.{View}
 use Rattle.rules.proofs.Shape.{Still, Done, Live, Opened}
-use Rattle.rules.proofs.Frame.{still-over, opened-over, done-over*}
+use Rattle.rules.proofs.Frame.{still-over, opened-over, done-over*, Avoids}
 use Rattle.rules.proofs.Within.{within}
 use Rattle.rules.proofs.Moves.{finished, done*-still}
 use Rattle.table.specs.Well.{CallIn, Fn}
@@ -32,7 +32,7 @@ module _ {F : ℕ} {body : ℕ → Expr} {s s′ : View} {h n g : ℕ} {es : Exp
   asleep (inl e) = F≢g x (sym e)
   asleep (inr z) = z (st .frees)
 
-  pub untouched : (f : ℕ) → Fn F body f → (f ≡ h → ⊥) → (m : ℕ) → Node m (body f) → m ≡ n → ⊥
+  pub untouched : (f : ℕ) → Fn F body f → (f ≡ h → ⊥) → Avoids (λ m. m ≡ n) (body f)
   untouched f q a m k e = elsewhere x f q a m k (subst (λ y. Node y (body h)) (sym e) (node-h x))
 
   -- one call calls one function

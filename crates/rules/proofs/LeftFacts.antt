@@ -5,7 +5,7 @@ use mathlib.Core.Path.{_≡_, refl, subst, sym, ap, _∙_}
 use mathlib.Core.Logic.{inl, inr, ⊎-elim}
 use mathlib.Core.List.{List, _∷_}
 use native.Mathlib.Omega.{arith}
-use Rattle.table.specs.Syntax.{Expr, Exprs, const, param, prim, call, self, cond, bind, bound, none, some, id, Node, Node*, Sub}
+use Rattle.table.specs.Syntax.{Expr, Exprs, const, param, prim, call, self, cond, bind, bound, none, some, id, Node, Sub}
 use Rattle.table.specs.Syntax.{Sub*}
 use Rattle.rules.specs.State.{View}
 use Rattle.table.specs.Environment.{values, extend}
@@ -13,7 +13,7 @@ use Rattle.rules.proofs.Shape.{Still, Live, Opened*, Opened}
 use Rattle.rules.specs.Reading.{Outcome, val, Readings}
 use Rattle.rules.proofs.Branches.{chosen-map, chosen-both}
 use Rattle.table.specs.Well.{Apart, Apart*, Sees, Sees*}
-use Rattle.rules.proofs.Frame.{Same}
+use Rattle.rules.proofs.Frame.{Same, Avoids, Avoids*}
 use Rattle.table.proofs.SyntaxLaws.{node-id, sub-node, sub-node*}
 use Rattle.rules.proofs.Within.{idle-not, idle-not*, done-not, done-not*}
 use Rattle.rules.proofs.Left.{Going, Left, Left*}
@@ -21,13 +21,7 @@ use Rattle.rules.proofs.Left.{Going, Left, Left*}
 -- what is left outside
 module _ (apply : ℕ → List ℕ → ℕ) (K : Readings) (s s′ : View) (W W′ : ℕ → ℕ) (args : ℕ → ℕ) (X : ℕ → Type 0)
     (keeps : (m : ℕ) → (X m → ⊥) → Same s s′ m) (expects : (m : ℕ) → (X m → ⊥) → W′ m ≡ W m) where
-  abbrev Clear : Expr → Type 0
-  Clear e = (m : ℕ) → Node m e → X m → ⊥
-
-  abbrev Clear* : Exprs → Type 0
-  Clear* es = (m : ℕ) → Node* m es → X m → ⊥
-
-  part-over : (e : Expr) → Clear e → (ρ : ℕ → ℕ) (o : Outcome) (k : ℕ) → (Going apply K s′ W′ args e ρ o k → Going apply K s W args e ρ o k)
+  part-over : (e : Expr) → Avoids X e → (ρ : ℕ → ℕ) (o : Outcome) (k : ℕ) → (Going apply K s′ W′ args e ρ o k → Going apply K s W args e ρ o k)
       → Left apply K s′ W′ args e ρ o k → Left apply K s W args e ρ o k
   part-over e c ρ o k f h = go h
     where
@@ -42,12 +36,12 @@ module _ (apply : ℕ → List ℕ → ℕ) (K : Readings) (s s′ : View) (W W�
   phase-over : (n : ℕ) (p : Bool) → (X n → ⊥) → s′ .second n ≡ p → s .second n ≡ p
   phase-over n p x h = sym (keeps n x .1) ∙ h
 
-  values-over : (es : Exprs) → Clear* es → values (s′ .value) es ≡ values (s .value) es
+  values-over : (es : Exprs) → Avoids* X es → values (s′ .value) es ≡ values (s .value) es
   values-over none c = refl
   values-over (some e es) c = λ i. keeps (id e) (c (id e) (inl (node-id e))) .2 i ∷ values-over es (λ m k. c m (inr k)) i
 
   mutual
-    going-over : (e : Expr) → Clear e → (ρ : ℕ → ℕ) (o : Outcome) (k : ℕ) → Going apply K s′ W′ args e ρ o k
+    going-over : (e : Expr) → Avoids X e → (ρ : ℕ → ℕ) (o : Outcome) (k : ℕ) → Going apply K s′ W′ args e ρ o k
         → Going apply K s W args e ρ o k
     going-over (const n v) c ρ o k h = h
     going-over (param n i) c ρ o k h = h
@@ -83,8 +77,8 @@ module _ (apply : ℕ → List ℕ → ℕ) (K : Readings) (s s′ : View) (W W�
           ),
         )
     going-over (cond n a b d) c ρ o k (inr (p, h)) =
-        let cb : Clear b = λ m q. c m (inr (inr (inl q))) in
-        let cd : Clear d = λ m q. c m (inr (inr (inr q))) in
+        let cb : Avoids X b = λ m q. c m (inr (inr (inl q))) in
+        let cd : Avoids X d = λ m q. c m (inr (inr (inr q))) in
         inr (
           phase-over n true (c n (inl refl)) p,
           (
@@ -113,7 +107,7 @@ module _ (apply : ℕ → List ℕ → ℕ) (K : Readings) (s s′ : View) (W W�
         )
     going-over (bound n d) c ρ o k h = h
 
-    pub left-over* : (es : Exprs) → Clear* es → (ρ : ℕ → ℕ) (vs : List ℕ) (j : ℕ) → Left* apply K s′ W′ args es ρ vs j
+    pub left-over* : (es : Exprs) → Avoids* X es → (ρ : ℕ → ℕ) (vs : List ℕ) (j : ℕ) → Left* apply K s′ W′ args es ρ vs j
         → Left* apply K s W args es ρ vs j
     left-over* none c ρ vs j h = h
     left-over* (some e es) c ρ vs j h = (
@@ -127,7 +121,7 @@ module _ (apply : ℕ → List ℕ → ℕ) (K : Readings) (s s′ : View) (W W�
       h .7,
     )
 
-  pub left-over : (e : Expr) → Clear e → (ρ : ℕ → ℕ) (o : Outcome) (k : ℕ) → Left apply K s′ W′ args e ρ o k → Left apply K s W args e ρ o k
+  pub left-over : (e : Expr) → Avoids X e → (ρ : ℕ → ℕ) (o : Outcome) (k : ℕ) → Left apply K s′ W′ args e ρ o k → Left apply K s W args e ρ o k
   left-over e c ρ o k h = part-over e c ρ o k (going-over e c ρ o k) h
 
 -- what is left of a body

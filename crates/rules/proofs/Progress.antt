@@ -1,5 +1,5 @@
 -- while main has not answered, some node has a step
-use Prim.Native.Nat.{ℕ, zero, suc, _≤_, _<_}
+use Prim.Native.Nat.{ℕ, zero, suc, _<_}
 use mathlib.Core.Bool.{true, false}
 use mathlib.Core.Path.{_≡_, refl, subst, sym, _∙_}
 use mathlib.Core.Logic.{_⊎_, inl, inr, ⊎-elim}
@@ -8,6 +8,7 @@ use native.Mathlib.Decide.{ℕ-discrete}
 use native.Mathlib.Nat.{not-suc-le-zero}
 use Rattle.table.specs.Syntax.{Expr, Exprs, const, param, prim, call, self, cond, bind, bound, none, some, id, Every, Sub, Sub*}
 use Rattle.rules.specs.State.{View}
+use Rattle.rules.proofs.LaidFacts.{callee-fn}
 use Rattle.rules.proofs.Shape.{Idle, Open, Busy, Live, Opened*, Opened}
 use Rattle.rules.specs.Reading.{Chosen}
 use Rattle.rules.proofs.Moves.{Finished*}
@@ -136,12 +137,12 @@ module _ (body : ℕ → Expr) (s : View) where
     run k ih r a n = go (sound .opened k r a)
       where
         wait : (c g : ℕ) → CallIn c g (body k) → (s .occupant g ≡ 0 → ⊥) → Goes
-        wait c g i z = leaves (well .below k c g r i) (ℕ-discrete (s .status (id (body g))) 3)
+        wait c g i z = leaves (callee-fn well k c g r i) (ℕ-discrete (s .status (id (body g))) 3)
           where
-            leaves : (1 ≤ g) × (g < k) → Dec (s .status (id (body g)) ≡ 3) → Goes
-            leaves b (no d) = ih g (b .1) (b .0, omega (arith, b .1, r .1)) (inr z) d
-            leaves b (yes d) =
-                let o = sound .held g (s .occupant g) (b .0, omega (arith, b .1, r .1)) refl z in
+            leaves : Fn F body g → Dec (s .status (id (body g)) ≡ 3) → Goes
+            leaves q (no d) = ih g (well .below k c g r i .1) q (inr z) d
+            leaves q (yes d) =
+                let o = sound .held g (s .occupant g) q refl z in
                 let x = find (s .occupant g) g (body (o .0)) (o .3) in
                 (o .0, o .1, (call (s .occupant g) g (x .0), x .1, inr (inr (o .4, d))))
 

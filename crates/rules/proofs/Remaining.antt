@@ -12,7 +12,7 @@ use Rattle.table.specs.Find.{total}
 use Rattle.rules.specs.State.{View}
 use Rattle.rules.specs.Reading.{Outcome, val, Readings, Reads}
 use Rattle.rules.proofs.Shape.{Live}
-use Rattle.rules.proofs.Frame.{Same, SameFunction}
+use Rattle.rules.proofs.Frame.{Same, SameFunction, Avoids}
 use Rattle.rules.proofs.Left.{Left}
 use Rattle.rules.proofs.LeftFacts.{left-over, left-within}
 use Rattle.rules.proofs.SumLaws.{put-same, put-other, sum-put}
@@ -42,7 +42,7 @@ module _ (apply : ℕ → List ℕ → ℕ) (body : ℕ → Expr) (K : Readings)
   module _ (s s′ : View) (W W′ : ℕ → ℕ) where
     -- a function that the step does not touch
     module _ (X : ℕ → Type 0) (keeps : (m : ℕ) → (X m → ⊥) → Same s s′ m) (expects : (m : ℕ) → (X m → ⊥) → W′ m ≡ W m) where
-      pub rest-aside : (f k : ℕ) → ((m : ℕ) → Node m (body f) → X m → ⊥) → SameFunction s s′ f → W′ (s .occupant f) ≡ W (s .occupant f)
+      pub rest-aside : (f k : ℕ) → Avoids X (body f) → SameFunction s s′ f → W′ (s .occupant f) ≡ W (s .occupant f)
           → Rest s′ W′ f (W′ (s′ .occupant f)) k → Rest s W f (W (s .occupant f)) k
       rest-aside f k c g e y = (
         y .0,

@@ -1,10 +1,9 @@
 -- a move of the circuit on lists is a step of the abstract circuit
-use Prim.Native.Nat.{ℕ, zero, suc, _≤_, _<_}
+use Prim.Native.Nat.{ℕ, zero, suc, _≤_}
 use mathlib.Core.Bool.{true}
 use mathlib.Core.Path.{_≡_, refl, subst, sym, _∙_}
 use mathlib.Core.Logic.{inl, inr, ⊎-elim}
 use mathlib.Core.List.{List, [], _∷_}
-use native.Mathlib.Omega.{arith}
 use lib.Dec.{eqb}
 use borrow.Author.Tests.{eqb-true}
 use Rattle.table.specs.Syntax.{Expr, Exprs, const, param, prim, call, self, cond, bind, bound, id, Node, Node*, Sub, roots}
@@ -22,7 +21,7 @@ use Rattle.rules.proofs.Acting.{stepping-live}
 use Rattle.rules.specs.Step.{stuck, does, finishes, enters, done, all-done, branch, act}
 use Rattle.rules.proofs.Performed.{Begins, Turns, Finishes, Resets, Owns, Does, Acted}
 use Rattle.rules.proofs.ActCases.{by-pick, by-state, live-open}
-use Rattle.rules.proofs.LaidFacts.{every-all, every-all*, under-all, root-node, opens-all, opens-all*, all-done-finished, own-node}
+use Rattle.rules.proofs.LaidFacts.{every-all, every-all*, under-all, root-node, opens-all, opens-all*, all-done-finished, own-node, callee-fn}
 
 module _ (apply : ℕ → List ℕ → ℕ) (F : ℕ) (body : ℕ → Expr) where
   -- the node of a step
@@ -330,11 +329,8 @@ module _ (apply : ℕ → List ℕ → ℕ) {F N : ℕ} {body at : ℕ → Expr}
         x : Apart (call n g es)
         x = apart (call n g es) p
 
-        g<h : (1 ≤ g) × (g < h)
-        g<h = laid .well .below h n g r (sub-call n g es (body h) p)
-
         fn-g : Fn F body g
-        fn-g = (g<h .0, omega (arith, g<h .1, r .1))
+        fn-g = callee-fn (laid .well) h n g r (sub-call n g es (body h) p)
 
     self-step : (n : ℕ) (es : Exprs) → Sub (self n es) (body h) → Acted N home body s s′ n (act apply body h s (self n es))
         → StepAt apply F body s s′ n

@@ -1,5 +1,5 @@
 -- what a node's act tells of it: its move is fair, a node that is able moves, and one that is blocked waits
-use Prim.Native.Nat.{ℕ, zero, suc, _≤_, _<_}
+use Prim.Native.Nat.{ℕ, zero, suc}
 use mathlib.Core.Bool.{Bool, true, false}
 use mathlib.Core.Path.{_≡_, refl, subst, sym}
 use mathlib.Core.Logic.{inl, inr, ⊎-elim}
@@ -20,7 +20,7 @@ use Rattle.rules.proofs.Progress.{Able}
 use Rattle.rules.specs.Step.{Act, stuck, blocked, does, Move, turns, finishes, restarts, done, all-done, branch, by-status, act}
 use Rattle.rules.proofs.Performed.{Owns, FairAct}
 use Rattle.table.specs.Well.{Fn, Laid}
-use Rattle.rules.proofs.LaidFacts.{length-values, root-node, all-done-finished, finished-all-done}
+use Rattle.rules.proofs.LaidFacts.{length-values, root-node, all-done-finished, finished-all-done, callee-fn}
 use Rattle.rules.proofs.ActCases.{by-pick, by-state}
 
 abbrev pub Moves : Act → Type 0
@@ -75,11 +75,11 @@ module _ (apply : ℕ → List ℕ → ℕ) {F N : ℕ} {body at : ℕ → Expr}
           λ i. apart-sub (call n g es) (body h) (laid .well .apart h r) p .0 (root-node n es i),
         ))
         (λ b. by-pick (FairAct F N home body n) (s .second n) _ _
-        (λ e. by-pick (FairAct F N home body n) (done s (id (body g))) _ _ (λ e. (g<h .0, fn-g .1)) (λ e. tt))
+        (λ e. by-pick (FairAct F N home body n) (done s (id (body g))) _ _ (λ e. fn-g) (λ e. tt))
         (λ e. by-pick (FairAct F N home body n) (all-done s es) _ _
         (λ e. by-pick (FairAct F N home body n) (eqb (s .occupant g) 0) _ _
         (λ e. (
-          g<h .0,
+          fn-g .0,
           fn-g .1,
           omega (arith, length-values s es, laid .narrow h (call n g es) r p),
           own-root g fn-g,
@@ -88,14 +88,16 @@ module _ (apply : ℕ → List ℕ → ℕ) {F N : ℕ} {body at : ℕ → Expr}
         (λ e. tt)))
         tt
       where
-        g<h : (1 ≤ g) × (g < h)
-        g<h = laid .well .below h n g r (sub-call n g es (body h) p)
-
         fn-g : Fn F body g
-        fn-g = (g<h .0, omega (arith, g<h .1, r .1))
+        fn-g = callee-fn (laid .well) h n g r (sub-call n g es (body h) p)
 
         elsewhere : Owns N home g n → ⊥
-        elsewhere o = omega (arith, o .2, laid .inside h n r (sub-node (call n g es) n (body h) p (inl refl)) .0, g<h .1)
+        elsewhere o = omega (
+          arith,
+          o .2,
+          laid .inside h n r (sub-node (call n g es) n (body h) p (inl refl)) .0,
+          laid .well .below h n g r (sub-call n g es (body h) p) .1,
+        )
     act-fair (self n es) p = by-state (FairAct F N home body n) (s .status n) _ _
         (λ o. (
           λ m i. range (self n es) p m (inr (root-node m es i)),
