@@ -21,8 +21,9 @@ use Rattle.rules.proofs.Left.{Going, Left, Left*}
 -- what is left outside
 module _ (apply : ℕ → List ℕ → ℕ) (K : Readings) (s s′ : View) (W W′ : ℕ → ℕ) (args : ℕ → ℕ) (X : ℕ → Type 0)
     (keeps : (m : ℕ) → (X m → ⊥) → Same s s′ m) (expects : (m : ℕ) → (X m → ⊥) → W′ m ≡ W m) where
-  part-over : (e : Expr) → Avoids X e → (ρ : ℕ → ℕ) (o : Outcome) (k : ℕ) → (Going apply K s′ W′ args e ρ o k → Going apply K s W args e ρ o k)
-      → Left apply K s′ W′ args e ρ o k → Left apply K s W args e ρ o k
+  part-over : (e : Expr) → Avoids X e → (ρ : ℕ → ℕ) (o : Outcome) (k : ℕ)
+      → (Going apply K s′ W′ args e ρ o k → Going apply K s W args e ρ o k) → Left apply K s′ W′ args e ρ o k
+      → Left apply K s W args e ρ o k
   part-over e c ρ o k f h = go h
     where
       same : Same s s′ (id e)
@@ -121,7 +122,8 @@ module _ (apply : ℕ → List ℕ → ℕ) (K : Readings) (s s′ : View) (W W�
       h .7,
     )
 
-  pub left-over : (e : Expr) → Avoids X e → (ρ : ℕ → ℕ) (o : Outcome) (k : ℕ) → Left apply K s′ W′ args e ρ o k → Left apply K s W args e ρ o k
+  pub left-over : (e : Expr) → Avoids X e → (ρ : ℕ → ℕ) (o : Outcome) (k : ℕ) → Left apply K s′ W′ args e ρ o k
+      → Left apply K s W args e ρ o k
   left-over e c ρ o k h = part-over e c ρ o k (going-over e c ρ o k) h
 
 -- what is left of a body

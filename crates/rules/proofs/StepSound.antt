@@ -21,7 +21,8 @@ use Rattle.rules.proofs.Acting.{stepping-live}
 use Rattle.rules.specs.Step.{stuck, does, finishes, enters, done, all-done, branch, act}
 use Rattle.rules.proofs.Performed.{Begins, Turns, Finishes, Resets, Owns, Does, Acted}
 use Rattle.rules.proofs.ActCases.{by-pick, by-state, live-open}
-use Rattle.rules.proofs.LaidFacts.{every-all, every-all*, under-all, root-node, opens-all, opens-all*, all-done-finished, own-node, callee-fn}
+use Rattle.rules.proofs.LaidFacts.{every-all, every-all*, under-all, root-node, opens-all, opens-all*, all-done-finished}
+use Rattle.rules.proofs.LaidFacts.{own-node, callee-fn}
 
 module _ (apply : ℕ → List ℕ → ℕ) (F : ℕ) (body : ℕ → Expr) where
   -- the node of a step
