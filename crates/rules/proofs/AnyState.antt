@@ -1,7 +1,7 @@
 -- what a step keeps in any state, also one that no start leads to
-use Prim.Native.Nat.{ℕ}
+use Prim.Native.Nat.{ℕ, _<_}
 use mathlib.Core.Bool.{Bool, true, false, _&&_, not}
-use mathlib.Core.Path.{_≡_, refl, subst, sym}
+use mathlib.Core.Path.{_≡_, refl, subst}
 use mathlib.Core.List.{List}
 use native.Mathlib.Omega.{arith}
 use lib.Dec.{T, eqb}
@@ -25,7 +25,8 @@ use Rattle.rules.specs.Circuit.{circuitOf, stepAfter, stepOf, Possible}
 use Rattle.rules.specs.Runs.{MainDone}
 use Rattle.rules.specs.Companions.{AgreeWithin, AgreePast}
 use Rattle.rules.proofs.StepCases.{number, place, step-cases}
-use Rattle.rules.proofs.Past.{nodes-past, functions-past}
+use Rattle.rules.proofs.AgreeLaws.{agree-same}
+use Rattle.rules.proofs.Past.{step-past}
 use Rattle.rules.proofs.Ignores.{step-agree}
 use Rattle.rules.proofs.Demands.{after-both, lay}
 use Rattle.table.specs.Pick.{pick}
@@ -103,19 +104,5 @@ module _ (t tags : List ℕ) where
   -- "and keeps" them
   pub step-keeps : (s : State512) → Sized s → (n : ℕ) → AgreePast t s (stepOf t tags s n .state)
   step-keeps s z n = by-check (λ f. AgreePast t s (f s n .state))
-      (λ k p. record {
-        status = λ m h. refl;
-        second = λ m h. refl;
-        value = λ m h. refl;
-        register = λ f i h. refl;
-        occupant = λ f h. refl;
-      })
-      (λ F N c. let x = nodes-past operate (lay t F N c) (tagged tags) s z n in
-      let y = functions-past operate (lay t F N c) (tagged tags) s z n in
-      record {
-        status = λ m h. sym (x m h .0);
-        second = λ m h. sym (x m h .1);
-        value = λ m h. sym (x m h .2);
-        register = λ f i h. sym (y f h .1 i);
-        occupant = λ f h. sym (y f h .0);
-      })
+      (λ k p. agree-same (λ m. nodes t < m) (λ f. functions t < f) (view s))
+      (λ F N c. step-past operate (lay t F N c) (tagged tags) s z n)

@@ -21,14 +21,15 @@ pub mod Bounded
 pub mod StepTaken
 pub mod StepCases
 pub mod StepFacts
-pub mod Past
+-- states that agree: what a node's step reads, what a move writes, and two moves that write apart end equal in either order
+pub mod AgreeLaws
 pub mod ListsAgree
 pub mod MovesAgree
 pub mod ActSame
 pub mod Ignores
--- two moves that write apart end equal in either order
-pub mod StatesSame
 pub mod Touches
+pub mod Past
+pub mod StatesSame
 pub mod Commute
 -- lists of steps: each call's three phases, entries minus leavings, the start, what every list keeps
 pub mod Thirds
