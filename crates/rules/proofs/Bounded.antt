@@ -96,7 +96,7 @@ module _ (s : View) where
 module _ {F N : ℕ} {body at : ℕ → Expr} {home : ℕ → ℕ} (laid : Laid F N body at home) (s : View)
     (sound : Sound F body s) where
   pub status-bound : (m : ℕ) → 1 ≤ m → m ≤ N → s .status m ≤ 3
-  status-bound m p q = every-node (Small s) m (body (home m)) (go (active? F s (home m))) (own-node laid (home m) m p q refl)
+  status-bound m p q = every-node (Small s) m (body (home m)) (go (active? F s (home m))) (own-node laid (home m) m (p, q) refl)
     where
       fn : Fn F body (home m)
       fn = laid .home-there m (p, q)

@@ -145,8 +145,8 @@ module _ (t : List ℕ) (F N : ℕ) (check : checkOf t ≡ accepted F N) where
     any-tags : (asked : List (Ask (List ℕ))) → UnderAnyTags t args s₀ asked
     unfolding entriesOf leavingsOf playsOf
     any-tags asked = record {
-      balance = kept-balance operate lay args (main-few args number) l k;
-      phases = λ c f p q e tags a. kept-phases operate lay (view s₀) l k c f p q e (tagged tags) (possible-same tags (l .state) c a);
+      balance = λ f p q. kept-balance operate lay args (main-few args number) l k f (p, q);
+      phases = λ c f p q e tags a. kept-phases operate lay (view s₀) l k c f (p, q) e (tagged tags) (possible-same tags (l .state) c a);
       answered-done = k .said;
       done-answered = λ e. let x = k .says e in subst (λ v. Answers l v) (sym (k .said (x .0) (x .1) .1)) (x .1);
       lively = λ F N tags c.
@@ -156,7 +156,7 @@ module _ (t : List ℕ) (F N : ℕ) (check : checkOf t ≡ accepted F N) where
       main-free = kept-main-free operate lay (view s₀) l k;
       right = right;
       never = λ h v i. h v (length (l .nodes)) (right v i);
-      over = λ v n F N tags i p q c. step-same tags F N c (l .state) n ∙ kept-over operate lay (view s₀) l k v n (tagged tags) i p q;
+      over = λ v n F N tags i p q c. step-same tags F N c (l .state) n ∙ kept-over operate lay (view s₀) l k v n (tagged tags) i (p, q);
     }
       where
         l : Log
@@ -194,7 +194,7 @@ module _ (t : List ℕ) (F N : ℕ) (check : checkOf t ≡ accepted F N) where
       from-start ns quiet = record {
         arbitrated = quiet;
         exclusive = λ k f p q. kept-one operate lay args (main-few args number) (played (stepOf t) s₀ (asks tags (take k ns)))
-            (table-kept (asks tags (take k ns))) f p q;
+            (table-kept (asks tags (take k ns))) f (p, q);
         lively = ⊎-elim inl (λ x. inr (x .0, subst (λ r. IsTaken (r .answer)) (sym (step-same tags F′ N′ taken (l .state) (x .0))) (x .1)))
             (kept-lively operate lay (view s₀) l (table-kept (asks tags ns)) (tagged tags));
         right = kept-right operate lay args (main-few args number) l (table-kept (asks tags ns));

@@ -157,19 +157,19 @@ module _ (apply : ℕ → List ℕ → ℕ) {F N : ℕ} {body at : ℕ → Expr}
           (answer (laid .well) program-reads s₀ (view (l .state)) args (length (l .nodes)) (fn-main laid) started
           (k .steps) (x .0))
 
-      pub kept-balance : (f : ℕ) → 1 ≤ f → f ≤ F
+      pub kept-balance : (f : ℕ) → Fn F body f
           → entries N at f (l .nodes) ≡ leavings N at f (l .nodes) + pick (eqb (view (l .state) .occupant f) 0) 0 1
-      kept-balance f p q = entries-leavings laid (view (l .state)) (k .good .sound) f (p, q) (l .nodes) (k .phased)
+      kept-balance f q = entries-leavings laid (view (l .state)) (k .good .sound) f q (l .nodes) (k .phased)
 
-      pub kept-one : (f : ℕ) → 1 ≤ f → f ≤ F → entries N at f (l .nodes) ≤ leavings N at f (l .nodes) + 1
-      kept-one f p q = entries-one laid (view (l .state)) (k .good .sound) f (p, q) (l .nodes) (k .phased)
+      pub kept-one : (f : ℕ) → Fn F body f → entries N at f (l .nodes) ≤ leavings N at f (l .nodes) + 1
+      kept-one f q = entries-one laid (view (l .state)) (k .good .sound) f q (l .nodes) (k .phased)
 
   -- what such a state says of a step
   module _ (s₀ : View) (l : Log) (k : Kept s₀ l) where
     -- after the answer, 20 at every node
-    pub kept-over : (v n : ℕ) (tags : ℕ → Bool) → In (answered v) (l .answers) → 1 ≤ n → n ≤ N
+    pub kept-over : (v n : ℕ) (tags : ℕ → Bool) → In (answered v) (l .answers) → Range N n
         → circuitStep apply F N body at home tags (l .state) n ≡ refusal (l .state) 20 n
-    kept-over v n tags i p q = step-over apply laid tags (l .state) (k .good) n (p, q) (k .said v i .0)
+    kept-over v n tags i r = step-over apply laid tags (l .state) (k .good) n r (k .said v i .0)
 
     -- main is entered by nobody
     pub kept-main-free : view (l .state) .occupant F ≡ 0
@@ -192,11 +192,11 @@ module _ (apply : ℕ → List ℕ → ℕ) {F N : ℕ} {body at : ℕ → Expr}
         go (no e) = inr (some-step apply laid tags (l .state) (k .good) e)
 
     -- of the steps taken at a call, those that enter and those that leave
-    pub kept-phases : (c f : ℕ) → 1 ≤ c → c ≤ N → calls (at c) f ≡ true → (tags : ℕ → Bool)
+    pub kept-phases : (c f : ℕ) → Range N c → calls (at c) f ≡ true → (tags : ℕ → Bool)
         → IsTaken (circuitStep apply F N body at home tags (l .state) c .answer)
         → Phases (act apply body (home c) (view (l .state)) (at c)) f (count c (l .nodes))
-    kept-phases c f p q e tags a = step-phases apply laid tags (l .state) c f (p, q) e a (count c (l .nodes))
-        (call-phase laid (view (l .state)) c f p q e (l .nodes) (k .phased))
+    kept-phases c f r e tags a = step-phases apply laid tags (l .state) c f r e a (count c (l .nodes))
+        (call-phase laid (view (l .state)) c f r e (l .nodes) (k .phased))
 
   -- a call that waits at an occupied resource is listed
   waits-listed : (s : View) → Sound F body s → (n : ℕ) → Range N n → Waits s (at n) → Listed body at F n

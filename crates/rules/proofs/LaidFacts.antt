@@ -1,5 +1,5 @@
 -- from single nodes to expressions and back; which functions have a body
-use Prim.Native.Nat.{ℕ, suc, _≤_}
+use Prim.Native.Nat.{ℕ, suc}
 use mathlib.Core.Bool.{Bool, true, false, _&&_}
 use mathlib.Core.Path.{_≡_, refl, subst, sym, ap, _∙_}
 use mathlib.Core.Logic.{inl, inr, ⊎-elim}
@@ -11,6 +11,7 @@ use Rattle.table.specs.Syntax.{Expr, Exprs, const, param, prim, call, self, con
 use Rattle.table.specs.Syntax.{size, roots}
 use Rattle.rules.specs.State.{View, In}
 use Rattle.table.specs.Environment.{values}
+use Rattle.table.specs.Pick.{Range}
 use Rattle.table.specs.Well.{Apart, Apart*, CallIn, Fn, Well, Laid}
 use Rattle.rules.proofs.Frame.{Same}
 use Rattle.table.proofs.SyntaxLaws.{node-id, sub-node}
@@ -103,7 +104,7 @@ module _ {F N : ℕ} {body at : ℕ → Expr} {home : ℕ → ℕ} (laid : Laid 
   pub fn-main : Fn F body F
   fn-main = (laid .some-function, omega arith)
 
-  pub own-node : (g m : ℕ) → 1 ≤ m → m ≤ N → home m ≡ g → Node m (body g)
-  own-node g m p q e =
-      subst (λ f. Node m (body f)) e (subst (λ x. Node x (body (home m))) (laid .number m (p, q))
-      (sub-node (at m) (id (at m)) (body (home m)) (laid .placed m (p, q)) (node-id (at m))))
+  pub own-node : (g m : ℕ) → Range N m → home m ≡ g → Node m (body g)
+  own-node g m r e =
+      subst (λ f. Node m (body f)) e (subst (λ x. Node x (body (home m))) (laid .number m r)
+      (sub-node (at m) (id (at m)) (body (home m)) (laid .placed m r) (node-id (at m))))

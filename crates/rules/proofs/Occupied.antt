@@ -85,18 +85,18 @@ module _ (apply : ℕ → List ℕ → ℕ) {F N : ℕ} {body at : ℕ → Expr}
 
 module _ {F N : ℕ} {body at : ℕ → Expr} {home : ℕ → ℕ} (laid : Laid F N body at home) where
   -- a node that calls f, as a call of its function's body
-  pub called : (c f : ℕ) → 1 ≤ c → c ≤ N → calls (at c) f ≡ true → (es : Exprs) × Sub (call c f es) (body (home c))
-  called c f p q e =
+  pub called : (c f : ℕ) → Range N c → calls (at c) f ≡ true → (es : Exprs) × Sub (call c f es) (body (home c))
+  called c f r e =
       let k = calls-call (at c) f e in
-      let i : k .0 ≡ c = sym (ap id (k .2)) ∙ laid .number c (p, q) in
-      (k .1, subst (λ x. Sub (call x f (k .1)) (body (home c))) i (subst (λ u. Sub u (body (home c))) (k .2) (laid .placed c (p, q))))
+      let i : k .0 ≡ c = sym (ap id (k .2)) ∙ laid .number c r in
+      (k .1, subst (λ x. Sub (call x f (k .1)) (body (home c))) i (subst (λ u. Sub u (body (home c))) (k .2) (laid .placed c r)))
 
   -- the phase of a call, by the number of its steps
-  pub call-phase : (s : View) (c f : ℕ) → 1 ≤ c → c ≤ N → calls (at c) f ≡ true → (ns : List ℕ) → Phased F body s ns
+  pub call-phase : (s : View) (c f : ℕ) → Range N c → calls (at c) f ≡ true → (ns : List ℕ) → Phased F body s ns
       → count c ns % 3 ≡ third s c
-  call-phase s c f p q e ns ph =
-      let k = called c f p q e in
-      ph (home c) c f (laid .home-there c (p, q)) (sub-call c f (k .0) (body (home c)) (k .1))
+  call-phase s c f r e ns ph =
+      let k = called c f r e in
+      ph (home c) c f (laid .home-there c r) (sub-call c f (k .0) (body (home c)) (k .1))
 
   module _ (s : View) (sound : Sound F body s) where
     third-two : (c : ℕ) → third s c ≡ 2 → Busy s c true
@@ -116,28 +116,28 @@ module _ {F N : ℕ} {body at : ℕ → Expr} {home : ℕ → ℕ} (laid : Laid 
         go false b = inr refl
 
     -- a call in its second phase occupies its callee
-    occupies : (c f : ℕ) → 1 ≤ c → c ≤ N → calls (at c) f ≡ true → third s c ≡ 2 → s .occupant f ≡ c
-    occupies c f p q e t =
-        let k = called c f p q e in
+    occupies : (c f : ℕ) → Range N c → calls (at c) f ≡ true → third s c ≡ 2 → s .occupant f ≡ c
+    occupies c f r e t =
+        let k = called c f r e in
         let b = third-two c t in
         second-phase s c f (k .0) b
-        (stepping-live sound (home c) (laid .home-there c (p, q)) (call c f (k .0)) (k .1) (busy-moves s c (b .0))) .1
+        (stepping-live sound (home c) (laid .home-there c r) (call c f (k .0)) (k .1) (busy-moves s c (b .0))) .1
 
     module _ (f : ℕ) (r : Fn F body f) where
       -- 1 for a call of f in its second phase
       abbrev inside : ℕ → ℕ
       inside c = pick (calls (at c) f) (third s c / 2) 0
 
-      inside-not : (c : ℕ) → 1 ≤ c → c ≤ N → (s .occupant f ≡ c → ⊥) → inside c ≡ 0
-      inside-not c p q d = go (calls (at c) f) refl (third-half c)
+      inside-not : (c : ℕ) → Range N c → (s .occupant f ≡ c → ⊥) → inside c ≡ 0
+      inside-not c i d = go (calls (at c) f) refl (third-half c)
         where
           go : (b : Bool) → calls (at c) f ≡ b → (third s c ≡ 2) ⊎ (third s c / 2 ≡ 0) → pick b (third s c / 2) 0 ≡ 0
-          go true e (inl t) = absurd (d (occupies c f p q e t))
+          go true e (inl t) = absurd (d (occupies c f i e t))
           go true e (inr z) = z
           go false e h = refl
 
       insides : Dec (s .occupant f ≡ 0) → total inside N ≡ pick (eqb (s .occupant f) 0) 0 1
-      insides (yes z) = sum-ext N inside (λ c. 0) (λ c p q. inside-not c p q (λ e. omega (arith, e, z, p))) ∙ sum-zero N
+      insides (yes z) = sum-ext N inside (λ c. 0) (λ c p q. inside-not c (p, q) (λ e. omega (arith, e, z, p))) ∙ sum-zero N
           ∙ sym (ap (λ b. pick b 0 1) (eq-eqb (s .occupant f) 0 z))
       insides (no z) =
           sum-ext N inside (put (λ c. 0) o 1) entry ∙ omega (arith, sum-put N (λ c. 0) o 1 (i .1) (i .2), sum-zero N)
@@ -163,7 +163,7 @@ module _ {F N : ℕ} {body at : ℕ → Expr} {home : ℕ → ℕ} (laid : Laid 
             where
               go : Dec (c ≡ o) → inside c ≡ put (λ x. 0) o 1 c
               go (yes e) = ap inside e ∙ one ∙ sym (put-same (λ x. 0) o 1) ∙ ap (put (λ x. 0) o 1) (sym e)
-              go (no e) = inside-not c p q (λ x. e (sym x)) ∙ sym (put-other (λ x. 0) o 1 c e)
+              go (no e) = inside-not c (p, q) (λ x. e (sym x)) ∙ sym (put-other (λ x. 0) o 1 c e)
 
       -- document 01's sentence on entries and leavings
       pub entries-leavings : (ns : List ℕ) → Phased F body s ns
@@ -178,8 +178,7 @@ module _ {F N : ℕ} {body at : ℕ → Expr} {home : ℕ → ℕ} (laid : Laid 
             where
               go : (b : Bool) → calls (at c) f ≡ b
                   → pick b (enterings (count c ns)) 0 ≡ pick b (exits (count c ns)) 0 + pick b (third s c / 2) 0
-              go true e = let k = called c f p q e in thirds-split (count c ns) (third s c)
-                  (ph (home c) c f (laid .home-there c (p, q)) (sub-call c f (k .0) (body (home c)) (k .1)))
+              go true e = thirds-split (count c ns) (third s c) (call-phase s c f (p, q) e ns ph)
               go false e = refl
 
       pub entries-one : (ns : List ℕ) → Phased F body s ns → entries N at f ns ≤ leavings N at f ns + 1

@@ -316,7 +316,7 @@ module _ (apply : ℕ → List ℕ → ℕ) {F N : ℕ} {body at : ℕ → Expr}
             free = eqb-true (s .occupant g) 0 z;
             enters = (d .status ∙ t, d .second);
             new = renewed g fn-g (λ m. m ≡ n) (values (s .value) es) (d .new);
-            keeps = λ m e k. d .new .others m e (λ o. k (own-node laid g m (o .0) (o .1) (o .2)));
+            keeps = λ m e k. d .new .others m e (λ o. k (own-node laid g m (o .0, o .1) (o .2)));
             occupies = d .occupies;
             arguments = d .new .registers;
             keepsFn = d .new .functions;
@@ -345,7 +345,7 @@ module _ (apply : ℕ → List ℕ → ℕ) {F N : ℕ} {body at : ℕ → Expr}
             waits = t;
             ready = all-done-finished s es f;
             new = renewed h r (λ m. ⊥) (values (s .value) es) (d .0);
-            keeps = λ m k. d .0 .others m (λ z. z) (λ o. k (own-node laid h m (o .0) (o .1) (o .2)));
+            keeps = λ m k. d .0 .others m (λ z. z) (λ o. k (own-node laid h m (o .0, o .1) (o .2)));
             arguments = d .0 .registers;
             occupants = d .1;
             keepsFn = d .0 .functions;
