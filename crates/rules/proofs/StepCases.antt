@@ -12,7 +12,7 @@ use Rattle.table.specs.Pick.{pick, Range}
 use Rattle.rules.specs.State.{State512, view}
 use Rattle.rules.specs.Step.{Act, stuck, blocked, does, Move, done, act, over, refusal, Stepped, told, outcome, perform, circuitStep}
 
--- each cause with the facts that the tests before it leave
+-- what each test of a step finds, in the order of document 01
 pub data Cause (apply : ℕ → List ℕ → ℕ) (F N : ℕ) (body at : ℕ → Expr) (home : ℕ → ℕ) (tags : ℕ → Bool) (s : State512) (n : ℕ)
     : Type 0 where
   no-node : (Range N n → ⊥) → Cause apply F N body at home tags s n
