@@ -16,8 +16,8 @@ use Rattle.table.specs.Check.{accepted}
 use Rattle.table.specs.Expressions.{bodyOf}
 use Rattle.table.specs.Working.{IsNode}
 use Rattle.rules.specs.State.{State512, entry}
-use Rattle.rules.specs.Step.{Reply, taken, answered, refused}
-use Rattle.rules.specs.Play.{Accepted, noted}
+use Rattle.rules.specs.Step.{Reply, taken, answered, denied}
+use Rattle.rules.specs.Play.{IsTaken, noted}
 use Rattle.rules.specs.Circuit.{actOf, circuitOf, stepOf, playOf, Possible}
 use Rattle.rules.specs.Runs.{standing, MainDone, Ended, gave, atRest, spent, barred, Driven, Says, Picks, DrivesAfter, Drives, Found}
 use Rattle.rules.specs.Runs.{names, nothing, unasked, FindsAfter, Finds}
@@ -77,10 +77,10 @@ falls-waiting rest k height h e f = rw e (go (ℕ-discrete height 0))
     go (yes z) = rw (eq-eqb height 0 z) (omega arith)
     go (no z) = rw (ne-eqb height 0 z) (omega arith)
 
-noted-accepted : (r : Reply) (n : ℕ) → Accepted r → noted r n [] ≡ n ∷ []
-noted-accepted taken n h = refl
-noted-accepted (answered v) n h = refl
-noted-accepted (refused k p) n h = absurd h
+noted-taken : (r : Reply) (n : ℕ) → IsTaken r → noted r n [] ≡ n ∷ []
+noted-taken taken n h = refl
+noted-taken (answered v) n h = refl
+noted-taken (denied k p) n h = absurd h
 
 module _ (t tags : List ℕ) (ag : Agreed t tags) (s : State512) (st : Stands t s) where
   abbrev main : ℕ
@@ -90,16 +90,16 @@ module _ (t tags : List ℕ) (ag : Agreed t tags) (s : State512) (st : Stands t 
   stepped n = step-is t tags (functions t) (nodes t) (ag .tagging) s n
 
   possible-in : (n : ℕ) → Possible t tags s n → IsNode t n × (goes (actOf t s n) ≡ true)
-  possible-in n h = by-number t tags (ag .fair) s st (λ r. Accepted (r .answer) → IsNode t n × (goes (actOf t s n) ≡ true)) n
+  possible-in n h = by-number t tags (ag .fair) s st (λ r. IsTaken (r .answer) → IsNode t n × (goes (actOf t s n) ≡ true)) n
       (λ x. absurd x) (λ i x. absurd x) (λ i x. (i, out-goes t tags (ag .fair) s n (actOf t s n) x))
-      (subst (λ r. Accepted (r .answer)) (stepped n) h)
+      (subst (λ r. IsTaken (r .answer)) (stepped n) h)
 
   step-out : (MainDone t s → ⊥) → (n : ℕ) → IsNode t n → stepOf t tags s n ≡ Out t tags (ag .fair) s n (actOf t s n)
   step-out d n i = stepped n ∙ by-main t tags (ag .fair) s n (λ z. omega (arith, z, i .0)) (i .1) st false
       (ne-eqb (entry (s .status) 0 main) 3 d)
 
   possible-out : (MainDone t s → ⊥) → (n : ℕ) → IsNode t n → goes (actOf t s n) ≡ true → Possible t tags s n
-  possible-out d n i e = subst (λ r. Accepted (r .answer)) (sym (step-out d n i)) (goes-out t tags (ag .fair) s n (actOf t s n) e)
+  possible-out d n i e = subst (λ r. IsTaken (r .answer)) (sym (step-out d n i)) (goes-out t tags (ag .fair) s n (actOf t s n) e)
 
   module _ (top x : ℕ) (et : top ≡ root t (functions t)) (ex : x ≡ entry (s .status) 0 top) where
     main-is : x ≡ entry (s .status) 0 main
@@ -175,7 +175,7 @@ module _ (t tags : List ℕ) (ag : Agreed t tags) (s₀ s : State512) (k : ℕ) 
         picked = d .picked ++ (n ∷ []);
         possible = play-nodes t tags s₀ (d .picked) (n ∷ [])
             ∙ ap₂ (λ l u. l ++ playOf t tags u (n ∷ []) .nodes) (d .possible) (d .state)
-            ∙ ap (λ l. d .picked ++ l) (play-one n ∙ noted-accepted (stepOf t tags s n .answer) n a);
+            ∙ ap (λ l. d .picked ++ l) (play-one n ∙ noted-taken (stepOf t tags s n .answer) n a);
         number = length-append (d .picked) (n ∷ []) ∙ ap (λ j. j + 1) (d .number);
         state = play-state t tags s₀ (d .picked) (n ∷ []) ∙ ap (λ u. playOf t tags u (n ∷ []) .state) (d .state) ∙ play-to n ∙ w;
         stands = subst (Stands t) (sym (h .1 .2)) (kept t s (d .stands) n (h .0 .1) m);
@@ -203,7 +203,7 @@ rests t s height n code s′ f tr c e m i g = go (ℕ-discrete n 0)
         let w : _≡_ {A = ℕ} 0 1 = cc in omega arith
 
 pub picks-from : (t tags : List ℕ) (s₀ s₁ s u : State512) (k budget : ℕ) (e : Ended) → s₀ ≡ s₁ → DroveTo t tags s₀ s k → k ≤ budget
-    → Says t tags budget k s e → u ≡ s → Picks t tags s₁ budget (record { taken = k; ended = e; state = u })
+    → Says t tags budget k s e → u ≡ s → Picks t tags s₁ budget (record { steps = k; ended = e; state = u })
 picks-from t tags s₀ s₁ s u k budget e w d i y q = record {
   picked = d .picked;
   possible = ap (λ v. playOf t tags v (d .picked) .nodes) (sym w) ∙ d .possible;
@@ -222,7 +222,7 @@ module _ (t tags : List ℕ) (s : State512) where
   finds-on r e h = subst (λ c. FindsAfter c t tags s r) (sym e) h
 
   pub drives-refused : (budget k p : ℕ) (r : Driven) → standing t tags s ≡ TableCheck.refused k p
-      → r ≡ record { taken = 0; ended = barred k p; state = s } → Drives t tags s budget r
+      → r ≡ record { steps = 0; ended = barred k p; state = s } → Drives t tags s budget r
   drives-refused budget k p r e h = subst (λ c. DrivesAfter c t tags s budget r) (sym e) h
 
   pub drives-on : (budget : ℕ) (r : Driven) → standing t tags s ≡ accepted (functions t) (nodes t) → Picks t tags s budget r

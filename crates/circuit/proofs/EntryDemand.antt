@@ -3,7 +3,7 @@ use Prim.Native.Nat.{ℕ}
 use mathlib.Core.Path.{_≡_, refl, subst, sym, ap, _∙_}
 use mathlib.Core.List.{List, [], _∷_}
 use Rattle.rules.specs.State.{In}
-use Rattle.rules.specs.Step.{refused}
+use Rattle.rules.specs.Step.{denied}
 use Rattle.rules.specs.Circuit.{started, startOf, playOf}
 use Rattle.circuit.specs.Meaning.{listsOf, replyOf, openingOf}
 use Rattle.circuit.specs.Entries.{StepsOf, answersOf, lastState, DemandOfEntries}
@@ -34,5 +34,5 @@ demand-of-entries t tags args old r₀ a o holds ns rs h =
       answers = p .0;
       state = p .1;
       demand = d;
-      arbitrated = λ place i. d .arbitrated place (subst (In (refused 23 place)) (p .0) i);
+      arbitrated = λ place i. d .arbitrated place (subst (In (denied 23 place)) (p .0) i);
     }

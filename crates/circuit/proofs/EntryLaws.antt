@@ -17,7 +17,7 @@ use Rattle.table.proofs.Passed.{passes}
 use Rattle.list.specs.Tags.{after, tagLength, nonePast, tagsRefusal, checkWith}
 use Rattle.list.proofs.Owners.{owner-of}
 use Rattle.rules.specs.State.{State512}
-use Rattle.rules.specs.Step.{Reply, taken, answered, refused, Stepped, refusal, over}
+use Rattle.rules.specs.Step.{Reply, taken, answered, denied, Stepped, refusal, over}
 use Rattle.rules.specs.Circuit.{circuitOf, stepOf}
 use Rattle.rules.specs.Runs.{standing, Ran, whole, stopped, andThen, runFrom, runOf}
 use Rattle.circuit.specs.Meaning.{numbers, stateAs}
@@ -91,10 +91,10 @@ refused-standing t tags s k p e = rw e refl
 
 -- a run over a list
 abbrev pub plus : ℕ → Ran → Ran
-plus i r = record { taken = i + r .taken; halt = r .halt; state = r .state }
+plus i r = record { steps = i + r .steps; halt = r .halt; state = r .state }
 
 pub run-turned : (t tags : List ℕ) (s : State512) (ns : List ℕ) (k p : ℕ) → standing t tags s ≡ TableCheck.refused k p
-    → _≡_ {A = Ran} (record { taken = 0; halt = stopped k p; state = s }) (runOf t tags s ns)
+    → _≡_ {A = Ran} (record { steps = 0; halt = stopped k p; state = s }) (runOf t tags s ns)
 unfolding runOf
 run-turned t tags s ns k p e = sym (rw e refl)
 
@@ -104,7 +104,7 @@ unfolding runOf
 run-goes t tags s ns F N e = sym (rw e refl)
 
 one-more : (x : Stepped) (l : Ran) → andThen x taken l ≡ plus 1 l
-one-more x l = λ j. record { taken = sum (l .taken) j; halt = l .halt; state = l .state }
+one-more x l = λ j. record { steps = sum (l .steps) j; halt = l .halt; state = l .state }
   where
     sum : (k : ℕ) → suc k ≡ 1 + k
     sum k = omega arith
@@ -120,10 +120,10 @@ module _ (t tags : List ℕ) (ag : Agreed t tags) (s : State512) (ns : List ℕ)
     next-run = ap (runFrom t tags s) (drop-cons ns i 0 h)
         ∙ sym (ap (λ x. andThen x (x .answer) (runFrom t tags (x .state) (drop (suc i) ns))) step-now)
 
-    pub run-stops : (k p : ℕ) → r ≡ refused k p → (u : State512) → u ≡ s′
-        → _≡_ {A = Ran} (record { taken = i; halt = stopped k p; state = u }) (plus i (runFrom t tags s (drop i ns)))
+    pub run-stops : (k p : ℕ) → r ≡ denied k p → (u : State512) → u ≡ s′
+        → _≡_ {A = Ran} (record { steps = i; halt = stopped k p; state = u }) (plus i (runFrom t tags s (drop i ns)))
     run-stops k p q u w =
-        (λ j. record { taken = plain j; halt = stopped k p; state = w j })
+        (λ j. record { steps = plain j; halt = stopped k p; state = w j })
         ∙ sym (ap (plus i) (next-run ∙ ap (λ x. andThen (record { answer = x; state = s′ }) x (runFrom t tags s′ (drop (suc i) ns))) q))
       where
         plain : i ≡ i + 0
@@ -135,7 +135,7 @@ module _ (t tags : List ℕ) (ag : Agreed t tags) (s : State512) (ns : List ℕ)
         ap (plus i) (next-run ∙ ap (λ x. andThen (record { answer = x; state = s′ }) x (runFrom t tags s′ (drop (suc i) ns))) q
         ∙ f (record { answer = b; state = s′ }) (runFrom t tags s′ (drop (suc i) ns)))
         ∙ (λ j. record {
-          taken = sum (runFrom t tags s′ (drop (suc i) ns) .taken) j;
+          steps = sum (runFrom t tags s′ (drop (suc i) ns) .steps) j;
           halt = runFrom t tags s′ (drop (suc i) ns) .halt;
           state = runFrom t tags s′ (drop (suc i) ns) .state;
         })
@@ -154,16 +154,16 @@ module _ (t tags : List ℕ) (ag : Agreed t tags) (s : State512) (ns : List ℕ)
     run-stands st = subst (λ x. Stands t (x .state)) (sym e) (turn-stands t tags (ag .fair) s st (getD ns i 0))
 
   pub run-ends : length ns ≤ i → (u : State512) → u ≡ s
-      → _≡_ {A = Ran} (record { taken = i; halt = whole; state = u }) (plus i (runFrom t tags s (drop i ns)))
+      → _≡_ {A = Ran} (record { steps = i; halt = whole; state = u }) (plus i (runFrom t tags s (drop i ns)))
   unfolding runFrom
-  run-ends h u w = (λ j. record { taken = plain j; halt = whole; state = w j })
+  run-ends h u w = (λ j. record { steps = plain j; halt = whole; state = w j })
       ∙ sym (ap (λ l. plus i (runFrom t tags s l)) (drop-of-length-le ns {i = i} h))
     where
       plain : i ≡ i + 0
       plain = omega arith
 
 pub run-begins : (r : Ran) → r ≡ plus 0 r
-run-begins r = λ j. record { taken = plain (r .taken) j; halt = r .halt; state = r .state }
+run-begins r = λ j. record { steps = plain (r .steps) j; halt = r .halt; state = r .state }
   where
     plain : (k : ℕ) → k ≡ 0 + k
     plain k = omega arith

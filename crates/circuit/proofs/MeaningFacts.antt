@@ -4,7 +4,7 @@ use mathlib.Core.Path.{_≡_, refl, sym, ap, _∙_}
 use mathlib.Core.List.{List, [], _∷_, map}
 use Rattle.table.specs.declared.Node.{Node}
 use Rattle.rules.specs.State.{State512}
-use Rattle.rules.specs.Step.{Reply, taken, answered, refused}
+use Rattle.rules.specs.Step.{Reply, taken, answered, denied}
 use Rattle.rules.specs.Circuit.{started, turned}
 use Rattle.rules.specs.Circuit as Circuit
 use Rattle.rules.specs.Runs.{whole, stopped, gave, atRest, spent, barred, names, nothing, unasked}
@@ -46,7 +46,7 @@ state-same s t e =
 answer-back : Reply → Answer
 answer-back taken = Answer.Taken
 answer-back (answered v) = Answer.Answered v
-answer-back (refused k p) = Answer.Refused k (nodeOf p)
+answer-back (denied k p) = Answer.Refused k (nodeOf p)
 
 pub answer-same : (a b : Answer) → replyOf a ≡ replyOf b → a ≡ b
 answer-same = apart replyOf answer-back undone
@@ -85,7 +85,7 @@ pub ran-same : (r s : Ran) → ranOf r ≡ ranOf s → r ≡ s
 ran-same r s e =
     let h = apart haltOf halt-back undone (r .halt) (s .halt) (ap (λ x. x .halt) e) in
     let t = state-same (r .state) (s .state) (ap (λ x. x .state) e) in
-    (λ i. record { taken = e i .taken; halt = h i; state = t i })
+    (λ i. record { taken = e i .steps; halt = h i; state = t i })
   where
     undone : (a : Halt) → halt-back (haltOf a) ≡ a
     undone Halt.Whole = unfold halt-back in refl
@@ -101,7 +101,7 @@ pub driven-same : (r s : Driven) → drivenOf r ≡ drivenOf s → r ≡ s
 driven-same r s e =
     let h = apart endedOf ended-back undone (r .ended) (s .ended) (ap (λ x. x .ended) e) in
     let t = state-same (r .state) (s .state) (ap (λ x. x .state) e) in
-    (λ i. record { taken = e i .taken; ended = h i; state = t i })
+    (λ i. record { taken = e i .steps; ended = h i; state = t i })
   where
     undone : (a : Ended) → ended-back (endedOf a) ≡ a
     undone (Ended.Answered v) = unfold ended-back in refl

@@ -44,7 +44,7 @@ module _ (t : List ℕ) (fair : Fair t) (n : ℕ) (i : IsNode t n) (a : List ℕ
   act-in : FairAct (functions t) (nodes t) (owner t) (bodyOf t) (id (exprAt t n)) (actOf t s n)
   act-in =
       let laid = lay t (functions t) (nodes t) fair in
-      act-fair operate laid (view s) (owner t n) (laid .home-there n (i .0) (i .1)) (exprAt t n) (laid .placed n (i .0) (i .1))
+      act-fair operate laid (view s) (owner t n) (laid .home-there n i) (exprAt t n) (laid .placed n i)
 
   there : (m : Move) → does m ≡ actOf t s n → FairAct (functions t) (nodes t) (owner t) (bodyOf t) (id (exprAt t n)) (does m)
   there m q = subst (FairAct (functions t) (nodes t) (owner t) (bodyOf t) (id (exprAt t n))) (sym q) act-in

@@ -7,7 +7,7 @@ use native.Mathlib.Omega.{arith}
 use native.Mathlib.Decide.{ℕ-discrete, decLe}
 use lib.Dec.{eqb}
 use borrow.Author.Tests.{eq-eqb, ne-eqb, lt-ltb}
-use Rattle.rules.proofs.StepFacts.{told-accepted}
+use Rattle.rules.proofs.StepFacts.{told-taken}
 use Rattle.table.proofs.Tests.{ltb-no}
 use Rattle.table.specs.Pick.{pick}
 use Rattle.table.specs.Syntax.{id}
@@ -20,10 +20,10 @@ use Rattle.table.proofs.Accepted.{id-body}
 use Rattle.table.proofs.Passed.{passed}
 use Rattle.list.specs.Tags.{tagged, checkWith}
 use Rattle.rules.specs.State.{State512, view, entry}
-use Rattle.rules.specs.Step.{Act, stuck, blocked, does, Reply, taken, answered, refused, Stepped, refusal, done, told, outcome, perform}
+use Rattle.rules.specs.Step.{Act, stuck, blocked, does, Reply, taken, answered, denied, Stepped, refusal, done, told, outcome, perform}
 use Rattle.rules.specs.Step.{circuitStep, over}
 use Rattle.rules.specs.Operations.{operate}
-use Rattle.rules.specs.Play.{Accepted}
+use Rattle.rules.specs.Play.{IsTaken}
 use Rattle.rules.specs.Circuit.{actOf, circuitOf, stepAfter, stepOf}
 use Rattle.circuit.specs.Plan.{Fair, Took, Stands, goes}
 use Rattle.rules.proofs.Demands.{after-both}
@@ -98,15 +98,15 @@ module _ (t tags : List ℕ) (fair : Fair t) (s : State512) (n : ℕ) where
   Out a = outcome operate (functions t) (nodes t) (bodyOf t) (exprAt t) (owner t) (tagged tags) s n a
 
   module _ (s′ : State512) (code : ℕ) where
-    pub out-stuck : (a : Act) → Took t s n a code s′ → code ≡ 0 → _≡_ {A = Stepped} (record { answer = refused 21 n; state = s′ }) (Out a)
-    out-stuck stuck h e = λ i. record { answer = refused 21 n; state = h .1 i }
+    pub out-stuck : (a : Act) → Took t s n a code s′ → code ≡ 0 → _≡_ {A = Stepped} (record { answer = denied 21 n; state = s′ }) (Out a)
+    out-stuck stuck h e = λ i. record { answer = denied 21 n; state = h .1 i }
     out-stuck blocked h e = absurd (omega (arith, h .0))
     out-stuck (does m) h e = absurd (omega (arith, h .0))
 
     pub out-held : (a : Act) → Took t s n a code s′ → code ≡ 1 → (k : ℕ) → k ≡ pick (tagged tags n) 22 23
-        → _≡_ {A = Stepped} (record { answer = refused k n; state = s′ }) (Out a)
+        → _≡_ {A = Stepped} (record { answer = denied k n; state = s′ }) (Out a)
     out-held stuck h e k ek = absurd (omega (arith, h .0))
-    out-held blocked h e k ek = λ i. record { answer = refused (ek i) n; state = h .1 i }
+    out-held blocked h e k ek = λ i. record { answer = denied (ek i) n; state = h .1 i }
     out-held (does m) h e k ek = absurd (omega (arith, h .0))
 
     pub out-moved : (a : Act) → Took t s n a code s′ → (code ≡ 0 → ⊥) → (code ≡ 1 → ⊥) → (top : ℕ) → top ≡ root t (functions t)
@@ -123,15 +123,15 @@ module _ (t tags : List ℕ) (fair : Fair t) (s : State512) (n : ℕ) where
           state = u;
         }) (h .1)
 
-  pub out-goes : (a : Act) → Accepted (Out a .answer) → goes a ≡ true
+  pub out-goes : (a : Act) → IsTaken (Out a .answer) → goes a ≡ true
   out-goes stuck h = absurd h
   out-goes blocked h = absurd h
   out-goes (does m) h = refl
 
-  pub goes-out : (a : Act) → goes a ≡ true → Accepted (Out a .answer)
+  pub goes-out : (a : Act) → goes a ≡ true → IsTaken (Out a .answer)
   goes-out stuck e = let z : _≡_ {A = ℕ} 0 1 = cc in absurd (omega arith)
   goes-out blocked e = let z : _≡_ {A = ℕ} 0 1 = cc in absurd (omega arith)
-  goes-out (does m) e = told-accepted (done (view (perform (nodes t) (owner t) (bodyOf t) s n m)) (id (bodyOf t (functions t)))) _
+  goes-out (does m) e = told-taken (done (view (perform (nodes t) (owner t) (bodyOf t) s n m)) (id (bodyOf t (functions t)))) _
 
   out-stands : n ≤ nodes t → Stands t s → (a : Act) → Stands t (Out a .state)
   out-stands h st stuck = st

@@ -4,7 +4,7 @@ use mathlib.Core.Path.{_≡_}
 use mathlib.Core.List.{List, [], _∷_, map}
 use Rattle.list.specs.Tags.{Holding}
 use Rattle.rules.specs.State.{In}
-use Rattle.rules.specs.Step.{Reply, refused}
+use Rattle.rules.specs.Step.{Reply, denied}
 use Rattle.rules.specs.Circuit.{startOf, stepOf, playOf}
 use Rattle.rules.specs.Demand.{DemandThree}
 use Rattle.circuit.specs.Meaning.{listsOf, replyOf, steppedOf, StartedAs}
@@ -35,7 +35,7 @@ pub record EntryDemand (t tags args : List ℕ) (r₀ : Started) (ns : List ℕ)
   pub state : listsOf (lastState (r₀ .state) rs) ≡ playOf t tags (listsOf (r₀ .state)) ns .state
   pub demand : DemandThree t tags args (listsOf (r₀ .state)) ns
   -- no step answered 23
-  pub arbitrated : (place : ℕ) → In (refused 23 place) (answersOf rs) → ⊥
+  pub arbitrated : (place : ℕ) → In (denied 23 place) (answersOf rs) → ⊥
 
 abbrev pub DemandOfEntries : Type 0
 DemandOfEntries = (t tags args : List ℕ) (old : State) (r₀ : Started) → StartedAs old r₀ (startOf t tags args) → r₀ .opening ≡

@@ -5,7 +5,7 @@ use mathlib.Core.Bool.{Bool}
 use mathlib.Core.List.{List, map}
 use Rattle.table.specs.declared.Node.{Node}
 use Rattle.rules.specs.State.{State512}
-use Rattle.rules.specs.Step.{Reply, taken, answered, refused, Stepped}
+use Rattle.rules.specs.Step.{Reply, taken, answered, denied, Stepped}
 use Rattle.rules.specs.Circuit.{Started, started, turned, stateOf}
 use Rattle.rules.specs.Runs.{Halt, whole, stopped, Ran, Ended, gave, atRest, spent, barred, Driven, Found, names, nothing, unasked}
 use Rattle.circuit.specs.declared.types.State.{State}
@@ -46,7 +46,7 @@ listsOf s = record {
 abbrev pub replyOf : Answer → Reply
 replyOf Answer.Taken = taken
 replyOf (Answer.Answered v) = answered v
-replyOf (Answer.Refused k p) = refused k (p .0)
+replyOf (Answer.Refused k p) = denied k (p .0)
 
 abbrev pub steppedOf : SteppedCode → Stepped
 steppedOf r = record { answer = replyOf (r .answer); state = listsOf (r .state) }
@@ -70,7 +70,7 @@ haltOf HaltCode.Whole = whole
 haltOf (HaltCode.Refused k p) = stopped k (p .0)
 
 abbrev pub ranOf : RanCode → Ran
-ranOf r = record { taken = r .taken; halt = haltOf (r .halt); state = listsOf (r .state) }
+ranOf r = record { steps = r .taken; halt = haltOf (r .halt); state = listsOf (r .state) }
 
 -- "answered .., at rest .., or spent"
 abbrev pub endedOf : EndedCode → Ended
@@ -80,7 +80,7 @@ endedOf EndedCode.Spent = spent
 endedOf (EndedCode.Refused k p) = barred k (p .0)
 
 abbrev pub drivenOf : DrivenCode → Driven
-drivenOf r = record { taken = r .taken; ended = endedOf (r .ended); state = listsOf (r .state) }
+drivenOf r = record { steps = r .taken; ended = endedOf (r .ended); state = listsOf (r .state) }
 
 -- "a possible step, any one, or none"
 abbrev pub foundOf : FoundCode → Found

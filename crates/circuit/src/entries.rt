@@ -98,7 +98,7 @@ fn step_standing(table: &[u8], cells: &Cells, tags: &[u8], s: State, n: Node) ->
 }
 
 pub(crate) fn stop(s: State, number: u8, place: Node) -> Ran
-    ensures { λ r. ⌜ _≡_ {A = RanAs} (ranOf r) (record { taken = 0; halt = stopped number (place .0); state = listsOf s }) ⌝ }
+    ensures { λ r. ⌜ _≡_ {A = RanAs} (ranOf r) (record { steps = 0; halt = stopped number (place .0); state = listsOf s }) ⌝ }
 {
     Ran {
         taken: 0,

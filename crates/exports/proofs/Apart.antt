@@ -2,7 +2,7 @@
 use Prim.Native.Nat.{ℕ}
 use mathlib.Core.Path.{_≡_, refl, ap₂, ap}
 use native.Mathlib.Omega.{arith}
-use Rattle.rules.specs.Step.{Reply, taken, answered, refused}
+use Rattle.rules.specs.Step.{Reply, taken, answered, denied}
 use Rattle.rules.specs.Runs.{Halt, whole, stopped, Ended, gave, atRest, spent, barred, Found, names, nothing, unasked}
 use Rattle.exports.specs.Answers.{refusalCode, replyCode, foundCode, haltCode, endedCode}
 use Rattle.exports.specs.Answers.{Refusable, FitsReply, FitsFound, FitsHalt, FitsEnded}
@@ -17,13 +17,13 @@ same-refusal f k p k′ p′ b b′ e =
 pub replies-apart : (r r′ : Reply) → FitsReply r → FitsReply r′ → replyCode r ≡ replyCode r′ → r ≡ r′
 replies-apart taken taken b b′ e = refl
 replies-apart taken (answered v) b b′ e = absurd (omega (arith, e))
-replies-apart taken (refused k p) b b′ e = absurd (omega (arith, e))
+replies-apart taken (denied k p) b b′ e = absurd (omega (arith, e))
 replies-apart (answered v) taken b b′ e = absurd (omega (arith, e))
 replies-apart (answered v) (answered w) b b′ e = ap answered (omega (arith, e))
-replies-apart (answered v) (refused k p) b b′ e = absurd (omega (arith, e, b))
-replies-apart (refused k p) taken b b′ e = absurd (omega (arith, e))
-replies-apart (refused k p) (answered v) b b′ e = absurd (omega (arith, e, b′))
-replies-apart (refused k p) (refused k′ p′) b b′ e = same-refusal refused k p k′ p′ b b′ e
+replies-apart (answered v) (denied k p) b b′ e = absurd (omega (arith, e, b))
+replies-apart (denied k p) taken b b′ e = absurd (omega (arith, e))
+replies-apart (denied k p) (answered v) b b′ e = absurd (omega (arith, e, b′))
+replies-apart (denied k p) (denied k′ p′) b b′ e = same-refusal denied k p k′ p′ b b′ e
 
 pub founds-apart : (r r′ : Found) → FitsFound r → FitsFound r′ → foundCode r ≡ foundCode r′ → r ≡ r′
 founds-apart nothing nothing b b′ e = refl

@@ -35,7 +35,7 @@ module _ (s : State) (lent : State512) where
       → r ≡ haltCode (haltOf (y .halt)) → s′ ≡ listsOf (y .state) → RunTold (runOf t tags lent ns) r (y .taken) s′
   run-told t tags ns y s′ g e k l =
       let q : ranOf y ≡ runOf t tags lent ns = e ∙ ap (λ z. runOf t tags z ns) g in
-      record { code = k ∙ ap (λ z. haltCode (z .halt)) q; count = ap (λ z. z .taken) q; state = l ∙ ap (λ z. z .state) q }
+      record { code = k ∙ ap (λ z. haltCode (z .halt)) q; count = ap (λ z. z .steps) q; state = l ∙ ap (λ z. z .state) q }
 
   pub drive-told : (t tags : List ℕ) (budget : ℕ) (y : DrivenCode) (s′ : State512) {r : ℕ} → listsOf s ≡ lent
       → Drives t tags (listsOf s) budget (drivenOf y) → r ≡ endedCode (endedOf (y .ended)) → s′ ≡ listsOf (y .state)

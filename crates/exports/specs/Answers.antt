@@ -3,7 +3,7 @@ use Prim.Native.Nat.{ℕ, _+_, _*_, _<_}
 use mathlib.Core.Path.{_≡_}
 use mathlib.Core.List.{List}
 use Rattle.rules.specs.State.{State512}
-use Rattle.rules.specs.Step.{Reply, taken, answered, refused, Stepped}
+use Rattle.rules.specs.Step.{Reply, taken, answered, denied, Stepped}
 use Rattle.rules.specs.Circuit.{Started, started, turned, stateOf}
 use Rattle.rules.specs.Runs.{Halt, whole, stopped, Ran, Ended, gave, atRest, spent, barred, Driven, Drives}
 use Rattle.rules.specs.Runs.{Found, names, nothing, unasked, Finds}
@@ -23,7 +23,7 @@ startCode (turned number place) = number * 65536 + place
 abbrev pub replyCode : Reply → ℕ
 replyCode taken = 0
 replyCode (answered v) = valueCode v
-replyCode (refused number place) = refusalCode number place
+replyCode (denied number place) = refusalCode number place
 
 abbrev pub foundCode : Found → ℕ
 foundCode nothing = 0
@@ -50,7 +50,7 @@ Valued v = v < 4294967296
 abbrev pub FitsReply : Reply → Type 0
 FitsReply taken = Unit {0}
 FitsReply (answered v) = Valued v
-FitsReply (refused number place) = Refusable number place
+FitsReply (denied number place) = Refusable number place
 
 abbrev pub FitsFound : Found → Type 0
 FitsFound nothing = Unit {0}
@@ -86,7 +86,7 @@ pub record QueryTold (t tags : List ℕ) (s : State512) (r : ℕ) : Type 0 where
 -- of a run x over a list
 pub record RunTold (x : Ran) (r k : ℕ) (s′ : State512) : Type 0 where
   pub code : r ≡ haltCode (x .halt)
-  pub count : k ≡ x .taken
+  pub count : k ≡ x .steps
   pub state : s′ ≡ x .state
 
 -- of a run with a budget from state s
@@ -94,5 +94,5 @@ pub record DriveTold (t tags : List ℕ) (s : State512) (budget r k : ℕ) (s′
   pub driven : Driven
   pub drives : Drives t tags s budget driven
   pub code : r ≡ endedCode (driven .ended)
-  pub count : k ≡ driven .taken
+  pub count : k ≡ driven .steps
   pub state : s′ ≡ driven .state

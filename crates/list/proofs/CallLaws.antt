@@ -160,17 +160,17 @@ module _ (t : List ℕ) (ok : Taken t) where
   calling : (f : ℕ) → 1 ≤ f → f ≤ functions t → Calling Called (bodyOf t f)
   calling f a b c g i =
       let l = laid t (functions t) (nodes t) ok in
-      let r = l .inside f c a b (call-node c g (bodyOf t f) i) in
+      let r = l .inside f c (a, b) (call-node c g (bodyOf t f) i) in
       let q = call-here l f c g (a, b) i in
       let e : calleeOf t c ≡ g = callee-word t c ∙ ap callee (q .1) in
-      let w = l .well .below f c g a b i in
+      let w = l .well .below f c g (a, b) i in
       ((r .1, r .2), (omega (arith, e, w .0), omega (arith, e, w .1, l .functions)))
 
   calling-at : (n : ℕ) → IsNode t n → Calling Called (exprAt t n)
   calling-at n i c g k =
       let l = laid t (functions t) (nodes t) ok in
-      let o = l .home-there n (i .0) (i .1) in
-      calling (owner t n) (o .0) (o .1) c g (call-up (exprAt t n) c g k (bodyOf t (owner t n)) (l .placed n (i .0) (i .1)))
+      let o = l .home-there n i in
+      calling (owner t n) (o .0) (o .1) c g (call-up (exprAt t n) c g k (bodyOf t (owner t n)) (l .placed n i))
 
   pub calls-called : (n : ℕ) → IsNode t n → (m : ℕ) → callsAt t (exprAt t n) m ≡ true → Called m
   unfolding callsAt callsBy
@@ -189,18 +189,18 @@ module _ (t : List ℕ) (ok : Taken t) where
   unfolding callsAt callsBy
   body-set g m i =
       whole-set (nodes t) (calleeOf t) (bodyOf t) m (functions t) g (i .0) (i .1)
-      (λ c h k. laid t (functions t) (nodes t) ok .well .below g c h (i .0) (i .1) k .1)
+      (λ c h k. laid t (functions t) (nodes t) ok .well .below g c h i k .1)
 
   -- the conflicts of a node are listed
   pub node-listed : (n : ℕ) → IsNode t n → (m : ℕ) → conflictsAt t (exprAt t n) m ≡ true → listed t m ≡ true
   unfolding conflictsAt callsBy listed listedIn
   node-listed n i m e =
       let l = laid t (functions t) (nodes t) ok in
-      let o = l .home-there n (i .0) (i .1) in
+      let o = l .home-there n i in
       any-in (functions t) (λ f. conflicts (nodes t) (calleeOf t) (callsOf (nodes t) (calleeOf t) (bodyOf t) (functions t)) (bodyOf t f) m)
       (owner t n) (o .0) (o .1)
       (part (nodes t) (calleeOf t) (callsOf (nodes t) (calleeOf t) (bodyOf t) (functions t)) m (exprAt t n) e (bodyOf t (owner t n))
-      (l .placed n (i .0) (i .1)))
+      (l .placed n i))
 
   -- what is listed is a call of a function of the table
   pub listed-called : (n : ℕ) → listed t n ≡ true → (1 ≤ calleeOf t n) × (calleeOf t n ≤ functions t)
@@ -212,6 +212,6 @@ module _ (t : List ℕ) (ok : Taken t) where
       here f a b c g i =
           let l = laid t (functions t) (nodes t) ok in
           let q = call-here l f c g (a, b) i in
-          let w = l .well .below f c g a b i in
+          let w = l .well .below f c g (a, b) i in
           let z : calleeOf t c ≡ g = callee-word t c ∙ ap callee (q .1) in
           (omega (arith, z, w .0), omega (arith, z, w .1, b))

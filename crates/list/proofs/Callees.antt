@@ -61,4 +61,4 @@ pub listed-exactly : (t : List ℕ) (F N : ℕ) → checkOf t ≡ accepted F N �
     → Decides (listed t n) (Listed (bodyOf t) (exprAt t) (functions t) n)
 unfolding listed
 listed-exactly t F N e = listed-decides (functions t) (nodes t) (bodyOf t) (exprAt t) (calleeOf t) (callee-word t)
-    (λ f a b c g i. let r = laid t F N e .inside f c a b (call-node c g (bodyOf t f) i) in (r .1, r .2))
+    (λ f a b c g i. let r = laid t F N e .inside f c (a, b) (call-node c g (bodyOf t f) i) in (r .1, r .2))

@@ -123,7 +123,7 @@ module _ (body at : ℕ → Expr) (F : ℕ) (below : (f c g : ℕ) → 1 ≤ f �
 
 module _ (t : List ℕ) (ok : Taken t) where
   calls : (f : ℕ) → 1 ≤ f → f ≤ functions t → Calling (Range (nodes t)) (bodyOf t f)
-  calls f a b c g i = let r = laid t (functions t) (nodes t) ok .inside f c a b (call-node c g (bodyOf t f) i) in (r .1, r .2)
+  calls f a b c g i = let r = laid t (functions t) (nodes t) ok .inside f c (a, b) (call-node c g (bodyOf t f) i) in (r .1, r .2)
 
   decided : (g m : ℕ) → Decides (callsBy t g m) (bodySets t g m)
   unfolding callsBy
@@ -152,7 +152,7 @@ module _ (t : List ℕ) (ok : Taken t) where
     exactly = λ n. through (listed-exactly t (functions t) (nodes t) ok n) (whole n);
     call-equation = of-bodies (bodyOf t) (exprAt t) (functions t) (bodySets t) own-sets;
     unique = λ B x f a b m.
-        agree (bodyOf t) (exprAt t) (functions t) (laid t (functions t) (nodes t) ok .well .below) B (bodySets t)
+        agree (bodyOf t) (exprAt t) (functions t) (λ f c g a b. laid t (functions t) (nodes t) ok .well .below f c g (a, b)) B (bodySets t)
         (of-calls (bodyOf t) (exprAt t) (functions t) B x) own-sets f f m (omega arith) a b;
   }
 

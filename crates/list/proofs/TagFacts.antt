@@ -101,11 +101,11 @@ module _ (t : List ℕ) (F N : ℕ) (check : checkOf t ≡ accepted F N) where
 
       here : (f : ℕ) → 1 ≤ f → f ≤ functions t → Calling (λ c. Range (nodes t) c × (isCall t c ≡ true)) (bodyOf t f)
       here f a b c g i =
-          let r = laid t F N check .inside f c a b (call-node c g (bodyOf t f) i) in
+          let r = laid t F N check .inside f c (a, b) (call-node c g (bodyOf t f) i) in
           let q = call-here (laid t F N check) f c g (a, b) i in (
             (r .1, r .2),
             called (isCall t c) (word t c) g (callee-word t c ∙ ap callee (q .1))
-                (laid t F N check .well .below f c g a b i .0),
+                (laid t F N check .well .below f c g (a, b) i .0),
           )
 
   tag-in : (n : ℕ) → n ≤ nodes t → n ≤ 8 * tagLength t

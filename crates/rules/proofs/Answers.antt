@@ -1,6 +1,5 @@
 -- from a start: whatever the order of the steps, main's answer and the number of steps are the reading's
-use Prim.Native.Nat.{ℕ, zero, suc, _+_, _≤_, _<_}
-use mathlib.Core.Bool.{true}
+use Prim.Native.Nat.{ℕ, zero, suc, _+_, _<_}
 use mathlib.Core.Path.{_≡_, refl, subst, sym, ap, _∙_, fun-ext}
 use mathlib.Core.Logic.{inl, inr, ⊎-elim}
 use mathlib.Core.List.{List}
@@ -9,132 +8,124 @@ use native.Mathlib.Decide.{ℕ-discrete}
 use lib.ListN.{getD}
 use Rattle.table.specs.Syntax.{Expr, id, Every, Node}
 use Rattle.rules.specs.State.{View}
-use Rattle.rules.proofs.Shape.{Still, Busy, Done, Opened}
+use Rattle.rules.proofs.Shape.{Still, Done, Opened}
 use Rattle.rules.proofs.Moves.{finished}
-use Rattle.table.specs.Well.{CallIn, Well}
+use Rattle.table.specs.Well.{Fn, Well}
 use Rattle.table.proofs.CallPlaces.{call-node}
 use Rattle.rules.proofs.Places.{still-busy}
-use Rattle.rules.proofs.Invariant.{Step, inner, enter, leave, again, inner-sound, Fn, Active, New, Sound, new-live}
+use Rattle.rules.proofs.Invariant.{Step, inner, enter, leave, again, Active, New, Holder, Sound, new-live}
 use Rattle.rules.specs.Reading.{val, Readings, Reads}
 use Rattle.rules.proofs.Counts.{left-reads, over-left}
 use Rattle.rules.proofs.Total.{step-before}
 use Rattle.table.specs.Find.{total}
-use Rattle.rules.proofs.SumLaws.{sum-zero}
+use Rattle.rules.proofs.SumLaws.{sum-zero, sum-last}
 use Rattle.rules.proofs.Remaining.{Closes, nowhere, Rest, Expects}
-use Rattle.rules.proofs.Enter as Enter
-use Rattle.rules.proofs.Leave as Leave
-use Rattle.rules.proofs.Again as Again
+use Rattle.rules.proofs.Acting.{inner-acts, enter-acts, leave-acts, again-acts}
+use Rattle.rules.proofs.Inner.{inner-sound}
+use Rattle.rules.proofs.Enter.{enter-sound}
+use Rattle.rules.proofs.Leave.{leave-sound}
+use Rattle.rules.proofs.Again.{again-sound}
 
-module _ (apply : ℕ → List ℕ → ℕ) (F : ℕ) (body : ℕ → Expr) (well : Well F body) where
-  pub step-sound : (s s′ : View) → Sound apply F body s → Step apply F body s s′ → Sound apply F body s′
-  step-sound s s′ d (inner h r u st) = inner-sound apply F body well s s′ d h r u st
-  step-sound s s′ d (enter h r n g es st) = Enter.enter-sound apply F body well s s′ d h r n g es st
-  step-sound s s′ d (leave h r n g es st) = Leave.leave-sound apply F body well s s′ d h r n g es st
-  step-sound s s′ d (again h r n es st) = Again.again-sound apply F body well s s′ d h r n es st
+-- n steps lead from s to s′
+pub data Steps (apply : ℕ → List ℕ → ℕ) (F : ℕ) (body : ℕ → Expr) (s : View) : View → ℕ → Type 0 where
+  rest : Steps apply F body s s 0
+  then : {t u : View} {n : ℕ} → Steps apply F body s t n → Step apply F body t u → Steps apply F body s u (suc n)
 
-  -- n steps lead from s to s′
-  pub data Steps (s : View) : View → ℕ → Type 0 where
-    rest : Steps s s 0
-    then : {t u : View} {n : ℕ} → Steps s t n → Step apply F body t u → Steps s u (suc n)
+-- a started circuit: main's body new, every other body idle, every resource free
+pub record AtStart (F : ℕ) (body : ℕ → Expr) (s : View) (args : List ℕ) : Type 0 where
+  pub main : New body s F
+  pub others : (f : ℕ) → Fn F body f → (f ≡ F → ⊥) → Every (Still s) (body f)
+  pub free : (f : ℕ) → s .occupant f ≡ 0
+  pub arguments : (i : ℕ) → s .register F i ≡ getD args i 0
 
-  pub steps-sound : (s s′ : View) (n : ℕ) → Sound apply F body s → Steps s s′ n → Sound apply F body s′
+pub started-sound : {F : ℕ} {body : ℕ → Expr} (s : View) (args : List ℕ) → AtStart F body s args → Sound F body s
+started-sound {F} {body} s args st = record {
+  opened = λ f q a. opened-f f a;
+  rest = λ f q a. st .others f q (λ e. a (inl e));
+  held = λ f c q e z. absurd (z (sym e ∙ st .free f));
+  top = st .free F;
+}
+  where
+    opened-f : (f : ℕ) → Active F s f → Opened s (body f)
+    opened-f f (inl e) = subst (λ x. Opened s (body x)) (sym e) (inl (new-live s (body F) (st .main .0) (st .main .1)))
+    opened-f f (inr z) = absurd (z (st .free f))
+
+-- main's root is done: nothing else is under way
+module _ {F : ℕ} {body : ℕ → Expr} (s : View) (sound : Sound F body s) (r : Fn F body F) (over : s .status (id (body F)) ≡ 3) where
+  main-done : Done s (body F)
+  main-done = finished s (body F) (sound .opened F r (inl refl)) over
+
+  asleep : (k f : ℕ) → F < k + f → Fn F body f → (f ≡ F → ⊥) → s .occupant f ≡ 0
+  asleep zero f h q d = absurd (omega (arith, h, q .1))
+  asleep (suc k) f h q d = go (ℕ-discrete (s .occupant f) 0) (λ g x y z. asleep k g x y z)
+    where
+      go : Dec (s .occupant f ≡ 0) → ((g : ℕ) → F < k + g → Fn F body g → (g ≡ F → ⊥) → s .occupant g ≡ 0) → s .occupant f ≡ 0
+      go (yes z) ih = z
+      go (no z) ih = absurd (up (ℕ-discrete (o .0) F))
+        where
+          o : Holder F body s f (s .occupant f)
+          o = sound .held f (s .occupant f) q refl z
+
+          up : Dec (o .0 ≡ F) → ⊥
+          up (yes e) = still-busy s (s .occupant f) (o .4 .0) (body F) (main-done .1) (subst (λ x. Node (s .occupant f) (body x)) e
+              (call-node (s .occupant f) f (body (o .0)) (o .3)))
+          up (no e) =
+              let z₀ = ih (o .0) (omega (arith, h, o .2)) (o .1) e in
+              still-busy s (s .occupant f) (o .4 .0) (body (o .0)) (sound .rest (o .0) (o .1) (⊎-elim e (λ y. y z₀)))
+              (call-node (s .occupant f) f (body (o .0)) (o .3))
+
+module _ {apply : ℕ → List ℕ → ℕ} {F : ℕ} {body : ℕ → Expr} (well : Well F body) where
+  pub step-sound : (s s′ : View) → Sound F body s → Step apply F body s s′ → Sound F body s′
+  step-sound s s′ d (inner h r u st) = inner-sound (inner-acts well d r st) st
+  step-sound s s′ d (enter h r n g es st) = enter-sound (enter-acts well d r st) st
+  step-sound s s′ d (leave h r n g es st) = leave-sound (leave-acts well d r st) st
+  step-sound s s′ d (again h r n es st) = again-sound (again-acts well d r st) st
+
+  pub steps-sound : (s s′ : View) (n : ℕ) → Sound F body s → Steps apply F body s s′ n → Sound F body s′
   steps-sound s s′ n d rest = d
   steps-sound s s′ n d (then {t = t} p st) = step-sound t s′ (steps-sound s t _ d p) st
 
-  -- main's root is done: nothing else is under way
-  module _ (s : View) (sound : Sound apply F body s) (r : Fn apply F body F) (over : s .status (id (body F)) ≡ 3) where
-    main-done : Done s (body F)
-    main-done = finished s (body F) (sound .opened F r (inl refl)) over
-
-    asleep : (k f : ℕ) → F < k + f → Fn apply F body f → (f ≡ F → ⊥) → s .occupant f ≡ 0
-    asleep zero f h q d = absurd (omega (arith, h, q .1))
-    asleep (suc k) f h q d = go (ℕ-discrete (s .occupant f) 0) (λ g x y z. asleep k g x y z)
-      where
-        go : Dec (s .occupant f ≡ 0) → ((g : ℕ) → F < k + g → Fn apply F body g → (g ≡ F → ⊥) → s .occupant g ≡ 0) → s .occupant f ≡ 0
-        go (yes z) ih = z
-        go (no z) ih = absurd (up (ℕ-discrete (o .0) F))
-          where
-            o : (g : ℕ) × Fn apply F body g × (f < g) × CallIn (s .occupant f) f (body g) × Busy s (s .occupant f) true
-            o = sound .held f (s .occupant f) q refl z
-
-            up : Dec (o .0 ≡ F) → ⊥
-            up (yes e) = still-busy s (s .occupant f) (o .4 .0) (body F) (main-done .1) (subst (λ x. Node (s .occupant f) (body x)) e
-                (call-node (s .occupant f) f (body (o .0)) (o .3)))
-            up (no e) =
-                let z₀ = ih (o .0) (omega (arith, h, o .2)) (o .1) e in
-                still-busy s (s .occupant f) (o .4 .0) (body (o .0)) (sound .rest (o .0) (o .1) (⊎-elim e (λ y. y z₀)))
-                (call-node (s .occupant f) f (body (o .0)) (o .3))
-
-  -- a started circuit: main's body new, every other body idle, every resource free
-  pub record Started (s : View) (args : List ℕ) : Type 0 where
-    pub main : New apply F body s F
-    pub others : (f : ℕ) → Fn apply F body f → (f ≡ F → ⊥) → Every (Still s) (body f)
-    pub free : (f : ℕ) → s .occupant f ≡ 0
-    pub arguments : (i : ℕ) → s .register F i ≡ getD args i 0
-
-  pub started-sound : (s : View) (args : List ℕ) → Started s args → Sound apply F body s
-  started-sound s args st = record {
-    opened = λ f q a. opened-f f a;
-    rest = λ f q a. st .others f q (λ e. a (inl e));
-    held = λ f c q e z. absurd (z (sym e ∙ st .free f));
-    top = st .free F;
-  }
-    where
-      opened-f : (f : ℕ) → Active apply F body s f → Opened s (body f)
-      opened-f f (inl e) = subst (λ x. Opened s (body x)) (sym e) (inl (new-live apply F body s (body F) (st .main .0) (st .main .1)))
-      opened-f f (inr z) = absurd (z (st .free f))
-
-  sum-main : (k : ℕ) (R : ℕ → ℕ) → ((f : ℕ) → 1 ≤ f → f ≤ k → R f ≡ 0) → total R k ≡ 0
-  unfolding total
-  sum-main zero R h = refl
-  sum-main (suc k) R h = omega (arith, h (suc k) (omega arith) (omega arith), sum-main k R (λ f a b. h f a (omega arith)))
-
-  sum-last : (k : ℕ) (R : ℕ → ℕ) → 1 ≤ k → ((f : ℕ) → 1 ≤ f → f < k → R f ≡ 0) → total R k ≡ R k
-  unfolding total
-  sum-last zero R a h = absurd (omega arith)
-  sum-last (suc k) R a h = omega (arith, sum-main k R (λ f p q. h f p (omega arith)))
-
-  module _ (K : Readings) (reads : Closes apply F body K) where
-    pub steps-before : (s s′ : View) (n : ℕ) (W′ R′ : ℕ → ℕ) → Sound apply F body s → Steps s s′ n → Expects apply F body K s′ W′ R′
+  module _ {K : Readings} (reads : Closes apply F body K) where
+    pub steps-before : (s s′ : View) (n : ℕ) (W′ R′ : ℕ → ℕ) → Sound F body s → Steps apply F body s s′ n → Expects apply F body K s′ W′ R′
         → (W R : ℕ → ℕ) × Expects apply F body K s W R × (total R F ≡ n + total R′ F) × (W 0 ≡ W′ 0)
     steps-before s s′ n W′ R′ d rest e = (W′, R′, e, omega arith, refl)
     steps-before s s′ n W′ R′ d (then {t = t} {n = k} p st) e =
-        let b = step-before apply F body K well reads t s′ (steps-sound s t k d p) W′ R′ e st in
+        let b = step-before apply K t s′ e reads well (steps-sound s t k d p) st in
         let c = steps-before s t k (b .0) (b .1) d p (b .2) in
         (c .0, c .1, c .2, omega (arith, c .3, b .3), c .4 ∙ b .4)
 
-    end : (s : View) → Sound apply F body s → Fn apply F body F → s .status (id (body F)) ≡ 3
+    end : (s : View) → Sound F body s → Fn F body F → s .status (id (body F)) ≡ 3
         → Expects apply F body K s (λ m. s .value (id (body F))) (λ f. 0)
     end s d r h = record { active = λ f q a. act f q a (ℕ-discrete f F); rest = λ f q a. refl }
       where
-        main : Rest apply F body K s (λ m. s .value (id (body F))) F (s .value (id (body F))) 0
+        main : Rest apply body K s (λ m. s .value (id (body F))) F (s .value (id (body F))) 0
         main = (
           val (s .value (id (body F))),
           0,
           0,
-          over-left apply K s (λ m. s .value (id (body F))) (s .register F) (body F) (nowhere apply F body K)
+          over-left apply K s (λ m. s .value (id (body F))) (s .register F) (body F) nowhere
               (val (s .value (id (body F)))) 0 (h, refl, refl),
           (refl, refl),
           refl,
         )
 
-        act : (f : ℕ) → Fn apply F body f → Active apply F body s f → Dec (f ≡ F)
-            → Rest apply F body K s (λ m. s .value (id (body F))) f (s .value (id (body F))) 0
-        act f q a (yes e) = subst (λ y. Rest apply F body K s (λ m. s .value (id (body F))) y (s .value (id (body F))) 0) (sym e) main
+        act : (f : ℕ) → Fn F body f → Active F s f → Dec (f ≡ F)
+            → Rest apply body K s (λ m. s .value (id (body F))) f (s .value (id (body F))) 0
+        act f q a (yes e) = subst (λ y. Rest apply body K s (λ m. s .value (id (body F))) y (s .value (id (body F))) 0) (sym e) main
         act f q (inl a) (no e) = absurd (e a)
         act f q (inr a) (no e) = absurd (a (asleep s d r h (suc F) f (omega arith) q e))
 
     -- the third demand's last sentence
-    pub answer : (s s′ : View) (args : List ℕ) (n : ℕ) → Fn apply F body F → Started s args → Steps s s′ n → s′ .status (id (body F)) ≡ 3
-        → K F args (s′ .value (id (body F))) n
+    pub answer : (s s′ : View) (args : List ℕ) (n : ℕ) → Fn F body F → AtStart F body s args → Steps apply F body s s′ n
+        → s′ .status (id (body F)) ≡ 3 → K F args (s′ .value (id (body F))) n
     answer s s′ args n r st p h =
         let d = started-sound s args st in
         let d′ = steps-sound s s′ n d p in
         let c = steps-before s s′ n (λ m. s′ .value (id (body F))) (λ f. 0) d p (end s′ d′ r h) in
         let x = c .2 .active F r (inl refl) in
-        let q = left-reads apply K s (c .0) (s .register F) (body F) (inr (st .main .0 .0)) (nowhere apply F body K) (x .0) (x .1) (x .3) in
+        let q = left-reads apply K s (c .0) (s .register F) (body F) (inr (st .main .0 .0)) nowhere (x .0) (x .1) (x .3) in
         let k = reads F (c .0 (s .occupant F)) args (x .0) (x .1) (x .2) r
-        (subst (λ y. Reads apply K y (body F) (nowhere apply F body K) (x .0) (x .1)) (fun-ext (st .arguments)) q) (x .4) in
+        (subst (λ y. Reads apply K y (body F) nowhere (x .0) (x .1)) (fun-ext (st .arguments)) q) (x .4) in
         let total : x .1 + x .2 ≡ n = omega (
           arith,
           x .5,

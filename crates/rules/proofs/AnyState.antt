@@ -1,14 +1,14 @@
 -- what a step keeps in any state, also one that no start leads to
-use Prim.Native.Nat.{ℕ}
+use Prim.Native.Nat.{ℕ, _<_}
 use mathlib.Core.Bool.{Bool, true, false, _&&_, not}
-use mathlib.Core.Path.{_≡_, refl, subst, sym}
+use mathlib.Core.Path.{_≡_, refl, subst}
 use mathlib.Core.List.{List}
 use native.Mathlib.Omega.{arith}
 use lib.Dec.{T, eqb}
 use borrow.Author.Tests.{eqb-false}
 use Rattle.table.specs.Bytes.{functions, nodes, kind, word, next}
 use Rattle.table.specs.Naming.{owner, parent, underLast, definiens, inScope}
-use Rattle.table.specs.Check.{Verdict, accepted, checkOf}
+use Rattle.table.specs.Check.{Verdict, accepted, checkOf, refused}
 use Rattle.table.specs.Syntax.{bound, id}
 use Rattle.table.specs.Expressions.{exprAt, bodyOf}
 use Rattle.table.specs.Working.{IsNode}
@@ -18,17 +18,17 @@ use Rattle.table.proofs.View.{View, is-const, is-param, is-prim, is-call, is-se
 use Rattle.table.proofs.Scopes.{child-node}
 use Rattle.list.specs.Tags.{tagged, checkWith}
 use Rattle.rules.specs.State.{State512, Sized, view}
-use Rattle.rules.specs.Step.{taken, answered, refused, Stepped, refusal, done, perform, circuitStep}
-use Rattle.rules.specs.Play.{Accepted}
+use Rattle.rules.specs.Step.{taken, answered, denied, Stepped, refusal, done, perform, circuitStep}
+use Rattle.rules.specs.Play.{IsTaken}
 use Rattle.rules.specs.Operations.{operate}
 use Rattle.rules.specs.Circuit.{circuitOf, stepAfter, stepOf, Possible}
 use Rattle.rules.specs.Runs.{MainDone}
 use Rattle.rules.specs.Companions.{AgreeWithin, AgreePast}
-use Rattle.rules.proofs.StepTaken.{step-cases}
-use Rattle.rules.proofs.Past.{nodes-past, functions-past}
+use Rattle.rules.proofs.StepCases.{number, place, step-cases}
+use Rattle.rules.proofs.AgreeLaws.{agree-same}
+use Rattle.rules.proofs.Past.{step-past}
 use Rattle.rules.proofs.Ignores.{step-agree}
 use Rattle.rules.proofs.Demands.{after-both, lay}
-use Rattle.table.specs.Check as TableCheck
 use Rattle.table.specs.Pick.{pick}
 
 -- the definiens of a bound node is a node
@@ -69,30 +69,29 @@ module _ (t tags : List ℕ) where
     where
       go : (c : Verdict) → checkWith t tags ≡ c → P (λ s n. stepAfter c s (circuitOf t tags s n))
       go (accepted F N) e = let x = after-both (checkOf t) _ F N e in g (x .0 .0) (x .0 .1) (x .0 .2)
-      go (TableCheck.refused k p) e = f k p
+      go (refused k p) e = f k p
 
   -- "The state is unchanged by a refusal"
-  pub refused-unchanged : (s : State512) (n k p : ℕ) → stepOf t tags s n .answer ≡ refused k p → stepOf t tags s n ≡ refusal s k p
-  refused-unchanged s n k p = by-check (λ f. f s n .answer ≡ refused k p → f s n ≡ refusal s k p) (λ i q e. same-refusal i q e)
-      (λ F N c. step-cases operate (lay t F N c) (tagged tags) s n (λ r. r .answer ≡ refused k p → r ≡ refusal s k p)
-      (λ e. same-refusal 12 0) (λ e. same-refusal 24 0) (λ e. same-refusal 24 0) (λ r e. same-refusal 20 n) (λ r e h. same-refusal 21 n)
-      (λ r e h. same-refusal (pick (tagged tags n) 22 23) n)
+  pub refused-unchanged : (s : State512) (n k p : ℕ) → stepOf t tags s n .answer ≡ denied k p → stepOf t tags s n ≡ refusal s k p
+  refused-unchanged s n k p = by-check (λ f. f s n .answer ≡ denied k p → f s n ≡ refusal s k p) (λ i q e. same-refusal i q e)
+      (λ F N c. step-cases operate (functions t) (nodes t) (bodyOf t) (exprAt t) (owner t) (tagged tags) s n
+      (λ r. r .answer ≡ denied k p → r ≡ refusal s k p) (λ c. same-refusal (number c) (place c))
       (λ r e m h. not-refused (done (view (perform (nodes t) (owner t) (bodyOf t) s n m)) (id (bodyOf t (functions t)))) _
       (perform (nodes t) (owner t) (bodyOf t) s n m)))
     where
-      same-refusal : (i q : ℕ) → refused i q ≡ refused k p → refusal s i q ≡ refusal s k p
+      same-refusal : (i q : ℕ) → denied i q ≡ denied k p → refusal s i q ≡ refusal s k p
       same-refusal i q e = λ j. record { answer = e j; state = s }
 
-      not-refused : (b : Bool) (v : ℕ) (t : State512) → pick b (answered v) taken ≡ refused k p
+      not-refused : (b : Bool) (v : ℕ) (t : State512) → pick b (answered v) taken ≡ denied k p
           → _≡_ {A = Stepped} (record { answer = pick b (answered v) taken; state = t }) (refusal s k p)
       not-refused true v t e = let z : _≡_ {A = ℕ} 0 1 = cc in absurd (omega arith)
       not-refused false v t e = let z : _≡_ {A = ℕ} 0 1 = cc in absurd (omega arith)
 
   -- where main's root is done no step is possible: "once main's root is done the query says none"
   pub done-none : (s : State512) (n : ℕ) → MainDone t s → Possible t tags s n → ⊥
-  done-none s n d = by-check (λ f. Accepted (f s n .answer) → ⊥) (λ k p x. x)
-      (λ F N c. step-cases operate (lay t F N c) (tagged tags) s n (λ r. Accepted (r .answer) → ⊥)
-      (λ e x. x) (λ e x. x) (λ e x. x) (λ r e x. x) (λ r e h x. x) (λ r e h x. x)
+  done-none s n d = by-check (λ f. IsTaken (f s n .answer) → ⊥) (λ k p x. x)
+      (λ F N c. step-cases operate (functions t) (nodes t) (bodyOf t) (exprAt t) (owner t) (tagged tags) s n
+      (λ r. IsTaken (r .answer) → ⊥) (λ c x. x)
       (λ r e m h x. eqb-false (view s .status (id (bodyOf t (functions t)))) 3 e d))
 
   -- "A step ignores .. state entries past F and N"
@@ -105,19 +104,5 @@ module _ (t tags : List ℕ) where
   -- "and keeps" them
   pub step-keeps : (s : State512) → Sized s → (n : ℕ) → AgreePast t s (stepOf t tags s n .state)
   step-keeps s z n = by-check (λ f. AgreePast t s (f s n .state))
-      (λ k p. record {
-        status = λ m h. refl;
-        second = λ m h. refl;
-        value = λ m h. refl;
-        register = λ f i h. refl;
-        occupant = λ f h. refl;
-      })
-      (λ F N c. let x = nodes-past operate (lay t F N c) (tagged tags) s z n in
-      let y = functions-past operate (lay t F N c) (tagged tags) s z n in
-      record {
-        status = λ m h. sym (x m h .0);
-        second = λ m h. sym (x m h .1);
-        value = λ m h. sym (x m h .2);
-        register = λ f i h. sym (y f h .1 i);
-        occupant = λ f h. sym (y f h .0);
-      })
+      (λ k p. agree-same (λ m. nodes t < m) (λ f. functions t < f) (view s))
+      (λ F N c. step-past operate (lay t F N c) (tagged tags) s z n)

@@ -10,14 +10,15 @@ use Rattle.table.specs.Syntax.{Expr, Exprs, const, param, prim, call, self, con
 use Rattle.rules.specs.State.{View, entry}
 use Rattle.rules.proofs.Shape.{Still, Idle, Open, Busy, Live, Opened*, Opened}
 use Rattle.rules.specs.Reading.{Chosen}
+use Rattle.rules.proofs.Branches.{chosen-case}
 use Rattle.table.proofs.SyntaxLaws.{every-node}
 use Rattle.rules.proofs.Moves.{both, both*, done*-still}
 use Rattle.table.proofs.CallPlaces.{call-node}
-use Rattle.rules.proofs.Invariant.{Fn, Active, Sound, active?}
+use Rattle.rules.proofs.Invariant.{Active, Sound, active?}
 use Rattle.table.specs.Pick.{pick}
 use Rattle.table.proofs.Tests.{ltb-no}
 use Rattle.rules.specs.Step.{over}
-use Rattle.table.specs.Well.{Laid}
+use Rattle.table.specs.Well.{Fn, Laid}
 use Rattle.rules.proofs.LaidFacts.{own-node}
 
 pub over-none : (limit k : ℕ) (l : List ℕ) → ((m : ℕ) → 1 ≤ m → m ≤ k → entry l 0 m ≤ limit) → over limit k l ≡ false
@@ -55,8 +56,8 @@ module _ (s : View) where
 
   taken-small : (b c : Expr) → (Live s b → Every Small b) → (Live s c → Every Small c) → (v : ℕ)
       → Chosen (Opened s b × Every (Idle s) c) (Opened s c × Every (Idle s) b) v → Every Small b × Every Small c
-  taken-small b c f g zero t = (idle-small b (t .1), opened-small c g (t .0))
-  taken-small b c f g (suc v) t = (opened-small b f (t .0), idle-small c (t .1))
+  taken-small b c f g = chosen-case (λ t. (opened-small b f (t .0), idle-small c (t .1)))
+      (λ t. (idle-small b (t .1), opened-small c g (t .0)))
 
   mutual
     live-small : (e : Expr) → Live s e → Every Small e
@@ -92,15 +93,15 @@ module _ (s : View) where
     live-small* none o = tt
     live-small* (some e es) o = (opened-small e (λ z. live-small e z) (o .0), live-small* es (o .1))
 
-module _ (apply : ℕ → List ℕ → ℕ) {F N : ℕ} {body at : ℕ → Expr} {home : ℕ → ℕ} (laid : Laid F N body at home) (s : View)
-    (sound : Sound apply F body s) where
+module _ {F N : ℕ} {body at : ℕ → Expr} {home : ℕ → ℕ} (laid : Laid F N body at home) (s : View)
+    (sound : Sound F body s) where
   pub status-bound : (m : ℕ) → 1 ≤ m → m ≤ N → s .status m ≤ 3
-  status-bound m p q = every-node (Small s) m (body (home m)) (go (active? apply F body s (home m))) (own-node laid (home m) m p q refl)
+  status-bound m p q = every-node (Small s) m (body (home m)) (go (active? F s (home m))) (own-node laid (home m) m (p, q) refl)
     where
-      fn : Fn apply F body (home m)
-      fn = laid .home-there m p q
+      fn : Fn F body (home m)
+      fn = laid .home-there m (p, q)
 
-      go : Active apply F body s (home m) ⊎ (Active apply F body s (home m) → ⊥) → Every (Small s) (body (home m))
+      go : Active F s (home m) ⊎ (Active F s (home m) → ⊥) → Every (Small s) (body (home m))
       go (inl a) = opened-small s (body (home m)) (live-small s (body (home m))) (sound .opened (home m) fn a)
       go (inr a) = still-small s (body (home m)) (sound .rest (home m) fn a)
 
@@ -111,4 +112,4 @@ module _ (apply : ℕ → List ℕ → ℕ) {F N : ℕ} {body at : ℕ → Expr}
       go (yes z) = omega (arith, z)
       go (no z) =
           let o = sound .held f (s .occupant f) (p, q) refl z in
-          laid .inside (o .0) (s .occupant f) (o .1 .0) (o .1 .1) (call-node (s .occupant f) f (body (o .0)) (o .3)) .2
+          laid .inside (o .0) (s .occupant f) (o .1) (call-node (s .occupant f) f (body (o .0)) (o .3)) .2

@@ -10,7 +10,7 @@ use Rattle.list.specs.Tags.{tagged, isCall, calleeOf, listed, bitsFrom, bytesFr
 use Rattle.list.specs.Tags.{after, checkWith}
 use Rattle.rules.specs.Operations.{lastValue, wrap, operate}
 use Rattle.rules.specs.State.{State512, entry, write, register, alter, fill, clear, opened, blank, circuitStart, In, zeros}
-use Rattle.rules.specs.Step.{Reply, taken, answered, refused, over, Stepped, circuitStep}
+use Rattle.rules.specs.Step.{Reply, taken, answered, denied, over, Stepped, circuitStep}
 use Rattle.rules.specs.Play.{Ask, asks, noted, played}
 use Rattle.rules.specs.Circuit.{started, turned, checkStart, startAfter, startOf, stateOf, circuitOf, stepAfter, stepOf, playsOf}
 use Rattle.rules.specs.Circuit.{playOf}
@@ -40,12 +40,12 @@ abbrev tally : List Reply → ℕ
 tally [] = 0
 tally (taken ∷ xs) = suc (tally xs)
 tally (answered v ∷ xs) = suc (tally xs)
-tally (refused k p ∷ xs) = tally xs
+tally (denied k p ∷ xs) = tally xs
 
 length-noted : (x : Reply) (n : ℕ) (ns : List ℕ) (xs : List Reply) → length ns ≡ tally xs → length (noted x n ns) ≡ tally (x ∷ xs)
 length-noted taken n ns xs e = ap suc e
 length-noted (answered v) n ns xs e = ap suc e
-length-noted (refused k p) n ns xs e = e
+length-noted (denied k p) n ns xs e = e
 
 played-tally : {T : Type 0} (step : T → State512 → ℕ → Stepped) (s : State512) (asked : List (Ask T))
     → length (played step s asked .nodes) ≡ tally (played step s asked .answers)
@@ -129,7 +129,7 @@ abbrev collision : List ℕ → List Reply
 collision tags = says pair tags (9 ∷ []) (2 ∷ 3 ∷ 5 ∷ 4 ∷ 6 ∷ 3 ∷ 5 ∷ [])
 
 abbrev six-then : (number : ℕ) → List Reply
-six-then number = taken ∷ taken ∷ taken ∷ taken ∷ taken ∷ taken ∷ refused number 5 ∷ []
+six-then number = taken ∷ taken ∷ taken ∷ taken ∷ taken ∷ taken ∷ denied number 5 ∷ []
 
 both-tags : collision (0b0001_0100 ∷ []) ≡ six-then 22
 unfolding circuit-open
@@ -149,7 +149,7 @@ three-alone = refl
 
 -- on from there to the answer, and past it: 20 at a node, 12 at 0 and above N
 past-answer : says pair (tagsOf pair) (9 ∷ []) (2 ∷ 3 ∷ 5 ∷ 4 ∷ 6 ∷ 3 ∷ 5 ∷ 1 ∷ 3 ∷ 5 ∷ 1 ∷ 5 ∷ 2 ∷ 2 ∷ 0 ∷ 7 ∷ [])
-    ≡ six-then 22 ++ taken ∷ taken ∷ taken ∷ taken ∷ taken ∷ answered 9 ∷ refused 20 2 ∷ refused 12 0 ∷ refused 12 0 ∷ []
+    ≡ six-then 22 ++ taken ∷ taken ∷ taken ∷ taken ∷ taken ∷ answered 9 ∷ denied 20 2 ∷ denied 12 0 ∷ denied 12 0 ∷ []
 unfolding circuit-open
 past-answer = refl
 
@@ -200,6 +200,6 @@ starts-refused = (refl, refl, refl, refl, refl, refl)
 steps-refused : playsOf pair (from pair (0 ∷ []) (9 ∷ []))
     (record { tags = []; node = 2 } ∷ record { tags = 0 ∷ []; node = 2 } ∷ record { tags = 0b0000_0010 ∷ []; node = 3 }
     ∷ record { tags = 0b0000_0100 ∷ []; node = 3 } ∷ []) .answers
-    ≡ refused 10 0 ∷ taken ∷ refused 10 2 ∷ taken ∷ []
+    ≡ denied 10 0 ∷ taken ∷ denied 10 2 ∷ taken ∷ []
 unfolding circuit-open
 steps-refused = refl

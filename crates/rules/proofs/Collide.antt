@@ -2,23 +2,23 @@
 use Prim.Native.Nat.{ℕ, zero, suc, _+_, _<_}
 use mathlib.Core.Bool.{true, false, true≢false}
 use mathlib.Core.Path.{_≡_, refl, subst, sym, ap, _∙_}
-use mathlib.Core.Logic.{_⊎_, inl, inr, ⊎-elim}
-use mathlib.Core.List.{List}
+use mathlib.Core.Logic.{_⊎_, inl, inr}
 use native.Mathlib.Omega.{arith}
 use native.Mathlib.Decide.{ℕ-discrete, decLt}
 use Rattle.table.specs.Syntax.{Expr, Exprs, const, param, prim, call, self, cond, bind, bound, none, some, Sub, Sub*}
 use Rattle.rules.specs.State.{View}
-use Rattle.rules.proofs.Shape.{Still, Busy, Done*, Live}
+use Rattle.rules.proofs.LaidFacts.{callee-fn}
+use Rattle.rules.proofs.Shape.{Busy, Done*, busy-moves}
 use Rattle.rules.proofs.Moves.{Finished*, finished*}
 use Rattle.table.proofs.CallPlaces.{find, sub-call}
-use Rattle.table.specs.Well.{CallIn, Well}
-use Rattle.rules.proofs.Places.{sub-live}
-use Rattle.rules.proofs.Invariant.{Fn, Active, Sound, stepping}
+use Rattle.table.specs.Well.{Fn, CallIn, Well}
+use Rattle.rules.proofs.Invariant.{Active, Sound}
+use Rattle.rules.proofs.Acting.{stepping, stepping-live, first-phase, second-phase}
 use Rattle.list.specs.Sets.{Calls}
 use Rattle.list.specs.Conflict.{C, A}
 use Rattle.rules.proofs.Exclusive.{Way, Way*, way-C, meet}
 
-module _ (apply : ℕ → List ℕ → ℕ) (F : ℕ) (body : ℕ → Expr) (s : View) (callee : ℕ → ℕ) (B : ℕ → Calls) where
+module _ (F : ℕ) (body : ℕ → Expr) (s : View) (callee : ℕ → ℕ) (B : ℕ → Calls) where
   -- a busy call whose arguments are done is a way to itself and to each call of the body that it calls
   module _ (n g α : ℕ) (es : Exprs) (busy : s .status n ≡ 2) (done : Done* s es) (goes : (n ≡ α) ⊎ B g α) where
     own : (e : Expr) → call n g es ≡ e → Way s callee B n α e
@@ -48,19 +48,19 @@ module _ (apply : ℕ → List ℕ → ℕ) (F : ℕ) (body : ℕ → Expr) (s :
       way* (some e xs) (inl p) = inl (way e p)
       way* (some e xs) (inr p) = inr (way* xs p)
 
-  module _ (well : Well F body) (sound : Sound apply F body s)
-      (callees : (f c g : ℕ) → Fn apply F body f → CallIn c g (body f) → callee c ≡ g)
-      (bodies : (g m : ℕ) → Fn apply F body g → C callee B (body g) m → B g m) where
+  module _ (well : Well F body) (sound : Sound F body s)
+      (callees : (f c g : ℕ) → Fn F body f → CallIn c g (body f) → callee c ≡ g)
+      (bodies : (g m : ℕ) → Fn F body g → C callee B (body g) m → B g m) where
     -- a call under way in the body of f, whose calls reach α
     pub record Walker (α : ℕ) : Type 0 where
       pub f : ℕ
-      pub fn : Fn apply F body f
-      pub active : Active apply F body s f
+      pub fn : Fn F body f
+      pub active : Active F s f
       pub u : ℕ
       pub goes : Way s callee B u α (body f)
 
     -- the call that occupies g, as a walker to each call of g's body and to itself
-    pub holder : (g α : ℕ) → Fn apply F body g → (z : s .occupant g ≡ 0 → ⊥) → (s .occupant g ≡ α) ⊎ B g α
+    pub holder : (g α : ℕ) → Fn F body g → (z : s .occupant g ≡ 0 → ⊥) → (s .occupant g ≡ α) ⊎ B g α
         → (x : Walker α) × (g < x .f) × (callee (x .u) ≡ g) × (x .u ≡ s .occupant g) × (s .second (s .occupant g) ≡ true)
     holder g α r z goes =
         let o = sound .held g (s .occupant g) r refl z in
@@ -79,29 +79,25 @@ module _ (apply : ℕ → List ℕ → ℕ) (F : ℕ) (body : ℕ → Expr) (s :
           o .4 .1,
         )
       where
-        args : (es : Exprs) → Busy s (s .occupant g) true → Live s (call (s .occupant g) g es) → Done* s es
-        args es b (inl l) = absurd (omega (arith, b .0, l .0 .0))
-        args es b (inr (inl l)) = absurd (true≢false (sym (b .1) ∙ l .0 .1))
-        args es b (inr (inr l)) = l .1
-
-        active-live : (f : ℕ) → Fn apply F body f → (es : Exprs) → Sub (call (s .occupant g) g es) (body f) → Busy s (s .occupant g) true
-            → Active apply F body s f × Done* s es
+        active-live : (f : ℕ) → Fn F body f → (es : Exprs) → Sub (call (s .occupant g) g es) (body f) → Busy s (s .occupant g) true
+            → Active F s f × Done* s es
         active-live f q es p b =
-            let m : Still s (s .occupant g) → ⊥ = λ h. ⊎-elim (λ y. omega (arith, b .0, y)) (λ y. omega (arith, b .0, y)) (h .0) in
-            let st = stepping apply F body well s s sound f q (call (s .occupant g) g es) p m in
-            (st .0, args es b (sub-live s (call (s .occupant g) g es) m (body f) p (st .1)))
+            let m = busy-moves s (s .occupant g) (b .0) in (
+              stepping sound f q (call (s .occupant g) g es) p m .0,
+              second-phase s (s .occupant g) g es b (stepping-live sound f q (call (s .occupant g) g es) p m) .0,
+            )
 
     -- the body's own caller, if it is not main's
     pub lift : (α : ℕ) (w : Walker α) → (w .f ≡ F → ⊥) → (x : Walker α) × (w .f < x .f) × (callee (x .u) ≡ w .f)
     lift α w n = go (w .active)
       where
-        go : Active apply F body s (w .f) → (x : Walker α) × (w .f < x .f) × (callee (x .u) ≡ w .f)
+        go : Active F s (w .f) → (x : Walker α) × (w .f < x .f) × (callee (x .u) ≡ w .f)
         go (inl e) = absurd (n e)
         go (inr z) = let o = holder (w .f) α (w .fn) z
             (inr (bodies (w .f) α (w .fn) (way-C s callee B (w .u) α (body (w .f)) (w .goes)))) in (o .0, o .1, o .2)
 
     abbrev pub Listed : ℕ → Type 0
-    Listed α = (f : ℕ) × Fn apply F body f × A callee B (body f) α
+    Listed α = (f : ℕ) × Fn F body f × A callee B (body f) α
 
     abbrev Collide : ℕ → ℕ → ℕ → Type 0
     Collide k α β = (w : Walker α) (x : Walker β) → callee α ≡ callee β → (w .u ≡ x .u → ⊥) → callee (w .u) < x .f → callee (x .u) < w .f
@@ -141,28 +137,20 @@ module _ (apply : ℕ → List ℕ → ℕ) (F : ℕ) (body : ℕ → Expr) (s :
     collide (suc k) α β w x e d p q r = turn k α β (collide k α β) w x e d p q r
 
     -- a call n of g, in the body of h, that waits with its arguments done while g is occupied
-    pub waiting-listed : (h : ℕ) → Fn apply F body h → (n g : ℕ) (es : Exprs) → Sub (call n g es) (body h) → Busy s n false
+    pub waiting-listed : (h : ℕ) → Fn F body h → (n g : ℕ) (es : Exprs) → Sub (call n g es) (body h) → Busy s n false
         → Finished* s es → (s .occupant g ≡ 0 → ⊥) → Listed n
     waiting-listed h r n g es p b f z =
         let k = sub-call n g es (body h) p in
-        let g<h = well .below h n g (r .0) (r .1) k in
-        let o = holder g (s .occupant g) (g<h .0, omega (arith, g<h .1, r .1)) z (inl refl) in
-        let st = stepping apply F body well s s sound h r (call n g es) p moving in
+        let o = holder g (s .occupant g) (callee-fn well h n g r k) z (inl refl) in
+        let m = busy-moves s n (b .0) in
         let here : Walker n = record {
           f = h;
           fn = r;
-          active = st .0;
+          active = stepping sound h r (call n g es) p m .0;
           u = n;
-          goes = way n g n es (b .0) (args (sub-live s (call n g es) moving (body h) p (st .1))) (inl refl) (body h) p;
+          goes = way n g n es (b .0) (finished* s es (first-phase s n g es b (stepping-live sound h r (call n g es) p m)) f) (inl refl)
+              (body h) p;
         } in
         collide (suc (F + F)) n (s .occupant g) here (o .0) (callees h n g r k ∙ sym (o .2) ∙ ap callee (o .3))
         (λ e. true≢false (sym (o .4) ∙ ap (s .second) (sym (o .3)) ∙ ap (s .second) (sym e) ∙ b .1))
-        (omega (arith, callees h n g r k, o .1)) (omega (arith, o .2, g<h .1)) (omega arith)
-      where
-        moving : Still s n → ⊥
-        moving y = ⊎-elim (λ q. omega (arith, b .0, q)) (λ q. omega (arith, b .0, q)) (y .0)
-
-        args : Live s (call n g es) → Done* s es
-        args (inl l) = absurd (omega (arith, b .0, l .0 .0))
-        args (inr (inl l)) = finished* s es (l .1) f
-        args (inr (inr l)) = l .1
+        (omega (arith, callees h n g r k, o .1)) (omega (arith, o .2, well .below h n g r k .1)) (omega arith)

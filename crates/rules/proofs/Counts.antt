@@ -5,14 +5,15 @@ use mathlib.Core.Path.{_≡_, refl, subst, sym, ap, _∙_}
 use mathlib.Core.Logic.{_⊎_, inl, inr, ⊎-elim}
 use mathlib.Core.List.{List, _∷_}
 use native.Mathlib.Omega.{arith}
-use Rattle.table.specs.Syntax.{Expr, Exprs, const, param, prim, call, self, cond, bind, bound, none, some, id, Every, Every*}
+use Rattle.table.specs.Syntax.{Expr, Exprs, const, param, prim, call, self, cond, bind, bound, none, some, id, Every*}
 use Rattle.rules.specs.State.{View}
+use Rattle.rules.proofs.Branches.{chosen-both}
 use Rattle.rules.specs.Reading.{Chosen, Outcome, val, last, Readings, Reads, Reads*}
 use Rattle.rules.proofs.Shape.{Live}
 use Rattle.rules.proofs.Frame.{Same}
 use Rattle.table.specs.Environment.{extend, values}
 use Rattle.rules.proofs.Left.{Going, Left, Left*, Over}
-use Rattle.table.specs.Well.{Fits}
+use Rattle.table.specs.Well.{Sees}
 use Rattle.rules.proofs.Moves.{Finished*, Becomes, Opens, Opens*, Inner, every-id}
 
 module _ (apply : ℕ → List ℕ → ℕ) (K : Readings) (s : View) (W : ℕ → ℕ) (args : ℕ → ℕ) where
@@ -49,10 +50,10 @@ module _ (apply : ℕ → List ℕ → ℕ) (K : Readings) (s s′ : View) (W : 
   abbrev Now : Expr → (ℕ → ℕ) → Outcome → ℕ → Type 0
   Now = Left apply K s′ W args
 
-  opened-reads : (e : Expr) (ρ : ℕ → ℕ) (o : Outcome) (k : ℕ) → Opens apply args s s′ e → Now e ρ o k → Reads apply K args e ρ o k
+  opened-reads : (e : Expr) (ρ : ℕ → ℕ) (o : Outcome) (k : ℕ) → Opens s s′ e → Now e ρ o k → Reads apply K args e ρ o k
   opened-reads e ρ o k p h = left-reads apply K s′ W args e (inr (p .0 .0)) ρ o k h
 
-  opened-reads* : (es : Exprs) (ρ : ℕ → ℕ) (vs : List ℕ) (j : ℕ) → Opens* apply args s s′ es → Left* apply K s′ W args es ρ vs j
+  opened-reads* : (es : Exprs) (ρ : ℕ → ℕ) (vs : List ℕ) (j : ℕ) → Opens* s s′ es → Left* apply K s′ W args es ρ vs j
       → Reads* apply K args es ρ vs j
   opened-reads* none ρ vs j p h = h
   opened-reads* (some e es) ρ vs j p h = (
@@ -71,14 +72,14 @@ module _ (apply : ℕ → List ℕ → ℕ) (K : Readings) (s s′ : View) (W : 
   values-kept (some e es) k = λ i. every-id s s′ (Same s s′) e (k .0) .2 i ∷ values-kept es (k .1) i
 
   -- what became done has its value, and nothing left
-  became : (e : Expr) (v : ℕ) (ρ : ℕ → ℕ) (o : Outcome) (k : ℕ) → Becomes apply args s s′ (id e) v → Now e ρ o k → (o ≡ val v) × (k ≡ 0)
+  became : (e : Expr) (v : ℕ) (ρ : ℕ → ℕ) (o : Outcome) (k : ℕ) → Becomes s s′ (id e) v → Now e ρ o k → (o ≡ val v) × (k ≡ 0)
   became e v ρ o k r h = let x = left-done apply K s′ W args e (r .0) ρ o k h in (x .1 ∙ ap val (r .2), x .2)
 
   -- what became busy
   begun : (e : Expr) (ρ : ℕ → ℕ) (o : Outcome) (k : ℕ) → s′ .status (id e) ≡ 2 → Now e ρ o k → Going apply K s′ W args e ρ o k
   begun e ρ o k b h = left-going apply K s′ W args e b ρ o k h
 
-  pub inner-left : (u : Expr) → Inner apply args s s′ u → Live s u → (ρ : ℕ → ℕ) (o : Outcome) (k : ℕ) → Fits (s .value) u ρ → Now u ρ o k
+  pub inner-left : (u : Expr) → Inner apply args s s′ u → Live s u → (ρ : ℕ → ℕ) (o : Outcome) (k : ℕ) → Sees (s .value) u ρ → Now u ρ o k
       → Left apply K s W args u ρ o (1 + k)
   inner-left (const n v) r l ρ o k f h =
       let b = became (const n v) v ρ o k (r .1) h in inr (inl (inr (r .0 .0), (b .0, omega (arith, b .1))))
@@ -132,25 +133,20 @@ module _ (apply : ℕ → List ℕ → ℕ) (K : Readings) (s s′ : View) (W : 
             0,
             x .1 .0,
             inl (r .1, refl, refl),
-            at (x .1 .0) (s .value (id a)) (r .4)
-                (subst (Chosen (Now b ρ o (x .1 .0)) (Now c ρ o (x .1 .0))) (every-id s s′ (Same s s′) a (r .3) .2) (x .1 .1)),
+            chosen-both (λ p t. opened-reads b ρ o (x .1 .0) (p .0) t) (λ p t. opened-reads c ρ o (x .1 .0) (p .0) t)
+                (s .value (id a)) (s′ .value (id a)) (every-id s s′ (Same s s′) a (r .3) .2) (r .4) (x .1 .1),
             omega (arith, x .1 .2),
           ),
         ),
       ))) (begun (cond n a b c) ρ o k (r .2 .0) h)
-    where
-      at : (i v : ℕ) → Chosen (Opens apply args s s′ b × Every (Same s s′) c) (Opens apply args s s′ c × Every (Same s s′) b) v
-          → Chosen (Now b ρ o i) (Now c ρ o i) v → Chosen (Reads apply K args b ρ o i) (Reads apply K args c ρ o i) v
-      at i zero p t = opened-reads c ρ o i (p .0) t
-      at i (suc v) p t = opened-reads b ρ o i (p .0) t
   inner-left (cond n a b c) (inr (inr r)) l ρ o k f h =
       let x = at (s .value (id a)) (r .1) in inr (inr (r .0 .0, inr (r .0 .1, (0, x .0, omega (arith, x .1)))))
     where
       ends : (v : ℕ) → (o ≡ val v) × (k ≡ 0) → 1 + k ≡ last o + 0
       ends v e = omega (arith, ap last (e .0), e .1)
 
-      at : (v : ℕ) → Chosen ((s .status (id b) ≡ 3) × Becomes apply args s s′ n (s .value (id b))) ((s .status (id c) ≡ 3)
-          × Becomes apply args s s′ n (s .value (id c))) v
+      at : (v : ℕ) → Chosen ((s .status (id b) ≡ 3) × Becomes s s′ n (s .value (id b))) ((s .status (id c) ≡ 3)
+          × Becomes s s′ n (s .value (id c))) v
           → Chosen (Left apply K s W args b ρ o 0) (Left apply K s W args c ρ o 0) v × (1 + k ≡ last o + 0)
       at zero t =
           let e = became (cond n a b c) (s .value (id c)) ρ o k (t .1) h in (inl (t .0, e .0, refl), ends (s .value (id c)) e)

@@ -8,8 +8,8 @@ use native.Mathlib.Omega.{arith}
 use lib.Dec.{T, eqb, eqb→eq}
 use lib.ListN.{length, take}
 use Rattle.rules.specs.State.{State512, In, view, circuitStart}
-use Rattle.rules.specs.Step.{refused, over, circuitStep}
-use Rattle.rules.specs.Play.{Ask, asks, Log, Accepted, played, count}
+use Rattle.rules.specs.Step.{denied, over, circuitStep}
+use Rattle.rules.specs.Play.{Ask, asks, Log, IsTaken, played, count}
 use Rattle.rules.specs.Operations.{operate}
 use Rattle.rules.specs.Circuit.{started, checkStart, startAfter, startOf, circuitOf, stepAfter, stepOf, playsOf, playOf, entriesOf}
 use Rattle.rules.specs.Circuit.{leavingsOf, Possible}
@@ -19,7 +19,7 @@ use Rattle.rules.specs.Reading.{ReadsTo}
 use Rattle.rules.specs.Runs.{standing}
 use Rattle.table.specs.Bytes.{functions, nodes, params}
 use Rattle.table.specs.Naming.{owner}
-use Rattle.table.specs.Check.{Verdict, accepted, stage, checkOf}
+use Rattle.table.specs.Check.{Verdict, accepted, stage, checkOf, refused}
 use Rattle.table.specs.Expressions.{exprAt, bodyOf}
 use Rattle.table.specs.Well.{Laid}
 use Rattle.table.proofs.Passed.{passes, passed, goes-on, params-small}
@@ -32,8 +32,7 @@ use Rattle.rules.proofs.Kept.{Kept, refused-kept, start-kept, kept-alik
 use Rattle.rules.proofs.Kept.{kept-main-free, kept-lively, kept-phases, kept-silent}
 use Rattle.rules.proofs.StepFacts.{Good}
 use Rattle.rules.proofs.Bounded.{over-none, status-bound, occupant-bound}
-use Rattle.rules.proofs.Kept as Steps
-use Rattle.table.specs.Check as TableCheck
+use Rattle.rules.proofs.Kept as Lists
 
 -- what a start that was taken has passed
 pub record Passes (t tags args : List ℕ) (s : State512) : Type 0 where
@@ -46,12 +45,12 @@ pub after-both : (c : Verdict) (rest : Unit {0} → Verdict) (F N : ℕ) → aft
     → ((F′ N′ : ℕ) × (c ≡ accepted F′ N′)) × (rest tt ≡ accepted F N)
 unfolding after
 after-both (accepted F′ N′) rest F N e = ((F′, N′, refl), e)
-after-both (TableCheck.refused k p) rest F N e = absurd (let z : _≡_ {A = ℕ} 0 1 = cc in omega arith)
+after-both (refused k p) rest F N e = absurd (let z : _≡_ {A = ℕ} 0 1 = cc in omega arith)
 
 start-both : (c : Verdict) (s r : State512) → startAfter c s ≡ started r → ((F N : ℕ) × (c ≡ accepted F N)) × (r ≡ s)
 unfolding startAfter
 start-both (accepted F N) s r e = ((F, N, refl), cc)
-start-both (TableCheck.refused k p) s r e = absurd (let z : _≡_ {A = ℕ} 0 1 = cc in omega arith)
+start-both (refused k p) s r e = absurd (let z : _≡_ {A = ℕ} 0 1 = cc in omega arith)
 
 own-size : (t : List ℕ) (F N : ℕ) → checkOf t ≡ accepted F N → checkOf t ≡ accepted (functions t) (nodes t)
 own-size t F N e = let p = passed t F N e in e ∙ sym (λ i. accepted (p .1 i) (p .2 i))
@@ -84,25 +83,25 @@ module _ (t : List ℕ) (F N : ℕ) (check : checkOf t ≡ accepted F N) where
 
   -- a step that isn't refused is the circuit's
   possible-same : (tags : List ℕ) (s : State512) (n : ℕ) → Possible t tags s n
-      → Accepted (circuitStep operate (functions t) (nodes t) (bodyOf t) (exprAt t) (owner t) (tagged tags) s n .answer)
+      → IsTaken (circuitStep operate (functions t) (nodes t) (bodyOf t) (exprAt t) (owner t) (tagged tags) s n .answer)
   unfolding stepOf stepAfter circuitOf
   possible-same tags s n = go (checkWith t tags)
     where
-      go : (c : Verdict) → Accepted (stepAfter c s (circuitOf t tags s n) .answer)
-          → Accepted (circuitStep operate (functions t) (nodes t) (bodyOf t) (exprAt t) (owner t) (tagged tags) s n .answer)
+      go : (c : Verdict) → IsTaken (stepAfter c s (circuitOf t tags s n) .answer)
+          → IsTaken (circuitStep operate (functions t) (nodes t) (bodyOf t) (exprAt t) (owner t) (tagged tags) s n .answer)
       go (accepted F N) x = x
-      go (TableCheck.refused i p) x = absurd x
+      go (refused i p) x = absurd x
 
   -- a sound state is never refused 24
-  stands-well : (tags : List ℕ) (F N : ℕ) → checkWith t tags ≡ accepted F N → (s : State512) → Good operate lay s
+  stands-well : (tags : List ℕ) (F N : ℕ) → checkWith t tags ≡ accepted F N → (s : State512) → Good (functions t) (bodyOf t) s
       → standing t tags s ≡ accepted (functions t) (nodes t)
   unfolding standing after
   stands-well tags F N e s g =
       ap (λ c. after c rest) e
       ∙ goes-on 24 (not (over 3 (nodes t) (s .status))) 0 _ (not-over (over 3 (nodes t) (s .status))
-      (over-none 3 (nodes t) (s .status) (status-bound operate lay (view s) (g .sound)))) refl
+      (over-none 3 (nodes t) (s .status) (status-bound lay (view s) (g .sound)))) refl
       ∙ goes-on 24 (not (over (nodes t) (functions t) (s .occupant))) 0 _ (not-over (over (nodes t) (functions t) (s .occupant))
-      (over-none (nodes t) (functions t) (s .occupant) (occupant-bound operate lay (view s) (g .sound)))) refl
+      (over-none (nodes t) (functions t) (s .occupant) (occupant-bound lay (view s) (g .sound)))) refl
     where
       rest : Unit {0} → Verdict
       rest _ =
@@ -131,8 +130,8 @@ module _ (t : List ℕ) (F N : ℕ) (check : checkOf t ≡ accepted F N) where
     more-kept l k a = go (checkWith t (a .tags))
       where
         go : (c : Verdict) → KeptFrom (logged l (a .node) (stepAfter c (l .state) (circuitOf t (a .tags) (l .state) (a .node))))
-        go (accepted F N) = Steps.more-kept operate lay (view s₀) l k (record { tags = tagged (a .tags); node = a .node })
-        go (TableCheck.refused i p) = refused-kept operate lay (view s₀) l k (a .node) i p
+        go (accepted F N) = Lists.more-kept operate lay (view s₀) l k (record { tags = tagged (a .tags); node = a .node })
+        go (refused i p) = refused-kept operate lay (view s₀) l k (a .node) i p
 
     plays-kept : (l : Log) → KeptFrom l → (asked : List (Ask (List ℕ))) → KeptFrom (plays (stepOf t) l asked)
     plays-kept l k [] = k
@@ -146,20 +145,18 @@ module _ (t : List ℕ) (F N : ℕ) (check : checkOf t ≡ accepted F N) where
     any-tags : (asked : List (Ask (List ℕ))) → UnderAnyTags t args s₀ asked
     unfolding entriesOf leavingsOf playsOf
     any-tags asked = record {
-      balance = kept-balance operate lay args (main-few args number) l k;
-      phases = λ c f p q e tags a.
-          let x = kept-phases operate lay (view s₀) l k c f p q e (tagged tags) (possible-same tags (l .state) c a) in
-          record { entering = x .entering; entered = x .entered; leaving = x .leaving; left = x .left };
+      balance = λ f p q. kept-balance operate lay args (main-few args number) l k f (p, q);
+      phases = λ c f p q e tags a. kept-phases operate lay (view s₀) l k c f (p, q) e (tagged tags) (possible-same tags (l .state) c a);
       answered-done = k .said;
       done-answered = λ e. let x = k .says e in subst (λ v. Answers l v) (sym (k .said (x .0) (x .1) .1)) (x .1);
       lively = λ F N tags c.
-          ⊎-elim inl (λ x. inr (x .0, subst (λ r. Accepted (r .answer)) (sym (step-same tags F N c (l .state) (x .0))) (x .1)))
+          ⊎-elim inl (λ x. inr (x .0, subst (λ r. IsTaken (r .answer)) (sym (step-same tags F N c (l .state) (x .0))) (x .1)))
           (kept-lively operate lay (view s₀) l k (tagged tags));
       stands = λ F N tags c. stands-well tags F N c (l .state) (k .good);
       main-free = kept-main-free operate lay (view s₀) l k;
       right = right;
       never = λ h v i. h v (length (l .nodes)) (right v i);
-      over = λ v n F N tags i p q c. step-same tags F N c (l .state) n ∙ kept-over operate lay (view s₀) l k v n (tagged tags) i p q;
+      over = λ v n F N tags i p q c. step-same tags F N c (l .state) n ∙ kept-over operate lay (view s₀) l k v n (tagged tags) i (p, q);
     }
       where
         l : Log
@@ -174,31 +171,31 @@ module _ (t : List ℕ) (F N : ℕ) (check : checkOf t ≡ accepted F N) where
     -- under the tags of the start
     module _ (tags : List ℕ) (F′ N′ : ℕ) (taken : checkWith t tags ≡ accepted F′ N′) where
       -- where the tags hold the list, a step after any list of steps is not refused 23
-      silent : Holding t tags → (l : Log) → KeptFrom l → (n p : ℕ) → refused 23 p ≡ stepOf t tags (l .state) n .answer → ⊥
+      silent : Holding t tags → (l : Log) → KeptFrom l → (n p : ℕ) → denied 23 p ≡ stepOf t tags (l .state) n .answer → ⊥
       silent holds l k n p e =
           kept-silent operate lay (tagged tags) (λ n x. holds n (listed-exactly t F N check n .1 x)) (view s₀) l k n p
           (e ∙ ap (λ r. r .answer) (step-same tags F′ N′ taken (l .state) n))
 
-      plays-silent : Holding t tags → (l : Log) → KeptFrom l → ((p : ℕ) → In (refused 23 p) (l .answers) → ⊥) → (ns : List ℕ)
-          → (p : ℕ) → In (refused 23 p) (plays (stepOf t) l (asks tags ns) .answers) → ⊥
+      plays-silent : Holding t tags → (l : Log) → KeptFrom l → ((p : ℕ) → In (denied 23 p) (l .answers) → ⊥) → (ns : List ℕ)
+          → (p : ℕ) → In (denied 23 p) (plays (stepOf t) l (asks tags ns) .answers) → ⊥
       plays-silent holds l k h [] p i = h p i
       plays-silent holds l k h (n ∷ ns) p i =
           let a : Ask (List ℕ) = record { tags = tags; node = n } in
           plays-silent holds (more (stepOf t) l a) (more-kept l k a) (λ q. ⊎-elim (silent holds l k n q) (h q)) ns p i
 
-      no-23 : Holding t tags → (ns : List ℕ) (p : ℕ) → In (refused 23 p) (playOf t tags s₀ ns .answers) → ⊥
+      no-23 : Holding t tags → (ns : List ℕ) (p : ℕ) → In (denied 23 p) (playOf t tags s₀ ns .answers) → ⊥
       unfolding playOf
       no-23 holds ns p i = plays-silent holds (begin s₀) (start-kept operate lay args (main-few args number)) (λ q z. z) ns p
-          (plays-alike (stepOf t) s₀ (asks tags ns) .into (refused 23 p) i)
+          (plays-alike (stepOf t) s₀ (asks tags ns) .into (denied 23 p) i)
 
       -- the rest of the third demand, from the state that start makes
-      from-start : (ns : List ℕ) → ((p : ℕ) → In (refused 23 p) (playOf t tags s₀ ns .answers) → ⊥) → DemandThree t tags args s₀ ns
+      from-start : (ns : List ℕ) → ((p : ℕ) → In (denied 23 p) (playOf t tags s₀ ns .answers) → ⊥) → DemandThree t tags args s₀ ns
       unfolding playOf entriesOf leavingsOf
       from-start ns quiet = record {
         arbitrated = quiet;
         exclusive = λ k f p q. kept-one operate lay args (main-few args number) (played (stepOf t) s₀ (asks tags (take k ns)))
-            (table-kept (asks tags (take k ns))) f p q;
-        lively = ⊎-elim inl (λ x. inr (x .0, subst (λ r. Accepted (r .answer)) (sym (step-same tags F′ N′ taken (l .state) (x .0))) (x .1)))
+            (table-kept (asks tags (take k ns))) f (p, q);
+        lively = ⊎-elim inl (λ x. inr (x .0, subst (λ r. IsTaken (r .answer)) (sym (step-same tags F′ N′ taken (l .state) (x .0))) (x .1)))
             (kept-lively operate lay (view s₀) l (table-kept (asks tags ns)) (tagged tags));
         right = kept-right operate lay args (main-few args number) l (table-kept (asks tags ns));
       }

@@ -7,7 +7,7 @@ use Rattle.table.specs.Syntax.{Expr, Exprs, const, param, prim, call, self, con
 use Rattle.list.specs.Sets.{Calls, ∅, only, _∪_}
 use Rattle.list.specs.Conflict.{C, C*, PC, A, A*}
 use Rattle.rules.specs.State.{View}
-use Rattle.rules.proofs.Shape.{Still, Idle, Done, Done*, Opened*, Opened}
+use Rattle.rules.proofs.Shape.{Still, Idle, Done, Done*, Opened*, Opened, busy-moves}
 use Rattle.rules.specs.Reading.{Chosen}
 
 module _ (s : View) (callee : ℕ → ℕ) (B : ℕ → Calls) where
@@ -71,7 +71,7 @@ module _ (s : View) (callee : ℕ → ℕ) (B : ℕ → Calls) where
       still-way* u α (some e es) q (inr w) = still-way* u α es (q .1) w
 
   still-rest : (n : ℕ) → Still s n → s .status n ≡ 2 → ⊥
-  still-rest n h b = ⊎-elim (λ z. omega arith) (λ z. omega arith) (h .0)
+  still-rest n h b = busy-moves s n b h
 
   idle-rest : (n : ℕ) → Idle s n → s .status n ≡ 2 → ⊥
   idle-rest n h b = omega arith

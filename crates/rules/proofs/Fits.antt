@@ -26,8 +26,8 @@ use Rattle.rules.specs.Play.{Ask, played}
 use Rattle.rules.specs.Circuit.{started, startOf, stepOf, playsOf}
 use Rattle.rules.specs.Companions.{Word, Words, Bytes, Fits}
 use Rattle.rules.proofs.ActCases.{by-pick, by-state}
-use Rattle.rules.proofs.StepTaken.{step-cases}
-use Rattle.rules.proofs.Demands.{lay, start-passes}
+use Rattle.rules.proofs.StepCases.{step-cases}
+use Rattle.rules.proofs.Demands.{start-passes}
 use Rattle.rules.proofs.AnyState.{by-check}
 
 pick-word : (b : Bool) (x y : ℕ) → Word x → Word y → Word (pick b x y)
@@ -196,8 +196,8 @@ module _ (s : State512) (fits : Fits s) where
 -- a step keeps a state of words, whatever the table, the tags and the state
 pub step-fits : (t tags : List ℕ) → Bytes t → (s : State512) → Fits s → (n : ℕ) → Fits (stepOf t tags s n .state)
 step-fits t tags b s fits n = by-check t tags (λ f. Fits (f s n .state)) (λ k p. fits)
-    (λ F N c. step-cases operate (lay t F N c) (tagged tags) s n (λ r. Fits (r .state))
-    (λ e. fits) (λ e. fits) (λ e. fits) (λ r e. fits) (λ r e h. fits) (λ r e h. fits)
+    (λ F N c. step-cases operate (functions t) (nodes t) (bodyOf t) (exprAt t) (owner t) (tagged tags) s n
+    (λ r. Fits (r .state)) (λ c. fits)
     (λ r e m h. perform-fits s fits (nodes t) (owner t) (bodyOf t) n m
     (subst ActFits h (act-fits s fits (bodyOf t) (owner t n) (exprAt t n)
     (λ i v q. const-word t b (passed t F N c .0) n i v r q)))))

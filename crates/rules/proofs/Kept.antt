@@ -13,23 +13,26 @@ use borrow.Author.Tests.{eqb-true, eqb-false}
 use Rattle.table.proofs.LaidOut.{call-here}
 use Rattle.table.specs.Syntax.{Expr, id, Sub}
 use Rattle.rules.specs.State.{View, State512, In, view, circuitStart}
-use Rattle.rules.specs.Reading.{val, again, Readings, readings}
+use Rattle.rules.specs.Reading.{Readings, readings}
 use Rattle.table.specs.Pick.{pick, Range}
+use Rattle.rules.proofs.LaidFacts.{fn-main}
 use Rattle.rules.proofs.Levels.{closes}
-use Rattle.table.specs.Well.{CallIn, Laid}
+use Rattle.table.specs.Well.{Fn, CallIn, Laid}
 use Rattle.list.specs.Conflict.{C}
-use Rattle.rules.proofs.Invariant.{Fn, Sound}
+use Rattle.rules.proofs.Invariant.{Sound}
 use Rattle.rules.proofs.Collide.{waiting-listed}
 use Rattle.rules.proofs.Remaining.{Closes}
-use Rattle.rules.proofs.Answers.{Steps, rest, then, Started, started-sound, answer}
-use Rattle.rules.specs.Step.{taken, answered, refused, refusal, circuitStep, Move, does, act, done, perform}
-use Rattle.rules.proofs.StepTaken.{Waits, step-cases}
-use Rattle.rules.proofs.StepFacts.{Good, fn-home, moved-step, moved-good, step-waits, step-over, some-step}
+use Rattle.rules.proofs.Answers.{Steps, rest, then, AtStart, started-sound, answer}
+use Rattle.rules.specs.Step.{taken, answered, denied, refusal, circuitStep, Move, does, act, done, perform}
+use Rattle.rules.proofs.StepTaken.{Waits}
+use Rattle.rules.proofs.StepCases.{number, place, step-cases}
+use Rattle.rules.proofs.StepFacts.{Good, moved-step, moved-good, step-waits, step-over, some-step}
 use Rattle.rules.proofs.Thirds.{third, third-rest}
-use Rattle.rules.specs.Play.{Ask, Log, count, calls, entries, leavings, Accepted}
+use Rattle.rules.specs.Play.{Ask, Log, count, calls, entries, leavings, IsTaken}
 use Rattle.rules.proofs.Logs.{begin, logged, more, Alike}
 use Rattle.rules.proofs.Occupied.{Phased, moved-phased, call-phase, entries-leavings, entries-one}
-use Rattle.rules.proofs.Phases.{PhasesOf, step-phases}
+use Rattle.rules.specs.Companions.{Phases}
+use Rattle.rules.proofs.Phases.{step-phases}
 use Rattle.list.specs.CallSets.{callee, callee-at, sets, Listed}
 use Rattle.list.proofs.CallSetFacts.{body-calls}
 use Rattle.rules.proofs.StartFacts.{start-sized, start-started, start-rest, open-root}
@@ -38,28 +41,24 @@ module _ (apply : ℕ → List ℕ → ℕ) {F N : ℕ} {body at : ℕ → Expr}
   abbrev K : Readings
   K = readings apply body F
 
-  fn-main : Fn apply F body F
-  fn-main = (laid .some-function, omega arith)
-
   -- the readings are what the abstract proof asks for
   program-reads : Closes apply F body K
-  program-reads f v vs (val w) j i r x e = closes apply body F (laid .well .below) f v vs (val w) j i (r .0) (r .1) x e
-  program-reads f v vs (again ws) j i r x e = closes apply body F (laid .well .below) f v vs (again ws) j i (r .0) (r .1) x e
+  program-reads = closes apply body F (laid .well)
 
   abbrev Root : ℕ
   Root = id (body F)
 
   -- what holds after any list of steps from s₀
   pub record Kept (s₀ : View) (l : Log) : Type 0 where
-    pub good : Good apply laid (l .state)
-    pub steps : Steps apply F body (laid .well) s₀ (view (l .state)) (length (l .nodes))
-    pub phased : Phased apply F body (view (l .state)) (l .nodes)
+    pub good : Good F body (l .state)
+    pub steps : Steps apply F body s₀ (view (l .state)) (length (l .nodes))
+    pub phased : Phased F body (view (l .state)) (l .nodes)
     pub said : (v : ℕ) → In (answered v) (l .answers) → (view (l .state) .status (id (body F)) ≡ 3) ×
         (view (l .state) .value (id (body F)) ≡ v)
     pub says : view (l .state) .status (id (body F)) ≡ 3 → (v : ℕ) × In (answered v) (l .answers)
 
   module _ (s₀ : View) (l : Log) (k : Kept s₀ l) where
-    pub refused-kept : (n i p : ℕ) → Kept s₀ (logged l n (record { answer = refused i p; state = l .state }))
+    pub refused-kept : (n i p : ℕ) → Kept s₀ (logged l n (record { answer = denied i p; state = l .state }))
     refused-kept n i p = record {
       good = k .good;
       steps = k .steps;
@@ -68,7 +67,7 @@ module _ (apply : ℕ → List ℕ → ℕ) {F N : ℕ} {body at : ℕ → Expr}
       says = λ e. (k .says e .0, inr (k .says e .1));
     }
       where
-        said-more : (v : ℕ) → (answered v ≡ refused i p) ⊎ In (answered v) (l .answers)
+        said-more : (v : ℕ) → (answered v ≡ denied i p) ⊎ In (answered v) (l .answers)
             → (view (l .state) .status (id (body F)) ≡ 3) × (view (l .state) .value (id (body F)) ≡ v)
         said-more v (inl e) = let z : _≡_ {A = ℕ} 0 1 = cc in absurd (omega arith)
         said-more v (inr i) = k .said v i
@@ -109,18 +108,16 @@ module _ (apply : ℕ → List ℕ → ℕ) {F N : ℕ} {body at : ℕ → Expr}
           said-more v (inr i) = unsaid v i
 
     pub more-kept : (a : Ask (ℕ → Bool)) → Kept s₀ (more (circuitStep apply F N body at home) l a)
-    more-kept a = step-cases apply laid (a .tags) (l .state) (a .node) (λ r. Kept s₀ (logged l (a .node) r))
-        (λ e. refused-kept (a .node) 12 0) (λ e. refused-kept (a .node) 24 0) (λ e. refused-kept (a .node) 24 0)
-        (λ r e. refused-kept (a .node) 20 (a .node)) (λ r e h. refused-kept (a .node) 21 (a .node))
-        (λ r e h. refused-kept (a .node) (pick (a .tags (a .node)) 22 23) (a .node))
+    more-kept a = step-cases apply F N body at home (a .tags) (l .state) (a .node) (λ r. Kept s₀ (logged l (a .node) r))
+        (λ c. refused-kept (a .node) (number c) (place c))
         (λ r e m h. moved-kept (a .node) r e m h (done (view (perform N home body (l .state) (a .node) m)) (id (body F))) refl)
 
   -- the order of a log does not matter
   pub kept-alike : (s₀ : View) (l p : Log) → Alike l p → Kept s₀ l → Kept s₀ p
   kept-alike s₀ l p j k = record {
-    good = subst (Good apply laid) (j .state) (k .good);
-    steps = subst (λ x. Steps apply F body (laid .well) s₀ (view x) (length (p .nodes))) (j .state)
-        (subst (Steps apply F body (laid .well) s₀ (view (l .state))) (j .number) (k .steps));
+    good = subst (Good F body) (j .state) (k .good);
+    steps = subst (λ x. Steps apply F body s₀ (view x) (length (p .nodes))) (j .state)
+        (subst (Steps apply F body s₀ (view (l .state))) (j .number) (k .steps));
     phased = λ f c g q i. ap (λ x. x % 3) (sym (j .counts c)) ∙ k .phased f c g q i ∙ ap (λ x. third (view x) c) (j .state);
     said = λ v i. subst (λ x. (view x .status (id (body F)) ≡ 3) × (view x .value (id (body F)) ≡ v)) (j .state)
         (k .said v (j .into (answered v) i));
@@ -131,8 +128,8 @@ module _ (apply : ℕ → List ℕ → ℕ) {F N : ℕ} {body at : ℕ → Expr}
     abbrev s₀ : View
     s₀ = view (circuitStart F body args)
 
-    started : Started apply F body (laid .well) s₀ args
-    started = start-started apply laid args few
+    started : AtStart F body s₀ args
+    started = start-started laid args few
 
     no-steps : (c : ℕ) → count c [] % 3 ≡ 0
     unfolding count
@@ -141,13 +138,13 @@ module _ (apply : ℕ → List ℕ → ℕ) {F N : ℕ} {body at : ℕ → Expr}
     pub start-kept : Kept s₀ (begin (circuitStart F body args))
     start-kept = record {
       good = record {
-        sized = start-sized apply laid args;
-        sound = started-sound apply F body (laid .well) s₀ args started;
+        sized = start-sized F body args;
+        sound = started-sound s₀ args started;
       };
       steps = rest;
-      phased = λ f c g q i. no-steps c ∙ sym (third-rest s₀ c (start-rest apply laid args c));
+      phased = λ f c g q i. no-steps c ∙ sym (third-rest s₀ c (start-rest laid args c));
       said = λ v i. absurd i;
-      says = λ e. absurd (omega (arith, e, open-root apply laid args));
+      says = λ e. absurd (omega (arith, e, open-root laid args));
     }
 
     -- what such a log says
@@ -157,22 +154,22 @@ module _ (apply : ℕ → List ℕ → ℕ) {F N : ℕ} {body at : ℕ → Expr}
       kept-right v i =
           let x = k .said v i in
           subst (λ w. K F args w (length (l .nodes))) (x .1)
-          (answer apply F body (laid .well) K program-reads s₀ (view (l .state)) args (length (l .nodes)) fn-main started
+          (answer (laid .well) program-reads s₀ (view (l .state)) args (length (l .nodes)) (fn-main laid) started
           (k .steps) (x .0))
 
-      pub kept-balance : (f : ℕ) → 1 ≤ f → f ≤ F
+      pub kept-balance : (f : ℕ) → Fn F body f
           → entries N at f (l .nodes) ≡ leavings N at f (l .nodes) + pick (eqb (view (l .state) .occupant f) 0) 0 1
-      kept-balance f p q = entries-leavings apply laid (view (l .state)) (k .good .sound) f (p, q) (l .nodes) (k .phased)
+      kept-balance f q = entries-leavings laid (view (l .state)) (k .good .sound) f q (l .nodes) (k .phased)
 
-      pub kept-one : (f : ℕ) → 1 ≤ f → f ≤ F → entries N at f (l .nodes) ≤ leavings N at f (l .nodes) + 1
-      kept-one f p q = entries-one apply laid (view (l .state)) (k .good .sound) f (p, q) (l .nodes) (k .phased)
+      pub kept-one : (f : ℕ) → Fn F body f → entries N at f (l .nodes) ≤ leavings N at f (l .nodes) + 1
+      kept-one f q = entries-one laid (view (l .state)) (k .good .sound) f q (l .nodes) (k .phased)
 
   -- what such a state says of a step
   module _ (s₀ : View) (l : Log) (k : Kept s₀ l) where
     -- after the answer, 20 at every node
-    pub kept-over : (v n : ℕ) (tags : ℕ → Bool) → In (answered v) (l .answers) → 1 ≤ n → n ≤ N
+    pub kept-over : (v n : ℕ) (tags : ℕ → Bool) → In (answered v) (l .answers) → Range N n
         → circuitStep apply F N body at home tags (l .state) n ≡ refusal (l .state) 20 n
-    kept-over v n tags i p q = step-over apply laid tags (l .state) (k .good) n (p, q) (k .said v i .0)
+    kept-over v n tags i r = step-over apply laid tags (l .state) (k .good) n r (k .said v i .0)
 
     -- main is entered by nobody
     pub kept-main-free : view (l .state) .occupant F ≡ 0
@@ -181,40 +178,40 @@ module _ (apply : ℕ → List ℕ → ℕ) {F N : ℕ} {body at : ℕ → Expr}
         go : Dec (view (l .state) .occupant F ≡ 0) → view (l .state) .occupant F ≡ 0
         go (yes e) = e
         go (no e) =
-            let h = k .good .sound .held F (view (l .state) .occupant F) fn-main refl e in
+            let h = k .good .sound .held F (view (l .state) .occupant F) (fn-main laid) refl e in
             absurd (omega (arith, h .1 .1, h .2))
 
     -- main has answered, or some step would be taken
     pub kept-lively : (tags : ℕ → Bool) → ((v : ℕ) × In (answered v) (l .answers))
-        ⊎ ((n : ℕ) × Accepted (circuitStep apply F N body at home tags (l .state) n .answer))
+        ⊎ ((n : ℕ) × IsTaken (circuitStep apply F N body at home tags (l .state) n .answer))
     kept-lively tags = go (ℕ-discrete (view (l .state) .status (id (body F))) 3)
       where
         go : Dec (view (l .state) .status (id (body F)) ≡ 3) → ((v : ℕ) × In (answered v) (l .answers))
-            ⊎ ((n : ℕ) × Accepted (circuitStep apply F N body at home tags (l .state) n .answer))
+            ⊎ ((n : ℕ) × IsTaken (circuitStep apply F N body at home tags (l .state) n .answer))
         go (yes e) = inl (k .says e)
         go (no e) = inr (some-step apply laid tags (l .state) (k .good) e)
 
     -- of the steps taken at a call, those that enter and those that leave
-    pub kept-phases : (c f : ℕ) → 1 ≤ c → c ≤ N → calls (at c) f ≡ true → (tags : ℕ → Bool)
-        → Accepted (circuitStep apply F N body at home tags (l .state) c .answer)
-        → PhasesOf (act apply body (home c) (view (l .state)) (at c)) f (count c (l .nodes))
-    kept-phases c f p q e tags a = step-phases apply laid tags (l .state) c f (p, q) e a (count c (l .nodes))
-        (call-phase apply laid (view (l .state)) c f p q e (l .nodes) (k .phased))
+    pub kept-phases : (c f : ℕ) → Range N c → calls (at c) f ≡ true → (tags : ℕ → Bool)
+        → IsTaken (circuitStep apply F N body at home tags (l .state) c .answer)
+        → Phases (act apply body (home c) (view (l .state)) (at c)) f (count c (l .nodes))
+    kept-phases c f r e tags a = step-phases apply laid tags (l .state) c f r e a (count c (l .nodes))
+        (call-phase laid (view (l .state)) c f r e (l .nodes) (k .phased))
 
   -- a call that waits at an occupied resource is listed
-  waits-listed : (s : View) → Sound apply F body s → (n : ℕ) → Range N n → Waits s (at n) → Listed body at F n
+  waits-listed : (s : View) → Sound F body s → (n : ℕ) → Range N n → Waits s (at n) → Listed body at F n
   waits-listed s sound n r w =
-      let e : w .0 ≡ n = sym (ap id (w .3)) ∙ laid .number n (r .0) (r .1) in
-      let x = waiting-listed apply F body s (callee-at at) (sets body at F) (laid .well) sound callees bodies
-      (home n) (fn-home apply laid n r) (w .0) (w .1) (w .2)
-      (subst (λ u. Sub u (body (home n))) (w .3) (laid .placed n (r .0) (r .1))) (w .4) (w .5) (w .6) in
+      let e : w .0 ≡ n = sym (ap id (w .3)) ∙ laid .number n r in
+      let x = waiting-listed F body s (callee-at at) (sets body at F) (laid .well) sound callees bodies
+      (home n) (laid .home-there n r) (w .0) (w .1) (w .2)
+      (subst (λ u. Sub u (body (home n))) (w .3) (laid .placed n r)) (w .4) (w .5) (w .6) in
       subst (Listed body at F) e (x .0, x .1 .0, x .1 .1, x .2)
     where
-      callees : (f c g : ℕ) → Fn apply F body f → CallIn c g (body f) → callee-at at c ≡ g
+      callees : (f c g : ℕ) → Fn F body f → CallIn c g (body f) → callee-at at c ≡ g
       callees f c g q i = ap callee (call-here laid f c g q i .1)
 
-      bodies : (g m : ℕ) → Fn apply F body g → C (callee-at at) (sets body at F) (body g) m → sets body at F g m
-      bodies g m q = body-calls F body at m (laid .well .below) g (q .0) (q .1)
+      bodies : (g m : ℕ) → Fn F body g → C (callee-at at) (sets body at F) (body g) m → sets body at F g m
+      bodies g m q = body-calls F body at m (λ f c h a b. laid .well .below f c h (a, b)) g (q .0) (q .1)
 
   module _ (tags : ℕ → Bool) (holds : (n : ℕ) → Listed body at F n → tags n ≡ true) (s₀ : View) where
     not-23 : (b : Bool) → b ≡ true → _≡_ {A = ℕ} 23 (pick b 22 23) → ⊥
@@ -222,7 +219,7 @@ module _ (apply : ℕ → List ℕ → ℕ) {F N : ℕ} {body at : ℕ → Expr}
     not-23 false e z = true≢false (sym e)
 
     -- where the tags hold the list, no step is refused 23
-    pub kept-silent : (l : Log) → Kept s₀ l → (n p : ℕ) → refused 23 p ≡ circuitStep apply F N body at home tags (l .state) n .answer → ⊥
+    pub kept-silent : (l : Log) → Kept s₀ l → (n p : ℕ) → denied 23 p ≡ circuitStep apply F N body at home tags (l .state) n .answer → ⊥
     kept-silent l k n p e =
         let w = step-waits apply laid tags (l .state) (k .good) n 23 p (sym e) (inr refl) in
         not-23 (tags n) (holds n (waits-listed (view (l .state)) (k .good .sound) n (w .0) (w .1))) (w .2)

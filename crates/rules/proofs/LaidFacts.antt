@@ -1,9 +1,8 @@
--- from single nodes to expressions and back
-use Prim.Native.Nat.{ℕ, suc, _≤_}
+-- from single nodes to expressions and back; which functions have a body
+use Prim.Native.Nat.{ℕ, suc}
 use mathlib.Core.Bool.{Bool, true, false, _&&_}
 use mathlib.Core.Path.{_≡_, refl, subst, sym, ap, _∙_}
 use mathlib.Core.Logic.{inl, inr, ⊎-elim}
-use mathlib.Core.List.{List}
 use native.Mathlib.Omega.{arith}
 use lib.ListN.{length}
 use lib.Dec.{eqb}
@@ -12,7 +11,8 @@ use Rattle.table.specs.Syntax.{Expr, Exprs, const, param, prim, call, self, con
 use Rattle.table.specs.Syntax.{size, roots}
 use Rattle.rules.specs.State.{View, In}
 use Rattle.table.specs.Environment.{values}
-use Rattle.table.specs.Well.{Apart, Apart*, Laid}
+use Rattle.table.specs.Pick.{Range}
+use Rattle.table.specs.Well.{Apart, Apart*, CallIn, Fn, Well, Laid}
 use Rattle.rules.proofs.Frame.{Same}
 use Rattle.table.proofs.SyntaxLaws.{node-id, sub-node}
 use Rattle.rules.proofs.Moves.{Under, Finished*, Opens, Opens*}
@@ -68,13 +68,13 @@ root-node m (some e es) (inl p) = inl (subst (λ x. Node x e) (sym p) (node-id e
 root-node m (some e es) (inr i) = inr (root-node m es i)
 
 -- a chain whose roots are opened, and nothing else of it changed
-module _ (apply : ℕ → List ℕ → ℕ) (args : ℕ → ℕ) (s s′ : View) where
+module _ (s s′ : View) where
   pub opens-all : (e : Expr) → Apart e → (s′ .status (id e) ≡ 1) × (s′ .second (id e) ≡ s .second (id e))
-      → ((m : ℕ) → Node m e → (m ≡ id e → ⊥) → Same s s′ m) → Opens apply args s s′ e
+      → ((m : ℕ) → Node m e → (m ≡ id e → ⊥) → Same s s′ m) → Opens s s′ e
   opens-all e a o f = (o, under-all (Same s s′) e a f)
 
   pub opens-all* : (es : Exprs) → Apart* es → ((m : ℕ) → In m (roots es) → (s′ .status m ≡ 1) × (s′ .second m ≡ s .second m))
-      → ((m : ℕ) → Node* m es → (In m (roots es) → ⊥) → Same s s′ m) → Opens* apply args s s′ es
+      → ((m : ℕ) → Node* m es → (In m (roots es) → ⊥) → Same s s′ m) → Opens* s s′ es
   opens-all* none a o f = tt
   opens-all* (some e es) a o f = (
     opens-all e (a .0) (o (id e) (inl refl)) (λ m k d. f m (inl k) (⊎-elim d (λ i. a .2 m k (root-node m es i)))),
@@ -96,8 +96,15 @@ module _ (s : View) where
   finished-all-done none t = refl
   finished-all-done (some e es) t = ap (λ b. b && all-done s es) (eq-eqb (s .status (id e)) 3 (t .0)) ∙ finished-all-done es (t .1)
 
+-- what a body calls is a function with a body
+pub callee-fn : {F : ℕ} {body : ℕ → Expr} → Well F body → (h c g : ℕ) → Fn F body h → CallIn c g (body h) → Fn F body g
+callee-fn well h c g r i = let b = well .below h c g r i in (b .0, omega (arith, b .1, r .1))
+
 module _ {F N : ℕ} {body at : ℕ → Expr} {home : ℕ → ℕ} (laid : Laid F N body at home) where
-  pub own-node : (g m : ℕ) → 1 ≤ m → m ≤ N → home m ≡ g → Node m (body g)
-  own-node g m p q e =
-      subst (λ f. Node m (body f)) e (subst (λ x. Node x (body (home m))) (laid .number m p q)
-      (sub-node (at m) (id (at m)) (body (home m)) (laid .placed m p q) (node-id (at m))))
+  pub fn-main : Fn F body F
+  fn-main = (laid .some-function, omega arith)
+
+  pub own-node : (g m : ℕ) → Range N m → home m ≡ g → Node m (body g)
+  own-node g m r e =
+      subst (λ f. Node m (body f)) e (subst (λ x. Node x (body (home m))) (laid .number m r)
+      (sub-node (at m) (id (at m)) (body (home m)) (laid .placed m r) (node-id (at m))))

@@ -1,18 +1,19 @@
 -- a move inside a part: what is left outside stays, and what is left of a body is d more before the move than after it
-use Prim.Native.Nat.{ℕ, zero, suc, _+_}
+use Prim.Native.Nat.{ℕ, _+_}
 use mathlib.Core.Bool.{Bool, true, false, true≢false}
 use mathlib.Core.Path.{_≡_, refl, subst, sym, ap, _∙_}
 use mathlib.Core.Logic.{inl, inr, ⊎-elim}
 use mathlib.Core.List.{List, _∷_}
 use native.Mathlib.Omega.{arith}
-use Rattle.table.specs.Syntax.{Expr, Exprs, const, param, prim, call, self, cond, bind, bound, none, some, id, Every, Node, Node*, Sub}
+use Rattle.table.specs.Syntax.{Expr, Exprs, const, param, prim, call, self, cond, bind, bound, none, some, id, Node, Sub}
 use Rattle.table.specs.Syntax.{Sub*}
 use Rattle.rules.specs.State.{View}
 use Rattle.table.specs.Environment.{values, extend}
-use Rattle.rules.proofs.Shape.{Still, Idle, Live, Opened*, Opened}
-use Rattle.rules.specs.Reading.{Chosen, Outcome, val, Readings}
-use Rattle.table.specs.Well.{Apart, Apart*, Fits, Fits*}
-use Rattle.rules.proofs.Frame.{Same}
+use Rattle.rules.proofs.Shape.{Still, Live, Opened*, Opened}
+use Rattle.rules.specs.Reading.{Outcome, val, Readings}
+use Rattle.rules.proofs.Branches.{chosen-map, chosen-both}
+use Rattle.table.specs.Well.{Apart, Apart*, Sees, Sees*}
+use Rattle.rules.proofs.Frame.{Same, Avoids, Avoids*}
 use Rattle.table.proofs.SyntaxLaws.{node-id, sub-node, sub-node*}
 use Rattle.rules.proofs.Within.{idle-not, idle-not*, done-not, done-not*}
 use Rattle.rules.proofs.Left.{Going, Left, Left*}
@@ -20,14 +21,9 @@ use Rattle.rules.proofs.Left.{Going, Left, Left*}
 -- what is left outside
 module _ (apply : ℕ → List ℕ → ℕ) (K : Readings) (s s′ : View) (W W′ : ℕ → ℕ) (args : ℕ → ℕ) (X : ℕ → Type 0)
     (keeps : (m : ℕ) → (X m → ⊥) → Same s s′ m) (expects : (m : ℕ) → (X m → ⊥) → W′ m ≡ W m) where
-  abbrev Clear : Expr → Type 0
-  Clear e = (m : ℕ) → Node m e → X m → ⊥
-
-  abbrev Clear* : Exprs → Type 0
-  Clear* es = (m : ℕ) → Node* m es → X m → ⊥
-
-  part-over : (e : Expr) → Clear e → (ρ : ℕ → ℕ) (o : Outcome) (k : ℕ) → (Going apply K s′ W′ args e ρ o k → Going apply K s W args e ρ o k)
-      → Left apply K s′ W′ args e ρ o k → Left apply K s W args e ρ o k
+  part-over : (e : Expr) → Avoids X e → (ρ : ℕ → ℕ) (o : Outcome) (k : ℕ)
+      → (Going apply K s′ W′ args e ρ o k → Going apply K s W args e ρ o k) → Left apply K s′ W′ args e ρ o k
+      → Left apply K s W args e ρ o k
   part-over e c ρ o k f h = go h
     where
       same : Same s s′ (id e)
@@ -41,19 +37,12 @@ module _ (apply : ℕ → List ℕ → ℕ) (K : Readings) (s s′ : View) (W W�
   phase-over : (n : ℕ) (p : Bool) → (X n → ⊥) → s′ .second n ≡ p → s .second n ≡ p
   phase-over n p x h = sym (keeps n x .1) ∙ h
 
-  values-over : (es : Exprs) → Clear* es → values (s′ .value) es ≡ values (s .value) es
+  values-over : (es : Exprs) → Avoids* X es → values (s′ .value) es ≡ values (s .value) es
   values-over none c = refl
   values-over (some e es) c = λ i. keeps (id e) (c (id e) (inl (node-id e))) .2 i ∷ values-over es (λ m k. c m (inr k)) i
 
-  taken-back : (X₁ Y₁ X₂ Y₂ : Type 0) → (X₁ → X₂) → (Y₁ → Y₂) → (v w : ℕ) → v ≡ w → Chosen X₁ Y₁ v → Chosen X₂ Y₂ w
-  taken-back X₁ Y₁ X₂ Y₂ f g v w e t = subst (Chosen X₂ Y₂) e (at v t)
-    where
-      at : (v : ℕ) → Chosen X₁ Y₁ v → Chosen X₂ Y₂ v
-      at zero t = g t
-      at (suc k) t = f t
-
   mutual
-    going-over : (e : Expr) → Clear e → (ρ : ℕ → ℕ) (o : Outcome) (k : ℕ) → Going apply K s′ W′ args e ρ o k
+    going-over : (e : Expr) → Avoids X e → (ρ : ℕ → ℕ) (o : Outcome) (k : ℕ) → Going apply K s′ W′ args e ρ o k
         → Going apply K s W args e ρ o k
     going-over (const n v) c ρ o k h = h
     going-over (param n i) c ρ o k h = h
@@ -89,14 +78,13 @@ module _ (apply : ℕ → List ℕ → ℕ) (K : Readings) (s s′ : View) (W W�
           ),
         )
     going-over (cond n a b d) c ρ o k (inr (p, h)) =
-        let cb : Clear b = λ m q. c m (inr (inr (inl q))) in
-        let cd : Clear d = λ m q. c m (inr (inr (inr q))) in
+        let cb : Avoids X b = λ m q. c m (inr (inr (inl q))) in
+        let cd : Avoids X d = λ m q. c m (inr (inr (inr q))) in
         inr (
           phase-over n true (c n (inl refl)) p,
           (
             h .0,
-            taken-back (Left apply K s′ W′ args b ρ o (h .0)) (Left apply K s′ W′ args d ρ o (h .0)) (Left apply K s W args b ρ o (h .0))
-                (Left apply K s W args d ρ o (h .0)) (part-over b cb ρ o (h .0) (λ x. going-over b cb ρ o (h .0) x))
+            chosen-map (part-over b cb ρ o (h .0) (λ x. going-over b cb ρ o (h .0) x))
                 (part-over d cd ρ o (h .0) (λ x. going-over d cd ρ o (h .0) x))
                 (s′ .value (id a)) (s .value (id a)) (keeps (id a) (c (id a) (inr (inl (node-id a)))) .2) (h .1),
             h .2,
@@ -120,7 +108,7 @@ module _ (apply : ℕ → List ℕ → ℕ) (K : Readings) (s s′ : View) (W W�
         )
     going-over (bound n d) c ρ o k h = h
 
-    pub left-over* : (es : Exprs) → Clear* es → (ρ : ℕ → ℕ) (vs : List ℕ) (j : ℕ) → Left* apply K s′ W′ args es ρ vs j
+    pub left-over* : (es : Exprs) → Avoids* X es → (ρ : ℕ → ℕ) (vs : List ℕ) (j : ℕ) → Left* apply K s′ W′ args es ρ vs j
         → Left* apply K s W args es ρ vs j
     left-over* none c ρ vs j h = h
     left-over* (some e es) c ρ vs j h = (
@@ -134,23 +122,24 @@ module _ (apply : ℕ → List ℕ → ℕ) (K : Readings) (s s′ : View) (W W�
       h .7,
     )
 
-  pub left-over : (e : Expr) → Clear e → (ρ : ℕ → ℕ) (o : Outcome) (k : ℕ) → Left apply K s′ W′ args e ρ o k → Left apply K s W args e ρ o k
+  pub left-over : (e : Expr) → Avoids X e → (ρ : ℕ → ℕ) (o : Outcome) (k : ℕ) → Left apply K s′ W′ args e ρ o k
+      → Left apply K s W args e ρ o k
   left-over e c ρ o k h = part-over e c ρ o k (going-over e c ρ o k) h
 
 -- what is left of a body
 module _ (apply : ℕ → List ℕ → ℕ) (K : Readings) (s s′ : View) (W W′ : ℕ → ℕ) (args : ℕ → ℕ) (u : Expr) (d : ℕ)
     (keeps : (m : ℕ) → (Node m u → ⊥) → Same s s′ m) (expects : (m : ℕ) → (Node m u → ⊥) → W′ m ≡ W m)
     (moving : Still s (id u) → ⊥)
-    (local : (ρ : ℕ → ℕ) (o : Outcome) (k : ℕ) → Live s u → Fits (s .value) u ρ → Left apply K s′ W′ args u ρ o k
+    (local : (ρ : ℕ → ℕ) (o : Outcome) (k : ℕ) → Live s u → Sees (s .value) u ρ → Left apply K s′ W′ args u ρ o k
     → Left apply K s W args u ρ o (d + k)) where
   abbrev Back : Expr → Type 0
-  Back e = (ρ : ℕ → ℕ) (o : Outcome) (k : ℕ) → Live s e → Fits (s .value) e ρ → Left apply K s′ W′ args e ρ o k
+  Back e = (ρ : ℕ → ℕ) (o : Outcome) (k : ℕ) → Live s e → Sees (s .value) e ρ → Left apply K s′ W′ args e ρ o k
       → Left apply K s W args e ρ o (d + k)
 
   here : (e : Expr) → u ≡ e → Back e
   here e p = subst Back p local
 
-  back-opened : (e : Expr) → Back e → Sub u e → (ρ : ℕ → ℕ) (o : Outcome) (k : ℕ) → Opened s e → Fits (s .value) e ρ
+  back-opened : (e : Expr) → Back e → Sub u e → (ρ : ℕ → ℕ) (o : Outcome) (k : ℕ) → Opened s e → Sees (s .value) e ρ
       → Left apply K s′ W′ args e ρ o k → Left apply K s W args e ρ o (d + k)
   back-opened e f p ρ o k (inl l) g h = f ρ o k l g h
   back-opened e f p ρ o k (inr x) g h = absurd (done-not s u moving e x p)
@@ -168,14 +157,6 @@ module _ (apply : ℕ → List ℕ → ℕ) (K : Readings) (s s′ : View) (W W�
 
   phases′ : (n : ℕ) → (Node n u → ⊥) → s .second n ≡ true → s′ .second n ≡ false → ⊥
   phases′ n x p q = true≢false (sym p ∙ sym (keeps n x .1) ∙ q)
-
-  branch : (L₁ L₂ A₁ A₂ B₁ B₂ : Type 0) → (L₁ → A₁ → B₁) → (L₂ → A₂ → B₂) → (v w : ℕ) → w ≡ v → Chosen L₁ L₂ v → Chosen A₁ A₂ w
-      → Chosen B₁ B₂ v
-  branch L₁ L₂ A₁ A₂ B₁ B₂ f g v w e l t = at v l (subst (Chosen A₁ A₂) e t)
-    where
-      at : (v : ℕ) → Chosen L₁ L₂ v → Chosen A₁ A₂ v → Chosen B₁ B₂ v
-      at zero l t = g l t
-      at (suc k) l t = f l t
 
   mutual
     pub left-within : (e : Expr) → Apart e → Sub u e → Back e
@@ -244,9 +225,7 @@ module _ (apply : ℕ → List ℕ → ℕ) (K : Readings) (s s′ : View) (W W�
             l .0 .1,
             (
               d + g .1 .0,
-              branch (Opened s b × Every (Idle s) c) (Opened s c × Every (Idle s) b) (Left apply K s′ W′ args b ρ o (g .1 .0))
-                  (Left apply K s′ W′ args c ρ o (g .1 .0)) (Left apply K s W args b ρ o (d + g .1 .0))
-                  (Left apply K s W args c ρ o (d + g .1 .0))
+              chosen-both
                   (λ x t. back-opened b (λ ρ′ o′ k′ l′ f′ h′. left-within b (q .4) p ρ′ o′ k′ l′ f′ h′) p ρ o (g .1 .0) (x .0) (f .1) t)
                   (λ x t. absurd (idle-not s u moving b (x .1) p))
                   (s .value (id a)) (s′ .value (id a)) (keeps (id a) (λ x. q .6 (id a) (node-id a) (sub-node u (id a) b p x)) .2)
@@ -264,9 +243,7 @@ module _ (apply : ℕ → List ℕ → ℕ) (K : Readings) (s s′ : View) (W W�
             l .0 .1,
             (
               d + g .1 .0,
-              branch (Opened s b × Every (Idle s) c) (Opened s c × Every (Idle s) b) (Left apply K s′ W′ args b ρ o (g .1 .0))
-                  (Left apply K s′ W′ args c ρ o (g .1 .0)) (Left apply K s W args b ρ o (d + g .1 .0))
-                  (Left apply K s W args c ρ o (d + g .1 .0))
+              chosen-both
                   (λ x t. absurd (idle-not s u moving c (x .1) p))
                   (λ x t. back-opened c (λ ρ′ o′ k′ l′ f′ h′. left-within c (q .5) p ρ′ o′ k′ l′ f′ h′) p ρ o (g .1 .0) (x .0) (f .2) t)
                   (s .value (id a)) (s′ .value (id a)) (keeps (id a) (λ x. q .7 (id a) (node-id a) (sub-node u (id a) c p x)) .2)
@@ -316,7 +293,7 @@ module _ (apply : ℕ → List ℕ → ℕ) (K : Readings) (s s′ : View) (W W�
         (going (bind n ds b) (λ x. q .1 (sub-node u n b p x)) (l .0 .0) ρ o k h)
     left-within (bound n i) a p ρ o k l f h = here (bound n i) p ρ o k l f h
 
-    pub left-within* : (es : Exprs) → Apart* es → Sub* u es → (ρ : ℕ → ℕ) (vs : List ℕ) (j : ℕ) → Opened* s es → Fits* (s .value) es ρ
+    pub left-within* : (es : Exprs) → Apart* es → Sub* u es → (ρ : ℕ → ℕ) (vs : List ℕ) (j : ℕ) → Opened* s es → Sees* (s .value) es ρ
         → Left* apply K s′ W′ args es ρ vs j → Left* apply K s W args es ρ vs (d + j)
     left-within* none a p ρ vs j l f h = absurd p
     left-within* (some e es) a (inl p) ρ vs j l f h = (

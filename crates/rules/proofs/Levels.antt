@@ -1,5 +1,5 @@
 -- the readings, function by function, are what the proof about the circuit asks for
-use Prim.Native.Nat.{ℕ, zero, suc, _+_, _≤_, _<_}
+use Prim.Native.Nat.{ℕ, zero, suc, _+_, _≤_}
 use mathlib.Core.Path.{_≡_, refl, subst, sym}
 use mathlib.Core.Logic.{inl, inr}
 use mathlib.Core.List.{List}
@@ -7,10 +7,12 @@ use native.Mathlib.Omega.{arith}
 use native.Mathlib.Decide.{ℕ-discrete}
 use lib.ListN.{getD}
 use Rattle.table.specs.Syntax.{Expr, Exprs, const, param, prim, call, self, cond, bind, bound, none, some}
-use Rattle.rules.specs.Reading.{Chosen, Outcome, val, again, Readings, Reads, Reads*, Round, stops, goes, readings}
+use Rattle.rules.specs.Reading.{Outcome, val, again, Readings, Reads, Reads*, Round, stops, goes, readings}
+use Rattle.rules.proofs.Branches.{chosen-map}
 use Rattle.table.specs.Environment.{extend}
 use Rattle.table.specs.Pick.{mixed}
-use Rattle.table.specs.Well.{CallIn, CallIn*}
+use Rattle.table.specs.Well.{CallIn, CallIn*, Well}
+use Rattle.rules.proofs.Remaining.{Ends, Closes}
 
 -- a change of what calls read to, for the calls of e
 module _ (apply : ℕ → List ℕ → ℕ) (K K′ : Readings) (args : ℕ → ℕ) where
@@ -39,16 +41,10 @@ module _ (apply : ℕ → List ℕ → ℕ) (K K′ : Readings) (args : ℕ → 
       h .1,
       h .2,
       reads-over a (λ g v k vs p q. f g v k vs (p .0, inl (p .1)) q) ρ (val (h .0)) (h .1) (h .3),
-      either (h .0) (Reads apply K args b ρ o (h .2)) (Reads apply K args c ρ o (h .2)) (Reads apply K′ args b ρ o (h .2))
-          (Reads apply K′ args c ρ o (h .2))
-          (λ x. reads-over b (λ g v k vs p q. f g v k vs (p .0, inr (inl (p .1))) q) ρ o (h .2) x)
-          (λ x. reads-over c (λ g v k vs p q. f g v k vs (p .0, inr (inr (p .1))) q) ρ o (h .2) x) (h .4),
+      chosen-map (λ x. reads-over b (λ g v k vs p q. f g v k vs (p .0, inr (inl (p .1))) q) ρ o (h .2) x)
+          (λ x. reads-over c (λ g v k vs p q. f g v k vs (p .0, inr (inr (p .1))) q) ρ o (h .2) x) (h .0) (h .0) refl (h .4),
       h .5,
     )
-      where
-        either : (v : ℕ) (X Y X′ Y′ : Type 0) → (X → X′) → (Y → Y′) → Chosen X Y v → Chosen X′ Y′ v
-        either zero X Y X′ Y′ p q t = q t
-        either (suc v) X Y X′ Y′ p q t = p t
     reads-over (bind n ds b) f ρ o k h = (
       h .0,
       h .1,
@@ -102,26 +98,20 @@ module _ (apply : ℕ → List ℕ → ℕ) (body : ℕ → Expr) where
   level-to t t′ (suc g) v k vs p q q′ y = level-in t′ g v k vs q′ (level-out t g v k vs q y)
 
   -- what the circuit's proof asks of the readings
-  abbrev Ended : ℕ → ℕ → Outcome → ℕ → ℕ → Type 0
-  Ended F f (val w) v i = (v ≡ w) × (i ≡ 0)
-  Ended F f (again vs) v i = readings apply body F f vs v i
-
-  pub closes : (F : ℕ) (below : (f c g : ℕ) → 1 ≤ f → f ≤ F → CallIn c g (body f) → (1 ≤ g) × (g < f)) (f v : ℕ) (vs : List ℕ) (o : Outcome)
-      (j i : ℕ) → 1 ≤ f → f ≤ F → Reads apply (readings apply body F) (λ x. getD vs x 0) (body f) (λ d. 0) o j → Ended F f o v i
-      → readings apply body F f vs v (j + i)
-  closes F below zero v vs o j i a b h e = absurd (omega arith)
-  closes F below (suc t) v vs o j i a b h e = level-in F t v (j + i) vs b (round o e here)
+  pub closes : (F : ℕ) → Well F body → Closes apply F body (readings apply body F)
+  closes F well zero v vs o j i r h e = absurd (omega (arith, r .0))
+  closes F well (suc t) v vs o j i r h e = level-in F t v (j + i) vs (r .1) (round o e here)
     where
       here : Reads apply (readings apply body t) (λ x. getD vs x 0) (body (suc t)) (λ d. 0) o j
       here = reads-over apply (readings apply body F) (readings apply body t) (λ x. getD vs x 0) (body (suc t))
-          (λ g v k ws p q. let c = below (suc t) (p .0) g a b (p .1) in
-          level-to F t g v k ws (c .0) (omega (arith, c .1, b)) (omega (arith, c .1)) q) (λ d. 0) o j h
+          (λ g v k ws p q. let c = well .below (suc t) (p .0) g r (p .1) in
+          level-to F t g v k ws (c .0) (omega (arith, c .1, r .1)) (omega (arith, c .1)) q) (λ d. 0) o j h
 
       sums : i ≡ 0 → j ≡ j + i
       sums z = omega arith
 
-      round : (o : Outcome) → Ended F (suc t) o v i → Reads apply (readings apply body t) (λ x. getD vs x 0) (body (suc t)) (λ d. 0) o j
-          → Own t vs v (j + i)
+      round : (o : Outcome) → Ends (readings apply body F) (suc t) o v i
+          → Reads apply (readings apply body t) (λ x. getD vs x 0) (body (suc t)) (λ d. 0) o j → Own t vs v (j + i)
       round (val w) e z = subst (Own t vs v) (sums (e .1))
           (stops (subst (λ n. Reads apply (readings apply body t) (λ x. getD vs x 0) (body (suc t)) (λ d. 0) (val n) j) (sym (e .0)) z))
-      round (again ws) e z = goes ws j i z (level-out F t v i ws b e) refl
+      round (again ws) e z = goes ws j i z (level-out F t v i ws (r .1) e) refl

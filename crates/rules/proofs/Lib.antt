@@ -19,10 +19,18 @@ pub mod StepSound
 pub mod Numbered
 pub mod Bounded
 pub mod StepTaken
+pub mod StepCases
 pub mod StepFacts
-pub mod Past
+-- states that agree: what a node's step reads, what a move writes, and two moves that write apart end equal in either order
+pub mod AgreeLaws
 pub mod ListsAgree
+pub mod MovesAgree
+pub mod ActSame
 pub mod Ignores
+pub mod Touches
+pub mod Past
+pub mod StatesSame
+pub mod Commute
 -- lists of steps: each call's three phases, entries minus leavings, the start, what every list keeps
 pub mod Thirds
 pub mod Occupied
@@ -32,6 +40,7 @@ pub mod Logs
 pub mod Kept
 -- the abstract circuit: its states and moves, and what is left to read
 pub mod Shape
+pub mod Branches
 pub mod Frame
 pub mod Within
 pub mod Left
@@ -43,6 +52,8 @@ pub mod SelfCalls
 pub mod Mix
 -- its invariant, and the four kinds of step that keep it
 pub mod Invariant
+pub mod Acting
+pub mod Inner
 pub mod Enter
 pub mod Leave
 pub mod Again
@@ -53,7 +64,6 @@ pub mod Collide
 -- the whole rest falls by one with each step, and the answer is the reading's, which is unique
 pub mod SumLaws
 pub mod Remaining
-pub mod TotalEnter
 pub mod Total
 pub mod Answers
 pub mod Levels

@@ -9,7 +9,7 @@ use lib.Dec.{eqb}
 use mathlib.Core.Bool.{Bool, true, false}
 use Rattle.table.specs.Pick.{pick}
 use Rattle.rules.specs.State.{State512, In}
-use Rattle.rules.specs.Step.{Reply, taken, answered, refused, Stepped}
+use Rattle.rules.specs.Step.{Reply, taken, answered, denied, Stepped}
 use Rattle.rules.specs.Play.{Ask, asks, Log, noted, before, played, count}
 
 abbrev pub begin : State512 → Log
@@ -49,13 +49,13 @@ module _ (l p r : Log) (n : ℕ) (t : State512) where
   unfolding count
   noted-counts taken c e = count-more c n (l .nodes) (count c (r .nodes)) (count c (p .nodes)) e
   noted-counts (answered v) c e = count-more c n (l .nodes) (count c (r .nodes)) (count c (p .nodes)) e
-  noted-counts (refused k q) c e = e
+  noted-counts (denied k q) c e = e
 
   noted-number : (x : Reply) → length (r .nodes) ≡ length (noted x n (l .nodes)) + length (p .nodes)
       → length (r .nodes) ≡ length (l .nodes) + length (noted x n (p .nodes))
   noted-number taken e = omega arith
   noted-number (answered v) e = omega arith
-  noted-number (refused k q) e = e
+  noted-number (denied k q) e = e
 
   shift : (x : Reply) → Joins (logged l n (record { answer = x; state = t })) p r
       → Joins l (before n (record { answer = x; state = t }) p) r
@@ -122,7 +122,7 @@ module _ {T : Type 0} (step : T → State512 → ℕ → Stepped) where
   noted-join : (x : Reply) (n : ℕ) (ns ms : List ℕ) → noted x n (ns ++ ms) ≡ noted x n ns ++ ms
   noted-join taken n ns ms = refl
   noted-join (answered v) n ns ms = refl
-  noted-join (refused k p) n ns ms = refl
+  noted-join (denied k p) n ns ms = refl
 
   pub played-state : (s : State512) (xs ys : List (Ask T))
       → played step s (xs ++ ys) .state ≡ played step (played step s xs .state) ys .state

@@ -1,7 +1,7 @@
 -- the steps that stay inside one body
-use Prim.Native.Nat.{ℕ, zero, suc}
+use Prim.Native.Nat.{ℕ}
 use mathlib.Core.Bool.{true, false, true≢false}
-use mathlib.Core.Path.{_≡_, subst, sym, _∙_}
+use mathlib.Core.Path.{_≡_, refl, sym, _∙_}
 use mathlib.Core.Logic.{_⊎_, inl, inr, ⊎-elim}
 use mathlib.Core.List.{List}
 use native.Mathlib.Omega.{arith}
@@ -9,6 +9,7 @@ use Rattle.table.specs.Syntax.{Expr, Exprs, const, param, prim, call, self, con
 use Rattle.rules.specs.State.{View}
 use Rattle.rules.proofs.Shape.{Still, Idle, Open, Busy, Done, Done*, Live, Opened*, Opened}
 use Rattle.rules.specs.Reading.{Chosen}
+use Rattle.rules.proofs.Branches.{chosen-case, chosen-map, chosen-both}
 use Rattle.rules.proofs.Frame.{Same}
 use Rattle.table.specs.Environment.{values}
 
@@ -28,7 +29,7 @@ abbrev pub Finished* : View → Exprs → Type 0
 Finished* s none = Unit {0}
 Finished* s (some e es) = (s .status (id e) ≡ 3) × Finished* s es
 
-module _ (apply : ℕ → List ℕ → ℕ) (args : ℕ → ℕ) (s s′ : View) where
+module _ (s s′ : View) where
   abbrev pub Becomes : ℕ → ℕ → Type 0
   Becomes n v = (s′ .status n ≡ 3) × (s′ .second n ≡ false) × (s′ .value n ≡ v)
 
@@ -45,25 +46,26 @@ module _ (apply : ℕ → List ℕ → ℕ) (args : ℕ → ℕ) (s s′ : View)
   abbrev pub Keeps* : Exprs → Type 0
   Keeps* es = Every* (Same s s′) es
 
+module _ (apply : ℕ → List ℕ → ℕ) (args : ℕ → ℕ) (s s′ : View) where
   abbrev pub Inner : Expr → Type 0
-  Inner (const n v) = Open s n × Becomes n v
-  Inner (param n i) = Open s n × Becomes n (args i)
+  Inner (const n v) = Open s n × Becomes s s′ n v
+  Inner (param n i) = Open s n × Becomes s s′ n (args i)
   Inner (prim n op es) =
-      (Open s n × Busy s′ n false × Opens* es)
-      ⊎ ((s .status n ≡ 2) × Finished* s es × Becomes n (apply op (values (s .value) es)) × Keeps* es)
-  Inner (call n g es) = Open s n × Busy s′ n false × Opens* es
-  Inner (self n es) = Open s n × Busy s′ n false × Opens* es
+      (Open s n × Busy s′ n false × Opens* s s′ es)
+      ⊎ ((s .status n ≡ 2) × Finished* s es × Becomes s s′ n (apply op (values (s .value) es)) × Keeps* s s′ es)
+  Inner (call n g es) = Open s n × Busy s′ n false × Opens* s s′ es
+  Inner (self n es) = Open s n × Busy s′ n false × Opens* s s′ es
   Inner (cond n a b c) =
-      (Open s n × Busy s′ n false × Opens a × Keeps b × Keeps c)
-      ⊎ (Busy s n false × (s .status (id a) ≡ 3) × Busy s′ n true × Keeps a × Chosen (Opens b × Keeps c) (Opens c × Keeps b)
-      (s .value (id a)))
-      ⊎ (Busy s n true × Chosen ((s .status (id b) ≡ 3) × Becomes n (s .value (id b))) ((s .status (id c) ≡ 3)
-      × Becomes n (s .value (id c))) (s .value (id a)) × Keeps a × Keeps b × Keeps c)
+      (Open s n × Busy s′ n false × Opens s s′ a × Keeps s s′ b × Keeps s s′ c)
+      ⊎ (Busy s n false × (s .status (id a) ≡ 3) × Busy s′ n true × Keeps s s′ a
+      × Chosen (Opens s s′ b × Keeps s s′ c) (Opens s s′ c × Keeps s s′ b) (s .value (id a)))
+      ⊎ (Busy s n true × Chosen ((s .status (id b) ≡ 3) × Becomes s s′ n (s .value (id b))) ((s .status (id c) ≡ 3)
+      × Becomes s s′ n (s .value (id c))) (s .value (id a)) × Keeps s s′ a × Keeps s s′ b × Keeps s s′ c)
   Inner (bind n ds b) =
-      (Open s n × Busy s′ n false × Opens* ds × Keeps b)
-      ⊎ (Busy s n false × Finished* s ds × Busy s′ n true × Keeps* ds × Opens b)
-      ⊎ (Busy s n true × (s .status (id b) ≡ 3) × Becomes n (s .value (id b)) × Keeps* ds × Keeps b)
-  Inner (bound n d) = Open s n × Becomes n (s .value d)
+      (Open s n × Busy s′ n false × Opens* s s′ ds × Keeps s s′ b)
+      ⊎ (Busy s n false × Finished* s ds × Busy s′ n true × Keeps* s s′ ds × Opens s s′ b)
+      ⊎ (Busy s n true × (s .status (id b) ≡ 3) × Becomes s s′ n (s .value (id b)) × Keeps* s s′ ds × Keeps s s′ b)
+  Inner (bound n d) = Open s n × Becomes s s′ n (s .value d)
 
 -- carrying over a whole expression, node by node
 module _ (P Q R : ℕ → Type 0) (f : (n : ℕ) → P n → Q n → R n) where
@@ -154,8 +156,8 @@ module _ (s : View) where
   idle-still e h = both (Idle s) (Idle s) (Still s) idle-still-node e h h
 
 -- the shape after a step inside a body
-module _ (apply : ℕ → List ℕ → ℕ) (args : ℕ → ℕ) (s s′ : View) where
-  pub opens-live : (e : Expr) → Every (Idle s) e → Opens apply args s s′ e → Live s′ e
+module _ (s s′ : View) where
+  pub opens-live : (e : Expr) → Every (Idle s) e → Opens s s′ e → Live s′ e
   opens-live (const n v) i o = (o .0 .0, o .0 .1 ∙ i .1)
   opens-live (param n j) i o = (o .0 .0, o .0 .1 ∙ i .1)
   opens-live (prim n op es) i o = inl ((o .0 .0, o .0 .1 ∙ i .0 .1), idle-kept* s s′ es (o .1) (i .1))
@@ -171,83 +173,75 @@ module _ (apply : ℕ → List ℕ → ℕ) (args : ℕ → ℕ) (s s′ : View)
   opens-live (bind n ds b) i o = inl ((o .0 .0, o .0 .1 ∙ i .0 .1), idle-kept* s s′ ds (o .1 .0) (i .1), idle-kept s s′ b (o .1 .1) (i .2))
   opens-live (bound n d) i o = (o .0 .0, o .0 .1 ∙ i .1)
 
-  pub opens-live* : (es : Exprs) → Every* (Idle s) es → Opens* apply args s s′ es → Opened* s′ es
+  pub opens-live* : (es : Exprs) → Every* (Idle s) es → Opens* s s′ es → Opened* s′ es
   opens-live* none i o = tt
   opens-live* (some e es) i o = (inl (opens-live e (i .0) (o .0)), opens-live* es (i .1) (o .1))
 
-  becomes-still : (n v : ℕ) → Becomes apply args s s′ n v → Still s′ n
+  becomes-still : (n v : ℕ) → Becomes s s′ n v → Still s′ n
   becomes-still n v h = (inr (h .0), h .1)
 
-  pub inner-live : (u : Expr) → Inner apply args s s′ u → Live s u → Opened s′ u
-  inner-live (const n v) r l = inr (r .1 .0, becomes-still n v (r .1))
-  inner-live (param n i) r l = inr (r .1 .0, becomes-still n (args i) (r .1))
-  inner-live (prim n op es) (inl r) (inl l) = inl (inr (r .1, opens-live* es (l .1) (r .2)))
-  inner-live (prim n op es) (inl r) (inr l) = absurd (omega arith)
-  inner-live (prim n op es) (inr r) (inl l) = absurd (omega arith)
-  inner-live (prim n op es) (inr r) (inr l) =
-      inr (r .2 .0, (becomes-still n _ (r .2), done*-still s′ es (done-kept* s s′ es (r .3) (finished* s es (l .1) (r .1)))))
-  inner-live (call n g es) r (inl l) = inl (inr (inl (r .1, opens-live* es (l .1) (r .2))))
-  inner-live (call n g es) r (inr (inl l)) = absurd (omega arith)
-  inner-live (call n g es) r (inr (inr l)) = absurd (omega arith)
-  inner-live (self n es) r (inl l) = inl (inr (r .1, opens-live* es (l .1) (r .2)))
-  inner-live (self n es) r (inr l) = absurd (omega arith)
-  inner-live (cond n a b c) (inl r) (inl l) =
-      inl (inr (inl (r .1, inl (opens-live a (l .1) (r .2)), idle-kept s s′ b (r .3) (l .2), idle-kept s s′ c (r .4) (l .3))))
-  inner-live (cond n a b c) (inl r) (inr (inl l)) = absurd (omega arith)
-  inner-live (cond n a b c) (inl r) (inr (inr l)) = absurd (omega arith)
-  inner-live (cond n a b c) (inr (inl r)) (inl l) = absurd (omega arith)
-  inner-live (cond n a b c) (inr (inl r)) (inr (inl l)) =
-      inl (inr (inr (
-        r .2,
-        done-kept s s′ a (r .3) (finished s a (l .1) (r .1)),
-        turn (s .value (id a)) (s′ .value (id a)) (every-id s s′ (Same s s′) a (r .3) .2) (r .4),
-      )))
-    where
-      at : (v : ℕ) → Chosen (Opens apply args s s′ b × Every (Same s s′) c) (Opens apply args s s′ c × Every (Same s s′) b) v
-          → Chosen (Opened s′ b × Every (Idle s′) c) (Opened s′ c × Every (Idle s′) b) v
-      at zero t = (inl (opens-live c (l .3) (t .0)), idle-kept s s′ b (t .1) (l .2))
-      at (suc v) t = (inl (opens-live b (l .2) (t .0)), idle-kept s s′ c (t .1) (l .3))
-
-      turn : (v w : ℕ) → w ≡ v → Chosen (Opens apply args s s′ b × Every (Same s s′) c) (Opens apply args s s′ c × Every (Same s s′) b) v
-          → Chosen (Opened s′ b × Every (Idle s′) c) (Opened s′ c × Every (Idle s′) b) w
-      turn v w e t = subst (Chosen (Opened s′ b × Every (Idle s′) c) (Opened s′ c × Every (Idle s′) b)) (sym e) (at v t)
-  inner-live (cond n a b c) (inr (inl r)) (inr (inr l)) = absurd (true≢false (sym (l .0 .1) ∙ r .0 .1))
-  inner-live (cond n a b c) (inr (inr r)) (inl l) = absurd (omega arith)
-  inner-live (cond n a b c) (inr (inr r)) (inr (inl l)) = absurd (true≢false (sym (r .0 .1) ∙ l .0 .1))
-  inner-live (cond n a b c) (inr (inr r)) (inr (inr l)) = inr (end (s .value (id a)) (r .1) (l .2))
-    where
-      kept : (v : ℕ) → Becomes apply args s s′ n v → Every (Still s) b → Every (Still s) c → Done s′ (cond n a b c)
-      kept v h p q = (
-        h .0,
-        (
-          becomes-still n v h,
-          still-kept s s′ a (r .2) (l .1 .1),
-          still-kept s s′ b (r .3) p,
-          still-kept s s′ c (r .4) q,
-        ),
-      )
-
-      end : (v : ℕ) → Chosen ((s .status (id b) ≡ 3) × Becomes apply args s s′ n (s .value (id b))) ((s .status (id c) ≡ 3)
-          × Becomes apply args s s′ n (s .value (id c))) v
-          → Chosen (Opened s b × Every (Idle s) c) (Opened s c × Every (Idle s) b) v → Done s′ (cond n a b c)
-      end zero t o = kept _ (t .1) (idle-still s b (o .1)) (finished s c (o .0) (t .0) .1)
-      end (suc v) t o = kept _ (t .1) (finished s b (o .0) (t .0) .1) (idle-still s c (o .1))
-  inner-live (bind n ds b) (inl r) (inl l) = inl (inr (inl (r .1, opens-live* ds (l .1) (r .2), idle-kept s s′ b (r .3) (l .2))))
-  inner-live (bind n ds b) (inl r) (inr (inl l)) = absurd (omega arith)
-  inner-live (bind n ds b) (inl r) (inr (inr l)) = absurd (omega arith)
-  inner-live (bind n ds b) (inr (inl r)) (inl l) = absurd (omega arith)
-  inner-live (bind n ds b) (inr (inl r)) (inr (inl l)) =
-      inl (inr (inr (r .2, done-kept* s s′ ds (r .3) (finished* s ds (l .1) (r .1)), inl (opens-live b (l .2) (r .4)))))
-  inner-live (bind n ds b) (inr (inl r)) (inr (inr l)) = absurd (true≢false (sym (l .0 .1) ∙ r .0 .1))
-  inner-live (bind n ds b) (inr (inr r)) (inl l) = absurd (omega arith)
-  inner-live (bind n ds b) (inr (inr r)) (inr (inl l)) = absurd (true≢false (sym (r .0 .1) ∙ l .0 .1))
-  inner-live (bind n ds b) (inr (inr r)) (inr (inr l)) =
-      inr (
-        r .2 .0,
-        (
-          becomes-still n _ (r .2),
-          done*-still s′ ds (done-kept* s s′ ds (r .3) (l .1)),
-          still-kept s s′ b (r .4) (finished s b (l .2) (r .1) .1),
-        ),
-      )
-  inner-live (bound n d) r l = inr (r .1 .0, becomes-still n _ (r .1))
+  module _ (apply : ℕ → List ℕ → ℕ) (args : ℕ → ℕ) where
+    pub inner-live : (u : Expr) → Inner apply args s s′ u → Live s u → Opened s′ u
+    inner-live (const n v) r l = inr (r .1 .0, becomes-still n v (r .1))
+    inner-live (param n i) r l = inr (r .1 .0, becomes-still n (args i) (r .1))
+    inner-live (prim n op es) (inl r) (inl l) = inl (inr (r .1, opens-live* es (l .1) (r .2)))
+    inner-live (prim n op es) (inl r) (inr l) = absurd (omega arith)
+    inner-live (prim n op es) (inr r) (inl l) = absurd (omega arith)
+    inner-live (prim n op es) (inr r) (inr l) =
+        inr (r .2 .0, (becomes-still n _ (r .2), done*-still s′ es (done-kept* s s′ es (r .3) (finished* s es (l .1) (r .1)))))
+    inner-live (call n g es) r (inl l) = inl (inr (inl (r .1, opens-live* es (l .1) (r .2))))
+    inner-live (call n g es) r (inr (inl l)) = absurd (omega arith)
+    inner-live (call n g es) r (inr (inr l)) = absurd (omega arith)
+    inner-live (self n es) r (inl l) = inl (inr (r .1, opens-live* es (l .1) (r .2)))
+    inner-live (self n es) r (inr l) = absurd (omega arith)
+    inner-live (cond n a b c) (inl r) (inl l) =
+        inl (inr (inl (r .1, inl (opens-live a (l .1) (r .2)), idle-kept s s′ b (r .3) (l .2), idle-kept s s′ c (r .4) (l .3))))
+    inner-live (cond n a b c) (inl r) (inr (inl l)) = absurd (omega arith)
+    inner-live (cond n a b c) (inl r) (inr (inr l)) = absurd (omega arith)
+    inner-live (cond n a b c) (inr (inl r)) (inl l) = absurd (omega arith)
+    inner-live (cond n a b c) (inr (inl r)) (inr (inl l)) =
+        inl (inr (inr (
+          r .2,
+          done-kept s s′ a (r .3) (finished s a (l .1) (r .1)),
+          chosen-map (λ t. (inl (opens-live b (l .2) (t .0)), idle-kept s s′ c (t .1) (l .3)))
+              (λ t. (inl (opens-live c (l .3) (t .0)), idle-kept s s′ b (t .1) (l .2)))
+              (s .value (id a)) (s′ .value (id a)) (sym (every-id s s′ (Same s s′) a (r .3) .2)) (r .4),
+        )))
+    inner-live (cond n a b c) (inr (inl r)) (inr (inr l)) = absurd (true≢false (sym (l .0 .1) ∙ r .0 .1))
+    inner-live (cond n a b c) (inr (inr r)) (inl l) = absurd (omega arith)
+    inner-live (cond n a b c) (inr (inr r)) (inr (inl l)) = absurd (true≢false (sym (r .0 .1) ∙ l .0 .1))
+    inner-live (cond n a b c) (inr (inr r)) (inr (inr l)) =
+        inr (chosen-case (λ d. d) (λ d. d) (s .value (id a)) (chosen-both
+        (λ t o. kept _ (t .1) (finished s b (o .0) (t .0) .1) (idle-still s c (o .1)))
+        (λ t o. kept _ (t .1) (idle-still s b (o .1)) (finished s c (o .0) (t .0) .1))
+        (s .value (id a)) (s .value (id a)) refl (r .1) (l .2)))
+      where
+        kept : (v : ℕ) → Becomes s s′ n v → Every (Still s) b → Every (Still s) c → Done s′ (cond n a b c)
+        kept v h p q = (
+          h .0,
+          (
+            becomes-still n v h,
+            still-kept s s′ a (r .2) (l .1 .1),
+            still-kept s s′ b (r .3) p,
+            still-kept s s′ c (r .4) q,
+          ),
+        )
+    inner-live (bind n ds b) (inl r) (inl l) = inl (inr (inl (r .1, opens-live* ds (l .1) (r .2), idle-kept s s′ b (r .3) (l .2))))
+    inner-live (bind n ds b) (inl r) (inr (inl l)) = absurd (omega arith)
+    inner-live (bind n ds b) (inl r) (inr (inr l)) = absurd (omega arith)
+    inner-live (bind n ds b) (inr (inl r)) (inl l) = absurd (omega arith)
+    inner-live (bind n ds b) (inr (inl r)) (inr (inl l)) =
+        inl (inr (inr (r .2, done-kept* s s′ ds (r .3) (finished* s ds (l .1) (r .1)), inl (opens-live b (l .2) (r .4)))))
+    inner-live (bind n ds b) (inr (inl r)) (inr (inr l)) = absurd (true≢false (sym (l .0 .1) ∙ r .0 .1))
+    inner-live (bind n ds b) (inr (inr r)) (inl l) = absurd (omega arith)
+    inner-live (bind n ds b) (inr (inr r)) (inr (inl l)) = absurd (true≢false (sym (r .0 .1) ∙ l .0 .1))
+    inner-live (bind n ds b) (inr (inr r)) (inr (inr l)) =
+        inr (
+          r .2 .0,
+          (
+            becomes-still n _ (r .2),
+            done*-still s′ ds (done-kept* s s′ ds (r .3) (l .1)),
+            still-kept s s′ b (r .4) (finished s b (l .2) (r .1) .1),
+          ),
+        )
+    inner-live (bound n d) r l = inr (r .1 .0, becomes-still n _ (r .1))

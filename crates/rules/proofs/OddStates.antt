@@ -4,7 +4,7 @@ use mathlib.Core.Path.{_≡_, refl}
 use mathlib.Core.List.{List, [], _∷_}
 use mathlib.Core.Bool.{true}
 use Rattle.rules.specs.State.{State512, entry, write}
-use Rattle.rules.specs.Step.{Reply, taken, answered, refused, with-status, with-second, with-occupant}
+use Rattle.rules.specs.Step.{Reply, taken, answered, denied, with-status, with-second, with-occupant}
 use Rattle.rules.specs.Circuit.{playOf, stepOf}
 use Rattle.rules.specs.Runs.{whole, stopped, runOf}
 use Rattle.table.specs.Designs.{twice, mult}
@@ -28,11 +28,11 @@ abbrev says : State512 → List ℕ → List Reply
 says s ns = playOf twice (0 ∷ []) s ns .answers
 
 -- 24 for a status over 3 or an occupant over N, after 12 and before 20; entries past N and F are not looked at
-bad-status : says (status-at 2 3 (status-at 4 4 start)) (0 ∷ 2 ∷ 5 ∷ []) ≡ refused 12 0 ∷ refused 24 0 ∷ refused 12 0 ∷ []
+bad-status : says (status-at 2 3 (status-at 4 4 start)) (0 ∷ 2 ∷ 5 ∷ []) ≡ denied 12 0 ∷ denied 24 0 ∷ denied 12 0 ∷ []
 unfolding circuit-open
 bad-status = refl
 
-bad-occupant : says (occupant-at 1 5 start) (2 ∷ []) ≡ refused 24 0 ∷ []
+bad-occupant : says (occupant-at 1 5 start) (2 ∷ []) ≡ denied 24 0 ∷ []
 unfolding circuit-open
 bad-occupant = refl
 
@@ -49,17 +49,17 @@ run-empty : runOf twice (0 ∷ []) (status-at 4 4 start) [] .halt ≡ stopped 24
 unfolding circuit-open
 run-empty = refl
 
-run-nothing : runOf twice (0 ∷ []) start [] ≡ record { taken = 0; halt = whole; state = start }
+run-nothing : runOf twice (0 ∷ []) start [] ≡ record { steps = 0; halt = whole; state = start }
 unfolding circuit-open
 run-nothing = refl
 
 -- a busy parameter has no step, an idle call none, an open call steps whatever its flag, and keeps it
-letter : says (second-at 2 (status-at 4 2 start)) (4 ∷ 3 ∷ 2 ∷ 2 ∷ []) ≡ refused 21 4 ∷ refused 21 3 ∷ taken ∷ refused 21 2 ∷ []
+letter : says (second-at 2 (status-at 4 2 start)) (4 ∷ 3 ∷ 2 ∷ 2 ∷ []) ≡ denied 21 4 ∷ denied 21 3 ∷ taken ∷ denied 21 2 ∷ []
 unfolding circuit-open
 letter = refl
 
 -- a call in its second phase leaves when its callee's root is done, whoever occupies it, and frees the resource
-stranger : says (status-at 1 3 (occupant-at 1 3 (second-at 2 (status-at 2 2 start)))) (2 ∷ 2 ∷ []) ≡ answered 0 ∷ refused 20 2 ∷ []
+stranger : says (status-at 1 3 (occupant-at 1 3 (second-at 2 (status-at 2 2 start)))) (2 ∷ 2 ∷ []) ≡ answered 0 ∷ denied 20 2 ∷ []
 unfolding circuit-open
 stranger = refl
 

@@ -1,57 +1,59 @@
--- a step keeps the entries past N and F
-use Prim.Native.Nat.{ℕ, _<_}
+-- a step keeps the entries past N and F: a move writes within them
+use Prim.Native.Nat.{ℕ, _≤_, _<_}
 use mathlib.Core.Bool.{Bool}
-use mathlib.Core.Path.{refl}
+use mathlib.Core.Logic.{inl, inr}
 use mathlib.Core.List.{List}
 use native.Mathlib.Omega.{arith}
 use Rattle.table.specs.Syntax.{Expr}
-use Rattle.rules.specs.State.{View, State512, Sized, view}
-use Rattle.rules.proofs.Frame.{Same}
-use Rattle.rules.specs.Step.{Move, begins, turns, finishes, enters, leaves, restarts, perform, circuitStep}
-use Rattle.rules.proofs.Performed.{SameFunction, Does, Fair}
 use Rattle.table.specs.Pick.{Range}
 use Rattle.table.specs.Well.{Laid}
-use Rattle.rules.proofs.StepTaken.{step-cases}
+use Rattle.rules.specs.State.{State512, Sized, view}
+use Rattle.rules.specs.Step.{Move, begins, turns, finishes, enters, leaves, restarts, perform, circuitStep}
+use Rattle.rules.specs.Companions.{Agree}
+use Rattle.rules.proofs.AgreeLaws.{agree-same, agree-fewer}
+use Rattle.rules.proofs.Performed.{Fair}
+use Rattle.rules.proofs.StepCases.{step-cases}
 use Rattle.rules.proofs.StepFacts.{moved-does}
+use Rattle.rules.proofs.Touches.{Writes, Alters, keeps-rest}
 
-module _ (F N : ℕ) (home : ℕ → ℕ) (body : ℕ → Expr) (s s′ : View) (n : ℕ) (r : Range N n) where
-  does-past : (a : Move) → Fair F N home body n a → Does N home body s s′ n a → (m : ℕ) → N < m → Same s s′ m
-  does-past (begins ns) f d m h = (
-    d .others m (λ e. omega (arith, e, h, r .1)) (λ i. omega (arith, f .0 m i .1, h)),
-    d .seconds m,
-    d .valued m,
-  )
-  does-past (turns k) f d m h = (d .others m (λ e. omega (arith, e, h, f .1)), d .seconds m (λ e. omega (arith, e, h, r .1)), d .valued m)
-  does-past (finishes v) f d m h = d .0 .others m (λ e. omega (arith, e, h, r .1))
-  does-past (enters g vs) f d m h = d .new .others m (λ e. omega (arith, e, h, r .1)) (λ o. omega (arith, o .1, h))
-  does-past (leaves g v) f d m h = d .done .others m (λ e. omega (arith, e, h, r .1))
-  does-past (restarts g vs) f d m h = d .0 .others m (λ z. z) (λ o. omega (arith, o .1, h))
+module _ (F N : ℕ) (home : ℕ → ℕ) (body : ℕ → Expr) (n : ℕ) (r : Range N n) where
+  writes-within : (a : Move) → Fair F N home body n a → (m : ℕ) → Writes N home n a m → m ≤ N
+  writes-within a f m (inr c) = c .2 .1
+  writes-within (begins ns) f m (inl (inl e)) = omega (arith, e, r .1)
+  writes-within (begins ns) f m (inl (inr i)) = f .0 m i .1
+  writes-within (turns k) f m (inl (inl e)) = omega (arith, e, r .1)
+  writes-within (turns k) f m (inl (inr e)) = omega (arith, e, f .1)
+  writes-within (finishes v) f m (inl e) = omega (arith, e, r .1)
+  writes-within (enters g vs) f m (inl e) = omega (arith, e, r .1)
+  writes-within (leaves g v) f m (inl e) = omega (arith, e, r .1)
+  writes-within (restarts g vs) f m (inl e) = absurd e
 
-  does-past-functions : (a : Move) → Fair F N home body n a → Does N home body s s′ n a → (f : ℕ) → F < f → SameFunction s s′ f
-  does-past-functions (begins ns) q d f h = d .functions f
-  does-past-functions (turns k) q d f h = d .functions f
-  does-past-functions (finishes v) q d f h = d .1 f
-  does-past-functions (enters g vs) q d f h = d .new .functions f (λ e. omega (arith, e, h, q .1))
-  does-past-functions (leaves g v) q d f h = (d .occupants f (λ e. omega (arith, e, h, q .1)), d .registers f)
-  does-past-functions (restarts g vs) q d f h = d .0 .functions f (λ e. omega (arith, e, h, q .1))
+  alters-within : (a : Move) → Fair F N home body n a → (f : ℕ) → Alters a f → f ≤ F
+  alters-within (begins ns) q f (inl e) = absurd e
+  alters-within (begins ns) q f (inr e) = absurd e
+  alters-within (turns k) q f (inl e) = absurd e
+  alters-within (turns k) q f (inr e) = absurd e
+  alters-within (finishes v) q f (inl e) = absurd e
+  alters-within (finishes v) q f (inr e) = absurd e
+  alters-within (enters g vs) q f (inl e) = omega (arith, e, q .1)
+  alters-within (enters g vs) q f (inr e) = omega (arith, e, q .1)
+  alters-within (leaves g v) q f (inl e) = absurd e
+  alters-within (leaves g v) q f (inr e) = omega (arith, e, q .1)
+  alters-within (restarts g vs) q f (inl e) = omega (arith, e, q .1)
+  alters-within (restarts g vs) q f (inr e) = absurd e
 
 module _ (apply : ℕ → List ℕ → ℕ) {F N : ℕ} {body at : ℕ → Expr} {home : ℕ → ℕ} (laid : Laid F N body at home)
     (tags : ℕ → Bool) (s : State512) (sized : Sized s) (n : ℕ) where
-  same : (m : ℕ) → Same (view s) (view s) m
-  same m = (refl, refl, refl)
+  abbrev PastN : ℕ → Type 0
+  PastN m = N < m
 
-  same-function : (f : ℕ) → SameFunction (view s) (view s) f
-  same-function f = (refl, λ i. refl)
+  abbrev PastF : ℕ → Type 0
+  PastF f = F < f
 
-  pub nodes-past : (m : ℕ) → N < m → Same (view s) (view (circuitStep apply F N body at home tags s n .state)) m
-  nodes-past m h = step-cases apply laid tags s n (λ r. Same (view s) (view (r .state)) m)
-      (λ e. same m) (λ e. same m) (λ e. same m) (λ r e. same m) (λ r e k. same m) (λ r e k. same m)
+  pub step-past : Agree PastN PastF (view s) (view (circuitStep apply F N body at home tags s n .state))
+  step-past = step-cases apply F N body at home tags s n (λ r. Agree PastN PastF (view s) (view (r .state)))
+      (λ c. agree-same PastN PastF (view s))
       (λ r e a k. let d = moved-does apply laid s sized n r a k in
-      does-past F N home body (view s) (view (perform N home body s n a)) n r a (d .0) (d .1) m h)
-
-  pub functions-past : (f : ℕ) → F < f → SameFunction (view s) (view (circuitStep apply F N body at home tags s n .state)) f
-  functions-past f h = step-cases apply laid tags s n (λ r. SameFunction (view s) (view (r .state)) f)
-      (λ e. same-function f) (λ e. same-function f) (λ e. same-function f) (λ r e. same-function f) (λ r e k. same-function f)
-      (λ r e k. same-function f)
-      (λ r e a k. let d = moved-does apply laid s sized n r a k in
-      does-past-functions F N home body (view s) (view (perform N home body s n a)) n r a (d .0) (d .1) f h)
+      agree-fewer PastN PastF (λ m h w. omega (arith, h, writes-within F N home body n r a (d .0) m w))
+      (λ f h w. omega (arith, h, alters-within F N home body n r a (d .0) f w))
+      (keeps-rest N home body (view s) (view (perform N home body s n a)) n a (d .1)))

@@ -9,16 +9,12 @@ use lib.ListN.{length, getD}
 use borrow.Author.Tests.{eq-eqb, ne-eqb, ltb-true, lt-ltb}
 use Rattle.table.specs.Syntax.{Expr, id}
 use Rattle.rules.specs.State.{View, State512, Sized, entry, write, view, clear, In}
-use Rattle.rules.proofs.Frame.{Same}
+use Rattle.rules.proofs.Frame.{Same, SameFunction}
 use Rattle.rules.proofs.StateLaws.{length-write, length-clear, length-fill, length-opened, entry-same, entry-other, clear-mine}
 use Rattle.rules.proofs.StateLaws.{clear-other, fill-mine, fill-other, opened-in, opened-other}
 use Rattle.rules.specs.Step.{Act, stuck, blocked, does, Move, begins, turns, finishes, enters, leaves, restarts, mine, reset}
 use Rattle.rules.specs.Step.{finish, perform}
 use Rattle.table.specs.Pick.{Range}
-
--- registers and occupant of a function
-abbrev pub SameFunction : View → View → ℕ → Type 0
-SameFunction s s′ f = (s′ .occupant f ≡ s .occupant f) × ((i : ℕ) → s′ .register f i ≡ s .register f i)
 
 pub record Begins (s s′ : View) (n : ℕ) (ns : List ℕ) : Type 0 where
   pub busy : s′ .status n ≡ 2

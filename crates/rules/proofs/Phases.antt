@@ -10,21 +10,16 @@ use Rattle.table.specs.Pick.{Range}
 use Rattle.table.specs.Well.{Laid}
 use Rattle.rules.specs.State.{View, State512, view}
 use Rattle.rules.specs.Step.{Act, does, begins, enters, leaves, done, all-done, act, circuitStep}
-use Rattle.rules.specs.Play.{calls, Accepted}
+use Rattle.rules.specs.Play.{calls, IsTaken}
+use Rattle.rules.specs.Companions.{Phases}
 use Rattle.rules.proofs.ActCases.{by-pick, by-state}
-use Rattle.rules.proofs.StepTaken.{Moves, step-cases}
+use Rattle.rules.proofs.StepTaken.{Moves}
+use Rattle.rules.proofs.StepCases.{step-cases}
 use Rattle.rules.proofs.Thirds.{third, third-busy, third-rest}
 use Rattle.rules.proofs.Occupied.{calls-call}
 
--- what is said of the step x at a call of f, k of its steps taken before
-pub record PhasesOf (x : Act) (f k : ℕ) : Type 0 where
-  pub entering : k % 3 ≡ 1 → (vs : List ℕ) × (x ≡ does (enters f vs))
-  pub entered : (g : ℕ) (vs : List ℕ) → x ≡ does (enters g vs) → (k % 3 ≡ 1) × (g ≡ f)
-  pub leaving : k % 3 ≡ 2 → (v : ℕ) × (x ≡ does (leaves f v))
-  pub left : (g v : ℕ) → x ≡ does (leaves g v) → (k % 3 ≡ 2) × (g ≡ f)
-
 module _ (f k : ℕ) where
-  begins-phase : (ns : List ℕ) → k % 3 ≡ 0 → PhasesOf (does (begins ns)) f k
+  begins-phase : (ns : List ℕ) → k % 3 ≡ 0 → Phases (does (begins ns)) f k
   begins-phase ns e = record {
     entering = λ z. absurd (omega (arith, e, z));
     entered = λ g vs z. let o : _≡_ {A = ℕ} 0 1 = cc in absurd (omega arith);
@@ -32,7 +27,7 @@ module _ (f k : ℕ) where
     left = λ g v z. let o : _≡_ {A = ℕ} 0 1 = cc in absurd (omega arith);
   }
 
-  enters-phase : (vs : List ℕ) → k % 3 ≡ 1 → PhasesOf (does (enters f vs)) f k
+  enters-phase : (vs : List ℕ) → k % 3 ≡ 1 → Phases (does (enters f vs)) f k
   enters-phase vs e = record {
     entering = λ z. (vs, refl);
     entered = λ g ws z. (e, cc);
@@ -40,7 +35,7 @@ module _ (f k : ℕ) where
     left = λ g v z. let o : _≡_ {A = ℕ} 0 1 = cc in absurd (omega arith);
   }
 
-  leaves-phase : (v : ℕ) → k % 3 ≡ 2 → PhasesOf (does (leaves f v)) f k
+  leaves-phase : (v : ℕ) → k % 3 ≡ 2 → Phases (does (leaves f v)) f k
   leaves-phase v e = record {
     entering = λ z. absurd (omega (arith, e, z));
     entered = λ g vs z. let o : _≡_ {A = ℕ} 0 1 = cc in absurd (omega arith);
@@ -50,7 +45,7 @@ module _ (f k : ℕ) where
 
 module _ (apply : ℕ → List ℕ → ℕ) (body : ℕ → Expr) (s : View) (h n f : ℕ) (es : Exprs) (k : ℕ) (phase : k % 3 ≡ third s n) where
   abbrev Goal : Act → Type 0
-  Goal x = Moves x → PhasesOf x f k
+  Goal x = Moves x → Phases x f k
 
   call-phases : Goal (act apply body h s (call n f es))
   call-phases = by-state Goal (s .status n) _ _
@@ -65,17 +60,16 @@ module _ (apply : ℕ → List ℕ → ℕ) (body : ℕ → Expr) (s : View) (h 
 module _ (apply : ℕ → List ℕ → ℕ) {F N : ℕ} {body at : ℕ → Expr} {home : ℕ → ℕ} (laid : Laid F N body at home)
     (tags : ℕ → Bool) (s : State512) where
   -- a step taken at a node is its move
-  pub accepted-moves : (n : ℕ) → Accepted (circuitStep apply F N body at home tags s n .answer)
+  pub taken-moves : (n : ℕ) → IsTaken (circuitStep apply F N body at home tags s n .answer)
       → Moves (act apply body (home n) (view s) (at n))
-  accepted-moves n = step-cases apply laid tags s n (λ r. Accepted (r .answer) → Moves (act apply body (home n) (view s) (at n)))
-      (λ e. absurd) (λ e. absurd) (λ e. absurd) (λ r e. absurd) (λ r e h. absurd) (λ r e h. absurd)
-      (λ r e m h a. subst Moves (sym h) tt)
+  taken-moves n = step-cases apply F N body at home tags s n
+      (λ r. IsTaken (r .answer) → Moves (act apply body (home n) (view s) (at n))) (λ c. absurd) (λ r e m h a. subst Moves (sym h) tt)
 
-  pub step-phases : (c f : ℕ) → Range N c → calls (at c) f ≡ true → Accepted (circuitStep apply F N body at home tags s c .answer)
-      → (k : ℕ) → k % 3 ≡ third (view s) c → PhasesOf (act apply body (home c) (view s) (at c)) f k
+  pub step-phases : (c f : ℕ) → Range N c → calls (at c) f ≡ true → IsTaken (circuitStep apply F N body at home tags s c .answer)
+      → (k : ℕ) → k % 3 ≡ third (view s) c → Phases (act apply body (home c) (view s) (at c)) f k
   step-phases c f r e a k ph =
-      let x = calls-call apply laid (at c) f e in
-      let i : x .0 ≡ c = sym (ap id (x .2)) ∙ laid .number c (r .0) (r .1) in
-      subst (λ u. PhasesOf (act apply body (home c) (view s) u) f k) (sym (x .2))
+      let x = calls-call (at c) f e in
+      let i : x .0 ≡ c = sym (ap id (x .2)) ∙ laid .number c r in
+      subst (λ u. Phases (act apply body (home c) (view s) u) f k) (sym (x .2))
       (call-phases apply body (view s) (home c) (x .0) f (x .1) k (ph ∙ ap (third (view s)) (sym i))
-      (subst (λ u. Moves (act apply body (home c) (view s) u)) (x .2) (accepted-moves c a)))
+      (subst (λ u. Moves (act apply body (home c) (view s) u)) (x .2) (taken-moves c a)))

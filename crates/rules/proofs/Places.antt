@@ -1,34 +1,24 @@
 -- where a call or a self call stands in a body, and what is then under way around it
-use Prim.Native.Nat.{ℕ, zero, suc}
+use Prim.Native.Nat.{ℕ}
 use mathlib.Core.Bool.{true≢false}
-use mathlib.Core.Path.{_≡_, subst, sym, _∙_}
-use mathlib.Core.Logic.{_⊎_, inl, inr, ⊎-elim}
+use mathlib.Core.Path.{_≡_, refl, subst, sym, _∙_}
+use mathlib.Core.Logic.{inl, inr, ⊎-elim}
 use mathlib.Core.List.{List}
 use native.Mathlib.Omega.{arith}
 use Rattle.table.specs.Syntax.{Expr, Exprs, const, param, prim, call, self, cond, bind, bound, none, some, id, Every, Every*, Node, Node*}
 use Rattle.table.specs.Syntax.{Sub, Sub*}
 use Rattle.rules.specs.State.{View}
-use Rattle.rules.proofs.Shape.{Still, Idle, Done*, Live, Opened*, Opened}
-use Rattle.rules.specs.Reading.{Chosen}
+use Rattle.rules.proofs.Shape.{Still, Idle, Done*, Live, Opened*, Opened, busy-moves}
+use Rattle.rules.proofs.Branches.{chosen-case, chosen-both}
 use Rattle.table.proofs.SyntaxLaws.{every-node, every-node*}
 use Rattle.rules.proofs.Within.{idle-not, idle-not*, done-not, done-not*}
-use Rattle.rules.proofs.Moves.{Becomes, Inner, finished, finished*}
+use Rattle.rules.proofs.Moves.{Inner, finished, finished*}
 
 -- a part that is under way is live itself
 module _ (s : View) (u : Expr) (moving : Still s (id u) → ⊥) where
   opened-live : (e : Expr) → (Live s e → Live s u) → Sub u e → Opened s e → Live s u
   opened-live e f p (inl l) = f l
   opened-live e f p (inr d) = absurd (done-not s u moving e d p)
-
-  second : (b c : Expr) → (Live s b → Live s u) → Sub u b → (v : ℕ)
-      → Chosen (Opened s b × Every (Idle s) c) (Opened s c × Every (Idle s) b) v → Live s u
-  second b c f p zero t = absurd (idle-not s u moving b (t .1) p)
-  second b c f p (suc v) t = opened-live b f p (t .0)
-
-  third : (b c : Expr) → (Live s c → Live s u) → Sub u c → (v : ℕ)
-      → Chosen (Opened s b × Every (Idle s) c) (Opened s c × Every (Idle s) b) v → Live s u
-  third b c f p zero t = opened-live c f p (t .0)
-  third b c f p (suc v) t = absurd (idle-not s u moving c (t .1) p)
 
   mutual
     pub sub-live : (e : Expr) → Sub u e → Live s e → Live s u
@@ -50,10 +40,14 @@ module _ (s : View) (u : Expr) (moving : Still s (id u) → ⊥) where
     sub-live (cond n a b c) (inr (inl p)) (inr (inr l)) = absurd (done-not s u moving a (l .1) p)
     sub-live (cond n a b c) (inr (inr (inl p))) (inl l) = absurd (idle-not s u moving b (l .2) p)
     sub-live (cond n a b c) (inr (inr (inl p))) (inr (inl l)) = absurd (idle-not s u moving b (l .2) p)
-    sub-live (cond n a b c) (inr (inr (inl p))) (inr (inr l)) = second b c (λ x. sub-live b p x) p (s .value (id a)) (l .2)
+    sub-live (cond n a b c) (inr (inr (inl p))) (inr (inr l)) =
+        chosen-case (λ o. opened-live b (λ x. sub-live b p x) p (o .0)) (λ o. absurd (idle-not s u moving b (o .1) p))
+        (s .value (id a)) (l .2)
     sub-live (cond n a b c) (inr (inr (inr p))) (inl l) = absurd (idle-not s u moving c (l .3) p)
     sub-live (cond n a b c) (inr (inr (inr p))) (inr (inl l)) = absurd (idle-not s u moving c (l .3) p)
-    sub-live (cond n a b c) (inr (inr (inr p))) (inr (inr l)) = third b c (λ x. sub-live c p x) p (s .value (id a)) (l .2)
+    sub-live (cond n a b c) (inr (inr (inr p))) (inr (inr l)) =
+        chosen-case (λ o. absurd (idle-not s u moving c (o .1) p)) (λ o. opened-live c (λ x. sub-live c p x) p (o .0))
+        (s .value (id a)) (l .2)
     sub-live (bind n ds b) (inl p) l = subst (Live s) (sym p) l
     sub-live (bind n ds b) (inr (inl p)) (inl l) = absurd (idle-not* s u moving ds (l .1) p)
     sub-live (bind n ds b) (inr (inl p)) (inr (inl l)) = sub-live* ds p (l .1)
@@ -71,10 +65,10 @@ module _ (s : View) (u : Expr) (moving : Still s (id u) → ⊥) where
 -- nothing is busy in what is still or idle
 module _ (s : View) (c : ℕ) (busy : s .status c ≡ 2) where
   pub still-busy : (e : Expr) → Every (Still s) e → Node c e → ⊥
-  still-busy e h k = ⊎-elim (λ z. omega arith) (λ z. omega arith) (every-node (Still s) c e h k .0)
+  still-busy e h k = busy-moves s c busy (every-node (Still s) c e h k)
 
   pub still-busy* : (es : Exprs) → Every* (Still s) es → Node* c es → ⊥
-  still-busy* es h k = ⊎-elim (λ z. omega arith) (λ z. omega arith) (every-node* (Still s) c es h k .0)
+  still-busy* es h k = busy-moves s c busy (every-node* (Still s) c es h k)
 
   pub idle-busy : (e : Expr) → Every (Idle s) e → Node c e → ⊥
   idle-busy e h k = omega (arith, every-node (Idle s) c e h k .0)
@@ -116,15 +110,11 @@ module _ (s : View) (c : ℕ) (busy : s .status c ≡ 2) where
   inner-busy apply args s′ (cond n x y z) (inl r) (inr (inr l)) (inr k) = absurd (omega (arith, r .0 .0, l .0 .0))
   inner-busy apply args s′ (cond n x y z) (inr (inl r)) (inr (inr l)) (inr k) = absurd (true≢false (sym (l .0 .1) ∙ r .0 .1))
   inner-busy apply args s′ (cond n x y z) (inr (inr r)) (inr (inr l)) (inr (inl k)) = absurd (still-busy x (l .1 .1) k)
-  inner-busy apply args s′ (cond n x y z) (inr (inr r)) (inr (inr l)) (inr (inr k)) = absurd (go (s .value (id x)) (r .1) (l .2) k)
-    where
-      go : (v : ℕ) → Chosen ((s .status (id y) ≡ 3) × Becomes apply args s s′ n (s .value (id y))) ((s .status (id z) ≡ 3)
-          × Becomes apply args s s′ n (s .value (id z))) v → Chosen (Opened s y × Every (Idle s) z) (Opened s z × Every (Idle s) y) v
-          → Node c y ⊎ Node c z → ⊥
-      go zero t o (inl k) = idle-busy y (o .1) k
-      go zero t o (inr k) = still-busy z (finished s z (o .0) (t .0) .1) k
-      go (suc v) t o (inl k) = still-busy y (finished s y (o .0) (t .0) .1) k
-      go (suc v) t o (inr k) = idle-busy z (o .1) k
+  inner-busy apply args s′ (cond n x y z) (inr (inr r)) (inr (inr l)) (inr (inr k)) =
+      absurd (chosen-case (λ z. z) (λ z. z) (s .value (id x)) (chosen-both
+      (λ t o. ⊎-elim (λ i. still-busy y (finished s y (o .0) (t .0) .1) i) (λ i. idle-busy z (o .1) i) k)
+      (λ t o. ⊎-elim (λ i. idle-busy y (o .1) i) (λ i. still-busy z (finished s z (o .0) (t .0) .1) i) k)
+      (s .value (id x)) (s .value (id x)) refl (r .1) (l .2)))
   inner-busy apply args s′ (bind n ds b) r l (inl k) = k
   inner-busy apply args s′ (bind n ds b) r (inl l) (inr (inl k)) = absurd (idle-busy* ds (l .1) k)
   inner-busy apply args s′ (bind n ds b) r (inl l) (inr (inr k)) = absurd (idle-busy b (l .2) k)

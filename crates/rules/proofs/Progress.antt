@@ -1,22 +1,33 @@
 -- while main has not answered, some node has a step
-use Prim.Native.Nat.{ℕ, zero, suc, _≤_, _<_}
+use Prim.Native.Nat.{ℕ, zero, suc, _<_}
 use mathlib.Core.Bool.{true, false}
 use mathlib.Core.Path.{_≡_, refl, subst, sym, _∙_}
 use mathlib.Core.Logic.{_⊎_, inl, inr, ⊎-elim}
-use mathlib.Core.List.{List}
 use native.Mathlib.Omega.{arith}
 use native.Mathlib.Decide.{ℕ-discrete}
 use native.Mathlib.Nat.{not-suc-le-zero}
 use Rattle.table.specs.Syntax.{Expr, Exprs, const, param, prim, call, self, cond, bind, bound, none, some, id, Every, Sub, Sub*}
 use Rattle.rules.specs.State.{View}
+use Rattle.rules.proofs.LaidFacts.{callee-fn}
 use Rattle.rules.proofs.Shape.{Idle, Open, Busy, Live, Opened*, Opened}
 use Rattle.rules.specs.Reading.{Chosen}
 use Rattle.rules.proofs.Moves.{Finished*}
 use Rattle.table.proofs.CallPlaces.{find}
-use Rattle.table.specs.Well.{CallIn, CallIn*, Well}
-use Rattle.rules.proofs.Invariant.{Fn, Active, Sound}
+use Rattle.table.specs.Well.{Fn, CallIn, CallIn*, Well}
+use Rattle.rules.proofs.Invariant.{Active, Sound}
 
-module _ (apply : ℕ → List ℕ → ℕ) (F : ℕ) (body : ℕ → Expr) (s : View) where
+-- an expression stands in itself
+sub-refl : (e : Expr) → Sub e e
+sub-refl (const n v) = refl
+sub-refl (param n i) = refl
+sub-refl (prim n op es) = inl refl
+sub-refl (call n g es) = inl refl
+sub-refl (self n es) = inl refl
+sub-refl (cond n a b c) = inl refl
+sub-refl (bind n ds b) = inl refl
+sub-refl (bound n d) = refl
+
+module _ (body : ℕ → Expr) (s : View) where
   -- the node of u has a step
   abbrev pub Able : Expr → Type 0
   Able (const n v) = Open s n
@@ -51,16 +62,6 @@ module _ (apply : ℕ → List ℕ → ℕ) (F : ℕ) (body : ℕ → Expr) (s :
       → (s .status (id e) ≡ 3) ⊎ Seen (λ u. Sub u e) (λ c g. CallIn c g e)
   opened-seen e f (inl l) = inr (f l)
   opened-seen e f (inr d) = inl (d .0)
-
-  sub-refl : (e : Expr) → Sub e e
-  sub-refl (const n v) = refl
-  sub-refl (param n i) = refl
-  sub-refl (prim n op es) = inl refl
-  sub-refl (call n g es) = inl refl
-  sub-refl (self n es) = inl refl
-  sub-refl (cond n a b c) = inl refl
-  sub-refl (bind n ds b) = inl refl
-  sub-refl (bound n d) = refl
 
   own : (e : Expr) → Able e → Seen (λ u. Sub u e) (λ c g. CallIn c g e)
   own e a = inl (e, sub-refl e, a)
@@ -127,21 +128,21 @@ module _ (apply : ℕ → List ℕ → ℕ) (F : ℕ) (body : ℕ → Expr) (s :
     seek* none o = inl tt
     seek* (some e es) o = pair e es (opened-seen e (λ z. seek e z) (o .0)) (seek* es (o .1))
 
-  module _ (well : Well F body) (sound : Sound apply F body s) where
+  module _ {F : ℕ} (well : Well F body) (sound : Sound F body s) where
     abbrev pub Goes : Type 0
-    Goes = (h : ℕ) × Fn apply F body h × Hit (λ u. Sub u (body h))
+    Goes = (h : ℕ) × Fn F body h × Hit (λ u. Sub u (body h))
 
-    run : (k : ℕ) → ((g : ℕ) → g < k → Fn apply F body g → Active apply F body s g → (s .status (id (body g)) ≡ 3 → ⊥) → Goes)
-        → Fn apply F body k → Active apply F body s k → (s .status (id (body k)) ≡ 3 → ⊥) → Goes
+    run : (k : ℕ) → ((g : ℕ) → g < k → Fn F body g → Active F s g → (s .status (id (body g)) ≡ 3 → ⊥) → Goes)
+        → Fn F body k → Active F s k → (s .status (id (body k)) ≡ 3 → ⊥) → Goes
     run k ih r a n = go (sound .opened k r a)
       where
         wait : (c g : ℕ) → CallIn c g (body k) → (s .occupant g ≡ 0 → ⊥) → Goes
-        wait c g i z = leaves (well .below k c g (r .0) (r .1) i) (ℕ-discrete (s .status (id (body g))) 3)
+        wait c g i z = leaves (callee-fn well k c g r i) (ℕ-discrete (s .status (id (body g))) 3)
           where
-            leaves : (1 ≤ g) × (g < k) → Dec (s .status (id (body g)) ≡ 3) → Goes
-            leaves b (no d) = ih g (b .1) (b .0, omega (arith, b .1, r .1)) (inr z) d
-            leaves b (yes d) =
-                let o = sound .held g (s .occupant g) (b .0, omega (arith, b .1, r .1)) refl z in
+            leaves : Fn F body g → Dec (s .status (id (body g)) ≡ 3) → Goes
+            leaves q (no d) = ih g (well .below k c g r i .1) q (inr z) d
+            leaves q (yes d) =
+                let o = sound .held g (s .occupant g) q refl z in
                 let x = find (s .occupant g) g (body (o .0)) (o .3) in
                 (o .0, o .1, (call (s .occupant g) g (x .0), x .1, inr (inr (o .4, d))))
 
@@ -149,9 +150,9 @@ module _ (apply : ℕ → List ℕ → ℕ) (F : ℕ) (body : ℕ → Expr) (s :
         go (inr d) = absurd (n (d .0))
         go (inl l) = ⊎-elim (λ x. (k, r, x)) (λ x. wait (x .0) (x .1) (x .2) (x .3)) (seek (body k) l)
 
-    below : (k : ℕ) (g : ℕ) → g < k → Fn apply F body g → Active apply F body s g → (s .status (id (body g)) ≡ 3 → ⊥) → Goes
+    below : (k : ℕ) (g : ℕ) → g < k → Fn F body g → Active F s g → (s .status (id (body g)) ≡ 3 → ⊥) → Goes
     below zero g h = absurd (not-suc-le-zero h)
     below (suc k) g h = run g (λ f q. below k f (omega (arith, h, q)))
 
-    pub progress : Fn apply F body F → (s .status (id (body F)) ≡ 3 → ⊥) → Goes
+    pub progress : Fn F body F → (s .status (id (body F)) ≡ 3 → ⊥) → Goes
     progress r n = below (suc F) F (omega arith) r (inl refl) n

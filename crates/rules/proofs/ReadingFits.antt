@@ -16,7 +16,8 @@ use Rattle.table.specs.Check.{accepted, checkOf}
 use Rattle.table.specs.Expressions.{bodyOf}
 use Rattle.table.proofs.Passed.{passed}
 use Rattle.table.proofs.NodePlaces.{sub-at}
-use Rattle.rules.specs.Reading.{Outcome, val, again, Chosen, Readings, Reads, Reads*, Round, stops, goes, readings, ReadsTo}
+use Rattle.rules.proofs.Branches.{chosen-case}
+use Rattle.rules.specs.Reading.{Outcome, val, again, Readings, Reads, Reads*, Round, stops, goes, readings, ReadsTo}
 use Rattle.rules.specs.Operations.{operate}
 use Rattle.rules.specs.Companions.{Word, Words, Bytes}
 use Rattle.rules.proofs.Fits.{operate-word, const-word}
@@ -62,14 +63,9 @@ module _ (K : Readings) (callees : (g v k : ℕ) (vs : List ℕ) → Words vs �
         (callees g (h .1) (h .3) (h .0) (λ x. reads-words es (λ m v s. c m v (inr s)) ρ p (h .0) (h .2) (h .4) x) (h .5))
     reads-word (self n es) c ρ p o k h =
         subst OutcomeFits (sym (h .3)) (λ x. reads-words es (λ m v s. c m v (inr s)) ρ p (h .0) (h .1) (h .2) x)
-    reads-word (cond n a b d) c ρ p o k h = branch (h .0) (h .4)
-        (λ r. reads-word b (λ m v s. c m v (inr (inr (inl s)))) ρ p o (h .2) r)
-        (λ r. reads-word d (λ m v s. c m v (inr (inr (inr s)))) ρ p o (h .2) r)
-      where
-        branch : (v : ℕ) → Chosen (Reads operate K args b ρ o (h .2)) (Reads operate K args d ρ o (h .2)) v
-            → (Reads operate K args b ρ o (h .2) → OutcomeFits o) → (Reads operate K args d ρ o (h .2) → OutcomeFits o) → OutcomeFits o
-        branch zero r f g = g r
-        branch (suc v) r f g = f r
+    reads-word (cond n a b d) c ρ p o k h =
+        chosen-case (λ r. reads-word b (λ m v s. c m v (inr (inr (inl s)))) ρ p o (h .2) r)
+        (λ r. reads-word d (λ m v s. c m v (inr (inr (inr s)))) ρ p o (h .2) r) (h .0) (h .4)
     reads-word (bind n ds b) c ρ p o k h =
         reads-word b (λ m v s. c m v (inr (inr s))) (extend ds (h .0) ρ)
         (extend-words ds (h .0) ρ (λ x. reads-words ds (λ m v s. c m v (inr (inl s))) ρ p (h .0) (h .1) (h .3) x) p) o (h .2) (h .4)

@@ -1,75 +1,105 @@
--- what each function that is under way is to return, and the steps that are left of it
+-- what each function that is under way is to return, and the steps that are left of it; what a step leaves of that
 use Prim.Native.Nat.{ℕ, suc, _+_}
-use mathlib.Core.Path.{_≡_, subst, fun-ext}
+use mathlib.Core.Path.{_≡_, subst, sym, ap, _∙_, fun-ext}
 use mathlib.Core.List.{List}
 use native.Mathlib.Omega.{arith}
+use native.Mathlib.Decide.{ℕ-discrete}
 use lib.ListN.{getD}
-use Rattle.table.specs.Syntax.{Expr, Node, Sub, id}
-use Rattle.table.specs.Well.{Apart, Fits}
+use Rattle.table.specs.Syntax.{Expr, Node}
+use Rattle.table.specs.Well.{Fn, Sees}
+use Rattle.table.specs.Environment.{put}
+use Rattle.table.specs.Find.{total}
 use Rattle.rules.specs.State.{View}
-use Rattle.rules.proofs.Shape.{Still, Live}
-use Rattle.rules.proofs.Frame.{Same}
+use Rattle.rules.specs.Reading.{Outcome, val, Readings, Reads}
+use Rattle.rules.proofs.Shape.{Live}
+use Rattle.rules.proofs.Frame.{Same, SameFunction, Avoids}
 use Rattle.rules.proofs.Left.{Left}
 use Rattle.rules.proofs.LeftFacts.{left-over, left-within}
-use Rattle.rules.proofs.Invariant.{Fn, Active}
-use Rattle.rules.specs.Reading.{Outcome, val, Readings, Reads}
-use Rattle.table.specs.Find.{total}
+use Rattle.rules.proofs.SumLaws.{put-same, put-other, sum-put}
+use Rattle.rules.proofs.Invariant.{Active}
+use Rattle.rules.proofs.Acting.{Acting, live, apart}
 use Rattle.rules.specs.Reading as Reading
 
-module _ (apply : ℕ → List ℕ → ℕ) (F : ℕ) (body : ℕ → Expr) (K : Readings) where
-  -- what an outcome of the body of f comes to
-  abbrev pub Ends : ℕ → Outcome → ℕ → ℕ → Type 0
-  Ends f (val w) v i = (v ≡ w) × (i ≡ 0)
-  Ends f (Reading.again vs) v i = K f vs v i
+-- what an outcome of the body of f comes to
+abbrev pub Ends : Readings → ℕ → Outcome → ℕ → ℕ → Type 0
+Ends K f (val w) v i = (v ≡ w) × (i ≡ 0)
+Ends K f (Reading.again vs) v i = K f vs v i
 
-  abbrev pub nowhere : ℕ → ℕ
-  nowhere d = 0
+-- nothing is bound around a body
+abbrev pub nowhere : ℕ → ℕ
+nowhere d = 0
 
-  -- K has what a body reads to, also over a self call
-  abbrev pub Closes : Type 0
-  Closes = (f v : ℕ) (vs : List ℕ) (o : Outcome) (j i : ℕ) → Fn apply F body f → Reads apply K (λ z. getD vs z 0) (body f) nowhere o j
-      → Ends f o v i → K f vs v (j + i)
+-- K has what a body reads to, also over a self call
+abbrev pub Closes : (apply : ℕ → List ℕ → ℕ) (F : ℕ) (body : ℕ → Expr) (K : Readings) → Type 0
+Closes apply F body K = (f v : ℕ) (vs : List ℕ) (o : Outcome) (j i : ℕ) → Fn F body f
+    → Reads apply K (λ z. getD vs z 0) (body f) nowhere o j → Ends K f o v i → K f vs v (j + i)
 
+module _ (apply : ℕ → List ℕ → ℕ) (body : ℕ → Expr) (K : Readings) where
   -- f, as it stands, is to return v after k more steps of its own and of the calls that it has yet to make
   abbrev pub Rest : View → (ℕ → ℕ) → ℕ → ℕ → ℕ → Type 0
-  Rest s W f v k = (o : Outcome) × (j i : ℕ) × Left apply K s W (s .register f) (body f) nowhere o j × Ends f o v i × (k ≡ j + i)
+  Rest s W f v k = (o : Outcome) × (j i : ℕ) × Left apply K s W (s .register f) (body f) nowhere o j × Ends K f o v i × (k ≡ j + i)
 
-  pub record Expects (s : View) (W R : ℕ → ℕ) : Type 0 where
-    pub active : (f : ℕ) → Fn apply F body f → Active apply F body s f → Rest s W f (W (s .occupant f)) (R f)
-    pub rest : (f : ℕ) → Fn apply F body f → (Active apply F body s f → ⊥) → R f ≡ 0
-
-  abbrev pub Before : View → (ℕ → ℕ) → (ℕ → ℕ) → Type 0
-  Before s W′ R′ = (W R : ℕ → ℕ) × Expects s W R × (total R F ≡ suc (total R′ F)) × (W 0 ≡ W′ 0)
-
-  module _ (s s′ : View) (W′ : ℕ → ℕ) where
+  module _ (s s′ : View) (W W′ : ℕ → ℕ) where
     -- a function that the step does not touch
-    module _ (X : ℕ → Type 0) (keeps : (m : ℕ) → (X m → ⊥) → Same s s′ m) (W : ℕ → ℕ) (expects : (m : ℕ) → (X m → ⊥) → W′ m ≡ W m) where
-      pub aside-rest′ : (f v k : ℕ) → ((m : ℕ) → Node m (body f) → X m → ⊥) → ((i : ℕ) → s′ .register f i ≡ s .register f i)
-          → Rest s′ W′ f v k
-          → Rest s W f v k
-      aside-rest′ f v k c g x = (
-        x .0,
-        x .1,
-        x .2,
-        left-over apply K s s′ W W′ (s .register f) X keeps expects (body f) c nowhere (x .0) (x .1)
-            (subst (λ r. Left apply K s′ W′ r (body f) nowhere (x .0) (x .1)) (fun-ext g) (x .3)),
-        x .4,
-        x .5,
+    module _ (X : ℕ → Type 0) (keeps : (m : ℕ) → (X m → ⊥) → Same s s′ m) (expects : (m : ℕ) → (X m → ⊥) → W′ m ≡ W m) where
+      pub rest-aside : (f k : ℕ) → Avoids X (body f) → SameFunction s s′ f → W′ (s .occupant f) ≡ W (s .occupant f)
+          → Rest s′ W′ f (W′ (s′ .occupant f)) k → Rest s W f (W (s .occupant f)) k
+      rest-aside f k c g e y = (
+        y .0,
+        y .1,
+        y .2,
+        left-over apply K s s′ W W′ (s .register f) X keeps expects (body f) c nowhere (y .0) (y .1)
+            (subst (λ r. Left apply K s′ W′ r (body f) nowhere (y .0) (y .1)) (fun-ext (g .1)) (y .3)),
+        subst (λ v. Ends K f (y .0) v (y .2)) (ap W′ (g .0) ∙ e) (y .4),
+        y .5,
       )
 
     -- the function whose part u takes the step
-    module _ (W : ℕ → ℕ) (h : ℕ) (u : Expr) (d : ℕ) (keeps : (m : ℕ) → (Node m u → ⊥) → Same s s′ m)
-        (expects : (m : ℕ) → (Node m u → ⊥) → W′ m ≡ W m) (moving : Still s (id u) → ⊥)
-        (local : (ρ : ℕ → ℕ) (o : Outcome) (k : ℕ) → Live s u → Fits (s .value) u ρ → Left apply K s′ W′ (s .register h) u ρ o k
+    module _ {F h : ℕ} {u : Expr} (x : Acting F body s h u) (d : ℕ) (keeps : (m : ℕ) → (Node m u → ⊥) → Same s s′ m)
+        (expects : (m : ℕ) → (Node m u → ⊥) → W′ m ≡ W m)
+        (local : (ρ : ℕ → ℕ) (o : Outcome) (k : ℕ) → Live s u → Sees (s .value) u ρ → Left apply K s′ W′ (s .register h) u ρ o k
         → Left apply K s W (s .register h) u ρ o (d + k)) where
-      pub own-rest : Apart (body h) → Sub u (body h) → Live s (body h) → Fits (s .value) (body h) nowhere
-          → ((i : ℕ) → s′ .register h i ≡ s .register h i) → (v k : ℕ) → Rest s′ W′ h v k → Rest s W h v (d + k)
-      own-rest a p l f g v k y = (
+      pub rest-own : (k : ℕ) → SameFunction s s′ h → W′ (s .occupant h) ≡ W (s .occupant h) → Rest s′ W′ h (W′ (s′ .occupant h)) k
+          → Rest s W h (W (s .occupant h)) (d + k)
+      rest-own k g e y = (
         y .0,
         d + y .1,
         y .2,
-        left-within apply K s s′ W W′ (s .register h) u d keeps expects moving local (body h) a p nowhere (y .0) (y .1) l f
-            (subst (λ r. Left apply K s′ W′ r (body h) nowhere (y .0) (y .1)) (fun-ext g) (y .3)),
-        y .4,
+        left-within apply K s s′ W W′ (s .register h) u d keeps expects (x .moving) local (body h) (apart x) (x .place) nowhere (y .0)
+            (y .1) (live x) (x .well .sees h (s .value) (x .fn))
+            (subst (λ r. Left apply K s′ W′ r (body h) nowhere (y .0) (y .1)) (fun-ext (g .1)) (y .3)),
+        subst (λ v. Ends K h (y .0) v (y .2)) (ap W′ (g .0) ∙ e) (y .4),
         omega (arith, y .5),
       )
+
+module _ (apply : ℕ → List ℕ → ℕ) (F : ℕ) (body : ℕ → Expr) (K : Readings) where
+  -- W m is what the call m is to get, R f what is left of f
+  pub record Expects (s : View) (W R : ℕ → ℕ) : Type 0 where
+    pub active : (f : ℕ) → Fn F body f → Active F s f → Rest apply body K s W f (W (s .occupant f)) (R f)
+    pub rest : (f : ℕ) → Fn F body f → (Active F s f → ⊥) → R f ≡ 0
+
+  -- in s one more step was left than in the state that W′ and R′ speak of
+  abbrev pub Before : View → (ℕ → ℕ) → (ℕ → ℕ) → Type 0
+  Before s W′ R′ = (W R : ℕ → ℕ) × Expects s W R × (total R F ≡ suc (total R′ F)) × (W 0 ≡ W′ 0)
+
+  -- it was h's step: h had that one more to go, and the d that another has after it
+  module _ (s : View) (W W′ R R′ : ℕ → ℕ) (h d : ℕ) (r : Fn F body h) (a : Active F s h) where
+    pub one-more : total R F + d ≡ total R′ F → W 0 ≡ W′ 0 → Rest apply body K s W h (W (s .occupant h)) ((1 + d) + R h)
+        → ((f : ℕ) → Fn F body f → Active F s f → (f ≡ h → ⊥) → Rest apply body K s W f (W (s .occupant f)) (R f))
+        → ((f : ℕ) → Fn F body f → (Active F s f → ⊥) → R f ≡ 0) → Before s W′ R′
+    one-more sum top own others idle = (
+      W,
+      put R h ((1 + d) + R h),
+      record {
+        active = λ f q b. act f q b (ℕ-discrete f h);
+        rest = λ f q b. put-other R h ((1 + d) + R h) f (λ e. b (subst (Active F s) (sym e) a)) ∙ idle f q b;
+      },
+      omega (arith, sum-put F R h ((1 + d) + R h) (r .0) (r .1)),
+      top,
+    )
+      where
+        act : (f : ℕ) → Fn F body f → Active F s f → Dec (f ≡ h)
+            → Rest apply body K s W f (W (s .occupant f)) (put R h ((1 + d) + R h) f)
+        act f q b (yes e) = subst (λ y. Rest apply body K s W y (W (s .occupant y)) (put R h ((1 + d) + R h) y)) (sym e)
+            (subst (Rest apply body K s W h (W (s .occupant h))) (sym (put-same R h ((1 + d) + R h))) own)
+        act f q b (no e) = subst (Rest apply body K s W f (W (s .occupant f))) (sym (put-other R h ((1 + d) + R h) f e)) (others f q b e)

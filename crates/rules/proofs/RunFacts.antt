@@ -8,7 +8,7 @@ use lib.ListN.{length, take, length-append}
 use Rattle.table.specs.Bytes.{functions, nodes}
 use Rattle.table.specs.Check.{accepted}
 use Rattle.rules.specs.State.{State512}
-use Rattle.rules.specs.Step.{Reply, taken, answered, refused, refusal}
+use Rattle.rules.specs.Step.{Reply, taken, answered, denied, refusal}
 use Rattle.rules.specs.Play.{asks, noted, played}
 use Rattle.rules.specs.Circuit.{started, startOf, stepOf, playsOf, playOf, Possible}
 use Rattle.rules.specs.Reading.{ReadsTo}
@@ -51,14 +51,14 @@ module _ (t tags : List ℕ) where
 
       on : (a : Reply) → stepOf t tags s n .answer ≡ a → ((l : List ℕ) → noted a n l ≡ n ∷ l) → RunPlays t tags s₁ ns (runFrom t tags s₁ ns)
           → RunPlays t tags s (n ∷ ns)
-          (record { taken = suc (runFrom t tags s₁ ns .taken); halt = runFrom t tags s₁ ns .halt; state = runFrom t tags s₁ ns .state })
+          (record { steps = suc (runFrom t tags s₁ ns .steps); halt = runFrom t tags s₁ ns .halt; state = runFrom t tags s₁ ns .state })
       on a e f r = record {
-        steps = play-more s n (take (runFrom t tags s₁ ns .taken) ns)
-            ∙ ap (λ x. noted x n (playOf t tags s₁ (take (runFrom t tags s₁ ns .taken) ns) .nodes)) e
-            ∙ f (playOf t tags s₁ (take (runFrom t tags s₁ ns .taken) ns) .nodes)
+        steps = play-more s n (take (runFrom t tags s₁ ns .steps) ns)
+            ∙ ap (λ x. noted x n (playOf t tags s₁ (take (runFrom t tags s₁ ns .steps) ns) .nodes)) e
+            ∙ f (playOf t tags s₁ (take (runFrom t tags s₁ ns .steps) ns) .nodes)
             ∙ ap (λ l. n ∷ l) (r .steps);
         number = ap suc (r .number);
-        state = play-on s n (take (runFrom t tags s₁ ns .taken) ns) ∙ r .state;
+        state = play-on s n (take (runFrom t tags s₁ ns .steps) ns) ∙ r .state;
         all = λ h. ap suc (r .all h);
         next = λ k p h. (omega (arith, r .next k p h .0), r .next k p h .1);
       }
@@ -67,7 +67,7 @@ module _ (t tags : List ℕ) where
           → RunPlays t tags s (n ∷ ns) (andThen (stepOf t tags s n) a (runFrom t tags s₁ ns))
       go taken e r = on taken e (λ l. refl) r
       go (answered v) e r = on (answered v) e (λ l. refl) r
-      go (refused k p) e r = record {
+      go (denied k p) e r = record {
         steps = from-nothing s [] .0;
         number = refl;
         state = from-nothing s [] .1 ∙ sym (ap (λ x. x .state) (refused-unchanged t tags s n k p e));
@@ -131,7 +131,7 @@ module _ (t tags args : List ℕ) (s : State512) (start : startOf t tags args �
   pub run-demand : (ns ms : List ℕ) → RunDemand t tags s ns ms (runOf t tags (playOf t tags s ns .state) ms)
   run-demand ns ms =
       let p = start-run ns ms in
-      let k : ℕ = runOf t tags (playOf t tags s ns .state) ms .taken in
+      let k : ℕ = runOf t tags (playOf t tags s ns .state) ms .steps in
       record {
         state = sym (play-state t tags s ns (take k ms) ∙ p .state);
         steps = play-nodes t tags s ns (take k ms) ∙ ap (λ l. playOf t tags s ns .nodes ++ l) (p .steps);
@@ -159,15 +159,15 @@ module _ (t tags args : List ℕ) (s : State512) (start : startOf t tags args �
     taken-all : playOf t tags s all .nodes ≡ playOf t tags s ns .nodes ++ picks .picked
     taken-all = play-nodes t tags s ns (picks .picked) ∙ ap (λ l. playOf t tags s ns .nodes ++ l) (picks .possible)
 
-    number-all : length (playOf t tags s all .nodes) ≡ length (playOf t tags s ns .nodes) + r .taken
+    number-all : length (playOf t tags s all .nodes) ≡ length (playOf t tags s ns .nodes) + r .steps
     number-all = ap length taken-all ∙ length-append (playOf t tags s ns .nodes) (picks .picked)
         ∙ ap (λ k. length (playOf t tags s ns .nodes) + k) (picks .number)
 
-    by-end : (e : Ended) → r .ended ≡ e → Says t tags budget (r .taken) (r .state) e
-    by-end e q = subst (Says t tags budget (r .taken) (r .state)) q (picks .says)
+    by-end : (e : Ended) → r .ended ≡ e → Says t tags budget (r .steps) (r .state) e
+    by-end e q = subst (Says t tags budget (r .steps) (r .state)) q (picks .says)
 
     -- main's root done at the end is an answer of the whole list
-    reads : (v : ℕ) → MainDone t (r .state) → mainValue t (r .state) ≡ v → ReadsTo t args v (length (playOf t tags s ns .nodes) + r .taken)
+    reads : (v : ℕ) → MainDone t (r .state) → mainValue t (r .state) ≡ v → ReadsTo t args v (length (playOf t tags s ns .nodes) + r .steps)
     reads v d e =
         let m = subst (λ x. MainDone t x) (sym ends ∙ sym (ap (λ l. l .state) (same-play all))) d in
         let a = plays all .done-answered m in

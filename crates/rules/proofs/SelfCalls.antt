@@ -1,13 +1,14 @@
 -- a self call whose arguments are done: it and the ifs and lets above it are all that is under way, and one step is left
-use Prim.Native.Nat.{ℕ, zero, suc}
+use Prim.Native.Nat.{ℕ}
 use mathlib.Core.Path.{_≡_, refl, subst, sym}
-use mathlib.Core.Logic.{_⊎_, inl, inr, ⊎-elim}
+use mathlib.Core.Logic.{inl, inr, ⊎-elim}
 use mathlib.Core.List.{List}
 use native.Mathlib.Omega.{arith}
-use Rattle.table.specs.Syntax.{Expr, Exprs, const, param, prim, call, self, cond, bind, bound, none, some, id, Every, Sub, Sub*}
+use Rattle.table.specs.Syntax.{Expr, Exprs, const, param, prim, call, self, cond, bind, bound, none, some, id, Sub, Sub*}
 use Rattle.rules.specs.State.{View}
-use Rattle.rules.proofs.Shape.{Still, Idle, Live, Opened}
-use Rattle.rules.specs.Reading.{Chosen, again, Readings}
+use Rattle.rules.proofs.Shape.{Still, Live, Opened, busy-moves}
+use Rattle.rules.specs.Reading.{again, Readings}
+use Rattle.rules.proofs.Branches.{chosen-case, chosen-map}
 use Rattle.rules.proofs.Within.{idle-not, done-not}
 use Rattle.table.specs.Environment.{extend, values}
 use Rattle.rules.proofs.Left.{Left}
@@ -43,7 +44,7 @@ module _ (n : ℕ) (es : Exprs) where
 
 module _ (s : View) (n : ℕ) (es : Exprs) (at : s .status n ≡ 2) (ready : Finished* s es) where
   moves : Still s n → ⊥
-  moves h = ⊎-elim (λ z. omega arith) (λ z. omega arith) (h .0)
+  moves = busy-moves s n at
 
   abbrev U : Expr
   U = self n es
@@ -74,24 +75,16 @@ module _ (s : View) (n : ℕ) (es : Exprs) (at : s .status n ≡ 2) (ready : Fin
     self-alone (cond m x y z) t (inr (inl p)) l k = no-self n es x (t .0) p
     self-alone (cond m x y z) t (inr (inr (inl p))) (inl l) k = idle-not s U moves y (l .2) p
     self-alone (cond m x y z) t (inr (inr (inl p))) (inr (inl l)) k = idle-not s U moves y (l .2) p
-    self-alone (cond m x y z) t (inr (inr (inl p))) (inr (inr l)) k = go (λ l′ k′. self-alone y (t .1) p l′ k′) (s .value (id x)) (l .2) k
-      where
-        go : (Live s y → CallIn c f y → ⊥) → (v : ℕ) → Chosen (Opened s y × Every (Idle s) z) (Opened s z × Every (Idle s) y) v
-            → CallIn c f x ⊎ CallIn c f y ⊎ CallIn c f z → ⊥
-        go g v o (inl k) = still-busy s c busy x (l .1 .1) (call-node c f x k)
-        go g zero o (inr k) = idle-not s U moves y (o .1) p
-        go g (suc v) o (inr (inl k)) = alone-opened y g p (o .0) k
-        go g (suc v) o (inr (inr k)) = idle-busy s c busy z (o .1) (call-node c f z k)
+    self-alone (cond m x y z) t (inr (inr (inl p))) (inr (inr l)) (inl k) = still-busy s c busy x (l .1 .1) (call-node c f x k)
+    self-alone (cond m x y z) t (inr (inr (inl p))) (inr (inr l)) (inr k) =
+        chosen-case (λ o. ⊎-elim (λ i. alone-opened y (λ l′ k′. self-alone y (t .1) p l′ k′) p (o .0) i)
+        (λ i. idle-busy s c busy z (o .1) (call-node c f z i)) k) (λ o. idle-not s U moves y (o .1) p) (s .value (id x)) (l .2)
     self-alone (cond m x y z) t (inr (inr (inr p))) (inl l) k = idle-not s U moves z (l .3) p
     self-alone (cond m x y z) t (inr (inr (inr p))) (inr (inl l)) k = idle-not s U moves z (l .3) p
-    self-alone (cond m x y z) t (inr (inr (inr p))) (inr (inr l)) k = go (λ l′ k′. self-alone z (t .2) p l′ k′) (s .value (id x)) (l .2) k
-      where
-        go : (Live s z → CallIn c f z → ⊥) → (v : ℕ) → Chosen (Opened s y × Every (Idle s) z) (Opened s z × Every (Idle s) y) v
-            → CallIn c f x ⊎ CallIn c f y ⊎ CallIn c f z → ⊥
-        go g v o (inl k) = still-busy s c busy x (l .1 .1) (call-node c f x k)
-        go g (suc v) o (inr k) = idle-not s U moves z (o .1) p
-        go g zero o (inr (inl k)) = idle-busy s c busy y (o .1) (call-node c f y k)
-        go g zero o (inr (inr k)) = alone-opened z g p (o .0) k
+    self-alone (cond m x y z) t (inr (inr (inr p))) (inr (inr l)) (inl k) = still-busy s c busy x (l .1 .1) (call-node c f x k)
+    self-alone (cond m x y z) t (inr (inr (inr p))) (inr (inr l)) (inr k) =
+        chosen-case (λ o. idle-not s U moves z (o .1) p) (λ o. ⊎-elim (λ i. idle-busy s c busy y (o .1) (call-node c f y i))
+        (λ i. alone-opened z (λ l′ k′. self-alone z (t .2) p l′ k′) p (o .0) i) k) (s .value (id x)) (l .2)
     self-alone (bind m ds b) t (inl p) l k = own (bind m ds b) p l k
     self-alone (bind m ds b) t (inr (inl p)) l k = no-self* n es ds (t .0) p
     self-alone (bind m ds b) t (inr (inr p)) (inl l) k = idle-not s U moves b (l .2) p
@@ -126,21 +119,33 @@ module _ (s : View) (n : ℕ) (es : Exprs) (at : s .status n ≡ 2) (ready : Fin
     self-left (cond m x y z) t (inr (inr (inl p))) (inl l) ρ = absurd (idle-not s U moves y (l .2) p)
     self-left (cond m x y z) t (inr (inr (inl p))) (inr (inl l)) ρ = absurd (idle-not s U moves y (l .2) p)
     self-left (cond m x y z) t (inr (inr (inl p))) (inr (inr l)) ρ =
-        inr (inr (l .0 .0, inr (l .0 .1, (1, go (λ l′. self-left y (t .1) p l′ ρ) (s .value (id x)) (l .2), refl))))
-      where
-        go : (Live s y → One y ρ) → (v : ℕ) → Chosen (Opened s y × Every (Idle s) z) (Opened s z × Every (Idle s) y) v
-            → Chosen (One y ρ) (One z ρ) v
-        go g zero o = absurd (idle-not s U moves y (o .1) p)
-        go g (suc v) o = left-opened y ρ g p (o .0)
+        inr (inr (
+          l .0 .0,
+          inr (
+            l .0 .1,
+            (
+              1,
+              chosen-map (λ o. left-opened y ρ (λ l′. self-left y (t .1) p l′ ρ) p (o .0))
+                  (λ o. absurd (idle-not s U moves y (o .1) p)) (s .value (id x)) (s .value (id x)) refl (l .2),
+              refl,
+            ),
+          ),
+        ))
     self-left (cond m x y z) t (inr (inr (inr p))) (inl l) ρ = absurd (idle-not s U moves z (l .3) p)
     self-left (cond m x y z) t (inr (inr (inr p))) (inr (inl l)) ρ = absurd (idle-not s U moves z (l .3) p)
     self-left (cond m x y z) t (inr (inr (inr p))) (inr (inr l)) ρ =
-        inr (inr (l .0 .0, inr (l .0 .1, (1, go (λ l′. self-left z (t .2) p l′ ρ) (s .value (id x)) (l .2), refl))))
-      where
-        go : (Live s z → One z ρ) → (v : ℕ) → Chosen (Opened s y × Every (Idle s) z) (Opened s z × Every (Idle s) y) v
-            → Chosen (One y ρ) (One z ρ) v
-        go g zero o = left-opened z ρ g p (o .0)
-        go g (suc v) o = absurd (idle-not s U moves z (o .1) p)
+        inr (inr (
+          l .0 .0,
+          inr (
+            l .0 .1,
+            (
+              1,
+              chosen-map (λ o. absurd (idle-not s U moves z (o .1) p))
+                  (λ o. left-opened z ρ (λ l′. self-left z (t .2) p l′ ρ) p (o .0)) (s .value (id x)) (s .value (id x)) refl (l .2),
+              refl,
+            ),
+          ),
+        ))
     self-left (bind m ds b) t (inl p) l ρ = mine (bind m ds b) p ρ
     self-left (bind m ds b) t (inr (inl p)) l ρ = absurd (no-self* n es ds (t .0) p)
     self-left (bind m ds b) t (inr (inr p)) (inl l) ρ = absurd (idle-not s U moves b (l .2) p)

@@ -2,7 +2,8 @@
 use Prim.Native.Nat.{ℕ}
 use mathlib.Core.Bool.{Bool, true, false}
 use mathlib.Core.Path.{_≡_}
-use mathlib.Core.Logic.{_⊎_}
+use mathlib.Core.Logic.{_⊎_, ⊎-elim}
+use native.Mathlib.Omega.{arith}
 use Rattle.table.specs.Syntax.{Expr, Exprs, const, param, prim, call, self, cond, bind, bound, none, some, id, Every, Every*}
 use Rattle.rules.specs.State.{View}
 use Rattle.rules.specs.Reading.{Chosen}
@@ -56,3 +57,10 @@ module _ (s : View) where
 
 abbrev pub Opened : View → Expr → Type 0
 Opened s e = Live s e ⊎ Done s e
+
+-- a node that is open or busy isn't still
+pub open-moves : (s : View) (n : ℕ) → s .status n ≡ 1 → Still s n → ⊥
+open-moves s n e h = ⊎-elim (λ z. omega (arith, e, z)) (λ z. omega (arith, e, z)) (h .0)
+
+pub busy-moves : (s : View) (n : ℕ) → s .status n ≡ 2 → Still s n → ⊥
+busy-moves s n e h = ⊎-elim (λ z. omega (arith, e, z)) (λ z. omega (arith, e, z)) (h .0)

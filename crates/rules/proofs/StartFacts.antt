@@ -10,12 +10,11 @@ use lib.ListN.{length, getD, length-replicate}
 use Rattle.table.specs.Syntax.{Expr, id, Node}
 use Rattle.rules.proofs.Shape.{Still, Idle}
 use Rattle.table.proofs.SyntaxLaws.{node-id}
-use Rattle.rules.proofs.Invariant.{Fn}
-use Rattle.rules.proofs.Answers.{Started}
+use Rattle.rules.proofs.Answers.{AtStart}
 use Rattle.rules.proofs.StateLaws.{length-write, length-fill, entry-same, entry-other, fill-mine}
 use Rattle.rules.specs.State.{Sized, entry, view, blank, circuitStart}
-use Rattle.table.specs.Well.{Laid}
-use Rattle.rules.proofs.LaidFacts.{every-all, under-all}
+use Rattle.table.specs.Well.{Fn, Laid}
+use Rattle.rules.proofs.LaidFacts.{every-all, under-all, fn-main}
 
 length-blank : {A : Type 0} (k : ℕ) (a : A) → length (blank k a) ≡ k
 unfolding blank
@@ -29,7 +28,7 @@ entry-blank (suc k) a zero = refl
 entry-blank (suc k) a (suc zero) = refl
 entry-blank (suc k) a (suc (suc n)) = entry-blank k a (suc n)
 
-module _ (apply : ℕ → List ℕ → ℕ) {F N : ℕ} {body at : ℕ → Expr} {home : ℕ → ℕ} (laid : Laid F N body at home) (args : List ℕ) where
+module _ (F : ℕ) (body : ℕ → Expr) (args : List ℕ) where
   pub start-sized : Sized (circuitStart F body args)
   unfolding circuitStart
   start-sized = record {
@@ -40,11 +39,9 @@ module _ (apply : ℕ → List ℕ → ℕ) {F N : ℕ} {body at : ℕ → Expr}
     occupied = length-blank 32 0;
   }
 
-  fn-main : Fn apply F body F
-  fn-main = (laid .some-function, omega arith)
-
+module _ {F N : ℕ} {body at : ℕ → Expr} {home : ℕ → ℕ} (laid : Laid F N body at home) (args : List ℕ) where
   root : (home (id (body F)) ≡ F) × (1 ≤ id (body F)) × (id (body F) ≤ N)
-  root = laid .inside F (id (body F)) (fn-main .0) (fn-main .1) (node-id (body F))
+  root = laid .inside F (id (body F)) (fn-main laid) (node-id (body F))
 
   pub open-root : view (circuitStart F body args) .status (id (body F)) ≡ 1
   unfolding circuitStart
@@ -74,11 +71,11 @@ module _ (apply : ℕ → List ℕ → ℕ) {F N : ℕ} {body at : ℕ → Expr}
   unfolding circuitStart
   given h i = fill-mine F args (blank 256 0) i (laid .some-function) (laid .functions) (length-blank 256 0) h
 
-  pub start-started : length args ≤ 8 → Started apply F body (laid .well) (view (circuitStart F body args)) args
+  pub start-started : length args ≤ 8 → AtStart F body (view (circuitStart F body args)) args
   start-started h = record {
     main = (
       (open-root, no-second (id (body F))),
-      under-all (Idle (view (circuitStart F body args))) (body F) (laid .well .apart F (laid .some-function) (omega arith))
+      under-all (Idle (view (circuitStart F body args))) (body F) (laid .well .apart F (fn-main laid))
           (λ m k d. others-idle m d),
     );
     others = λ f q d. every-all (Still (view (circuitStart F body args))) (body f)
@@ -87,6 +84,6 @@ module _ (apply : ℕ → List ℕ → ℕ) {F N : ℕ} {body at : ℕ → Expr}
     arguments = given h;
   }
     where
-      elsewhere : (f : ℕ) → Fn apply F body f → (f ≡ F → ⊥) → (m : ℕ) → Node m (body f) → m ≡ id (body F) → ⊥
-      elsewhere f q d m k e = d (laid .well .owner f F m (q .0) (q .1) (fn-main .0) (fn-main .1) k
+      elsewhere : (f : ℕ) → Fn F body f → (f ≡ F → ⊥) → (m : ℕ) → Node m (body f) → m ≡ id (body F) → ⊥
+      elsewhere f q d m k e = d (laid .well .owner f F m q (fn-main laid) k
           (subst (λ x. Node x (body F)) (sym e) (node-id (body F))))

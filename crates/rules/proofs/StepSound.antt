@@ -1,28 +1,28 @@
 -- a move of the circuit on lists is a step of the abstract circuit
-use Prim.Native.Nat.{ℕ, zero, suc, _≤_, _<_}
+use Prim.Native.Nat.{ℕ, zero, suc, _≤_}
 use mathlib.Core.Bool.{true}
 use mathlib.Core.Path.{_≡_, refl, subst, sym, _∙_}
-use mathlib.Core.Logic.{_⊎_, inl, inr, ⊎-elim}
+use mathlib.Core.Logic.{inl, inr, ⊎-elim}
 use mathlib.Core.List.{List, [], _∷_}
-use native.Mathlib.Omega.{arith}
 use lib.Dec.{eqb}
 use borrow.Author.Tests.{eqb-true}
 use Rattle.table.specs.Syntax.{Expr, Exprs, const, param, prim, call, self, cond, bind, bound, id, Node, Node*, Sub, roots}
 use Rattle.rules.specs.State.{View, In}
 use Rattle.table.specs.Environment.{values}
-use Rattle.rules.proofs.Shape.{Still, Idle, Open, Live}
+use Rattle.rules.proofs.Shape.{Idle, Open, open-moves}
 use Rattle.rules.specs.Reading.{Chosen}
-use Rattle.table.specs.Well.{Apart, Apart*, Laid}
+use Rattle.table.specs.Well.{Fn, Apart, Apart*, Laid}
 use Rattle.rules.proofs.Frame.{Same}
 use Rattle.table.proofs.SyntaxLaws.{node-id, apart-sub}
 use Rattle.rules.proofs.Moves.{Becomes, Opens, Opens*, Keeps, Keeps*, Inner}
 use Rattle.table.proofs.CallPlaces.{sub-call}
-use Rattle.rules.proofs.Places.{sub-live}
-use Rattle.rules.proofs.Invariant.{Fn, New, Sound, Step, inner, enter, leave, again, stepping}
+use Rattle.rules.proofs.Invariant.{New, Sound, Step, inner, enter, leave, again}
+use Rattle.rules.proofs.Acting.{stepping-live}
 use Rattle.rules.specs.Step.{stuck, does, finishes, enters, done, all-done, branch, act}
 use Rattle.rules.proofs.Performed.{Begins, Turns, Finishes, Resets, Owns, Does, Acted}
 use Rattle.rules.proofs.ActCases.{by-pick, by-state, live-open}
-use Rattle.rules.proofs.LaidFacts.{every-all, every-all*, under-all, root-node, opens-all, opens-all*, all-done-finished, own-node}
+use Rattle.rules.proofs.LaidFacts.{every-all, every-all*, under-all, root-node, opens-all, opens-all*, all-done-finished}
+use Rattle.rules.proofs.LaidFacts.{own-node, callee-fn}
 
 module _ (apply : ℕ → List ℕ → ℕ) (F : ℕ) (body : ℕ → Expr) where
   -- the node of a step
@@ -36,21 +36,12 @@ module _ (apply : ℕ → List ℕ → ℕ) (F : ℕ) (body : ℕ → Expr) wher
   StepAt s s′ n = (st : Step apply F body s s′) × (stepped st ≡ n)
 
 module _ (apply : ℕ → List ℕ → ℕ) {F N : ℕ} {body at : ℕ → Expr} {home : ℕ → ℕ} (laid : Laid F N body at home) where
-  module _ (s s′ : View) (sound : Sound apply F body s) (h : ℕ) (r : Fn apply F body h) where
-    still-not : (n t : ℕ) → s .status n ≡ t → (t ≡ 1) ⊎ (t ≡ 2) → Still s n → ⊥
-    still-not n t e k h = ⊎-elim (λ a. ⊎-elim (λ b. omega (arith, a, b, e)) (λ b. omega (arith, a, b, e)) (h .0))
-        (λ a. ⊎-elim (λ b. omega (arith, a, b, e)) (λ b. omega (arith, a, b, e)) (h .0)) k
-
-    live : (u : Expr) → Sub u (body h) → (t : ℕ) → s .status (id u) ≡ t → (t ≡ 1) ⊎ (t ≡ 2) → Live s u
-    live u p t e k =
-        let m = still-not (id u) t e k in
-        sub-live s u m (body h) p (stepping apply F body (laid .well) s s sound h r u p m .1)
-
+  module _ (s s′ : View) (sound : Sound F body s) (h : ℕ) (r : Fn F body h) where
     open-at : (u : Expr) → Sub u (body h) → s .status (id u) ≡ 1 → Open s (id u)
-    open-at u p e = live-open s u (live u p 1 e (inl refl)) e
+    open-at u p e = live-open s u (stepping-live sound h r u p (open-moves s (id u) e)) e
 
     apart : (u : Expr) → Sub u (body h) → Apart u
-    apart u p = apart-sub u (body h) (laid .well .apart h (r .0) (r .1)) p
+    apart u p = apart-sub u (body h) (laid .well .apart h r) p
 
     -- a step inside the body that finishes the node
     ends : (u : Expr) → Sub u (body h) → (v : ℕ) → Does N home body s s′ (id u) (finishes v) → Inner apply (s .register h) s s′ u
@@ -94,18 +85,18 @@ module _ (apply : ℕ → List ℕ → ℕ) {F N : ℕ} {body at : ℕ → Expr}
       refl,
     )
 
-    becomes : (n v : ℕ) → Finishes s s′ n v → Becomes apply (s .register h) s s′ n v
+    becomes : (n v : ℕ) → Finishes s s′ n v → Becomes s s′ n v
     becomes n v d = (d .status, d .second, d .value)
 
     -- the chain below a node that becomes busy
-    begun : (n : ℕ) (es : Exprs) → (Node* n es → ⊥) → Apart* es → Begins s s′ n (roots es) → Opens* apply (s .register h) s s′ es
-    begun n es a b d = opens-all* apply (s .register h) s s′ es b (λ m i. (d .opens m i, d .seconds m))
+    begun : (n : ℕ) (es : Exprs) → (Node* n es → ⊥) → Apart* es → Begins s s′ n (roots es) → Opens* s s′ es
+    begun n es a b d = opens-all* s s′ es b (λ m i. (d .opens m i, d .seconds m))
         (λ m k i. (d .others m (λ e. a (subst (λ x. Node* x es) e k)) i, d .seconds m, d .valued m))
 
-    kept* : (n v : ℕ) (es : Exprs) → (Node* n es → ⊥) → Finishes s s′ n v → Keeps* apply (s .register h) s s′ es
+    kept* : (n v : ℕ) (es : Exprs) → (Node* n es → ⊥) → Finishes s s′ n v → Keeps* s s′ es
     kept* n v es a d = every-all* (Same s s′) es (λ m k. d .others m (λ e. a (subst (λ x. Node* x es) e k)))
 
-    kept : (n v : ℕ) (e : Expr) → (Node n e → ⊥) → Finishes s s′ n v → Keeps apply (s .register h) s s′ e
+    kept : (n v : ℕ) (e : Expr) → (Node n e → ⊥) → Finishes s s′ n v → Keeps s s′ e
     kept n v e a d = every-all (Same s s′) e (λ m k. d .others m (λ p. a (subst (λ x. Node x e) p k)))
 
     const-step : (n v : ℕ) → Sub (const n v) (body h) → Acted N home body s s′ n (act apply body h s (const n v))
@@ -143,11 +134,11 @@ module _ (apply : ℕ → List ℕ → ℕ) {F N : ℕ} {body at : ℕ → Expr}
         v = apply op (values (s .value) es)
 
     -- one expression below a node that becomes busy, or in its second phase
-    begun₁ : (n : ℕ) (e : Expr) → (Node n e → ⊥) → Apart e → Begins s s′ n (id e ∷ []) → Opens apply (s .register h) s s′ e
-    begun₁ n e a b d = opens-all apply (s .register h) s s′ e b (d .opens (id e) (inl refl), d .seconds (id e))
+    begun₁ : (n : ℕ) (e : Expr) → (Node n e → ⊥) → Apart e → Begins s s′ n (id e ∷ []) → Opens s s′ e
+    begun₁ n e a b d = opens-all s s′ e b (d .opens (id e) (inl refl), d .seconds (id e))
         (λ m k i. (d .others m (λ p. a (subst (λ x. Node x e) p k)) (⊎-elim i (λ z. z)), d .seconds m, d .valued m))
 
-    begun-kept : (n q : ℕ) (e : Expr) → (Node n e → ⊥) → (Node q e → ⊥) → Begins s s′ n (q ∷ []) → Keeps apply (s .register h) s s′ e
+    begun-kept : (n q : ℕ) (e : Expr) → (Node n e → ⊥) → (Node q e → ⊥) → Begins s s′ n (q ∷ []) → Keeps s s′ e
     begun-kept n q e a b d = every-all (Same s s′) e
         (λ m k. (
           d .others m (λ p. a (subst (λ x. Node x e) p k)) (⊎-elim (λ p. b (subst (λ x. Node x e) p k)) (λ z. z)),
@@ -155,14 +146,14 @@ module _ (apply : ℕ → List ℕ → ℕ) {F N : ℕ} {body at : ℕ → Expr}
           d .valued m,
         ))
 
-    turned : (n : ℕ) (e : Expr) → (Node n e → ⊥) → Apart e → Turns s s′ n (id e) → Opens apply (s .register h) s s′ e
-    turned n e a b d = opens-all apply (s .register h) s s′ e b (d .opens, d .seconds (id e) (λ p. a (subst (λ x. Node x e) p (node-id e))))
+    turned : (n : ℕ) (e : Expr) → (Node n e → ⊥) → Apart e → Turns s s′ n (id e) → Opens s s′ e
+    turned n e a b d = opens-all s s′ e b (d .opens, d .seconds (id e) (λ p. a (subst (λ x. Node x e) p (node-id e))))
         (λ m k i. (d .others m i, d .seconds m (λ p. a (subst (λ x. Node x e) p k)), d .valued m))
 
     turned-same : (n q m : ℕ) → Turns s s′ n q → (m ≡ n → ⊥) → (m ≡ q → ⊥) → Same s s′ m
     turned-same n q m d a b = (d .others m b, d .seconds m a, d .valued m)
 
-    turned-kept : (n q : ℕ) (e : Expr) → (Node n e → ⊥) → (Node q e → ⊥) → Turns s s′ n q → Keeps apply (s .register h) s s′ e
+    turned-kept : (n q : ℕ) (e : Expr) → (Node n e → ⊥) → (Node q e → ⊥) → Turns s s′ n q → Keeps s s′ e
     turned-kept n q e a b d = every-all (Same s s′) e (λ m k. turned-same n q m d (λ p. a (subst (λ x. Node x e) p k))
         (λ p. b (subst (λ x. Node x e) p k)))
 
@@ -220,18 +211,18 @@ module _ (apply : ℕ → List ℕ → ℕ) {F N : ℕ} {body at : ℕ → Expr}
         apart-root (suc v) e = x .1 (subst (λ y. Node y b) (sym e) (node-id b))
 
         over : (v : ℕ) → done s (id (branch v b c)) ≡ true → Finishes s s′ n (s .value (id (branch v b c)))
-            → Chosen ((s .status (id b) ≡ 3) × Becomes apply (s .register h) s s′ n (s .value (id b)))
-            ((s .status (id c) ≡ 3) × Becomes apply (s .register h) s s′ n (s .value (id c))) v
+            → Chosen ((s .status (id b) ≡ 3) × Becomes s s′ n (s .value (id b)))
+            ((s .status (id c) ≡ 3) × Becomes s s′ n (s .value (id c))) v
         over zero f d = (eqb-true (s .status (id c)) 3 f, becomes n (s .value (id c)) d)
         over (suc v) f d = (eqb-true (s .status (id b)) 3 f, becomes n (s .value (id b)) d)
 
-        below : (v : ℕ) → Turns s s′ n (id (branch v b c)) → Keeps apply (s .register h) s s′ a
+        below : (v : ℕ) → Turns s s′ n (id (branch v b c)) → Keeps s s′ a
         below zero d = turned-kept n (id c) a (x .0) (λ k. x .7 (id c) k (node-id c)) d
         below (suc v) d = turned-kept n (id b) a (x .0) (λ k. x .6 (id b) k (node-id b)) d
 
         taken : (v : ℕ) → Turns s s′ n (id (branch v b c))
-            → Chosen (Opens apply (s .register h) s s′ b × Keeps apply (s .register h) s s′ c)
-            (Opens apply (s .register h) s s′ c × Keeps apply (s .register h) s s′ b) v
+            → Chosen (Opens s s′ b × Keeps s s′ c)
+            (Opens s s′ c × Keeps s s′ b) v
         taken zero d = (turned n c (x .2) (x .5) d, turned-kept n (id c) b (x .1) (λ k. x .8 (id c) k (node-id c)) d)
         taken (suc v) d = (turned n b (x .1) (x .4) d, turned-kept n (id b) c (x .2) (x .8 (id b) (node-id b)) d)
 
@@ -282,12 +273,12 @@ module _ (apply : ℕ → List ℕ → ℕ) {F N : ℕ} {body at : ℕ → Expr}
         x = apart (bind n ds b) p
 
     -- a body after its reset is new
-    renewed : (g : ℕ) → Fn apply F body g → (but : ℕ → Type 0) (vs : List ℕ) → Resets s s′ (Owns N home g) but (id (body g)) g vs
-        → New apply F body s′ g
+    renewed : (g : ℕ) → Fn F body g → (but : ℕ → Type 0) (vs : List ℕ) → Resets s s′ (Owns N home g) but (id (body g)) g vs
+        → New body s′ g
     renewed g q but vs d = (
       d .root,
-      under-all (Idle s′) (body g) (laid .well .apart g (q .0) (q .1))
-          (λ m k e. d .idle m (own m (laid .inside g m (q .0) (q .1) k)) e),
+      under-all (Idle s′) (body g) (laid .well .apart g q)
+          (λ m k e. d .idle m (own m (laid .inside g m q k)) e),
     )
       where
         own : (m : ℕ) → (home m ≡ g) × (1 ≤ m) × (m ≤ N) → Owns N home g m
@@ -325,7 +316,7 @@ module _ (apply : ℕ → List ℕ → ℕ) {F N : ℕ} {body at : ℕ → Expr}
             free = eqb-true (s .occupant g) 0 z;
             enters = (d .status ∙ t, d .second);
             new = renewed g fn-g (λ m. m ≡ n) (values (s .value) es) (d .new);
-            keeps = λ m e k. d .new .others m e (λ o. k (own-node laid g m (o .0) (o .1) (o .2)));
+            keeps = λ m e k. d .new .others m e (λ o. k (own-node laid g m (o .0, o .1) (o .2)));
             occupies = d .occupies;
             arguments = d .new .registers;
             keepsFn = d .new .functions;
@@ -339,11 +330,8 @@ module _ (apply : ℕ → List ℕ → ℕ) {F N : ℕ} {body at : ℕ → Expr}
         x : Apart (call n g es)
         x = apart (call n g es) p
 
-        g<h : (1 ≤ g) × (g < h)
-        g<h = laid .well .below h n g (r .0) (r .1) (sub-call n g es (body h) p)
-
-        fn-g : Fn apply F body g
-        fn-g = (g<h .0, omega (arith, g<h .1, r .1))
+        fn-g : Fn F body g
+        fn-g = callee-fn (laid .well) h n g r (sub-call n g es (body h) p)
 
     self-step : (n : ℕ) (es : Exprs) → Sub (self n es) (body h) → Acted N home body s s′ n (act apply body h s (self n es))
         → StepAt apply F body s s′ n
@@ -357,7 +345,7 @@ module _ (apply : ℕ → List ℕ → ℕ) {F N : ℕ} {body at : ℕ → Expr}
             waits = t;
             ready = all-done-finished s es f;
             new = renewed h r (λ m. ⊥) (values (s .value) es) (d .0);
-            keeps = λ m k. d .0 .others m (λ z. z) (λ o. k (own-node laid h m (o .0) (o .1) (o .2)));
+            keeps = λ m k. d .0 .others m (λ z. z) (λ o. k (own-node laid h m (o .0, o .1) (o .2)));
             arguments = d .0 .registers;
             occupants = d .1;
             keepsFn = d .0 .functions;

@@ -1,14 +1,14 @@
--- when a step is taken, when it is refused, and that a step taken is one of the abstract circuit
-use Prim.Native.Nat.{ℕ, zero, suc, _≤_, _<_}
+-- what a node's act tells of it: its move is fair, a node that is able moves, and one that is blocked waits
+use Prim.Native.Nat.{ℕ, zero, suc}
 use mathlib.Core.Bool.{Bool, true, false}
 use mathlib.Core.Path.{_≡_, refl, subst, sym}
 use mathlib.Core.Logic.{inl, inr, ⊎-elim}
 use mathlib.Core.List.{List}
 use native.Mathlib.Omega.{arith}
-use lib.Dec.{eqb, ltb}
-use borrow.Author.Tests.{eqb-true, eq-eqb, eqb-false, ltb-true, ltb-false}
+use lib.Dec.{eqb}
+use borrow.Author.Tests.{eq-eqb, eqb-false}
 use Rattle.table.specs.Syntax.{Expr, Exprs, const, param, prim, call, self, cond, bind, bound, id, Node, Sub}
-use Rattle.rules.specs.State.{View, State512, view}
+use Rattle.rules.specs.State.{View}
 use Rattle.table.specs.Environment.{values}
 use Rattle.rules.proofs.Shape.{Busy}
 use Rattle.rules.specs.Reading.{Chosen}
@@ -16,13 +16,11 @@ use Rattle.table.proofs.SyntaxLaws.{node-id, apart-sub, sub-node}
 use Rattle.rules.proofs.Moves.{Finished*}
 use Rattle.table.proofs.CallPlaces.{sub-call}
 use Rattle.table.specs.Pick.{pick, Range}
-use Rattle.rules.proofs.Invariant.{Fn}
 use Rattle.rules.proofs.Progress.{Able}
 use Rattle.rules.specs.Step.{Act, stuck, blocked, does, Move, turns, finishes, restarts, done, all-done, branch, by-status, act}
-use Rattle.rules.specs.Step.{refused, Stepped, told, outcome, over, perform, circuitStep}
 use Rattle.rules.proofs.Performed.{Owns, FairAct}
-use Rattle.table.specs.Well.{Laid}
-use Rattle.rules.proofs.LaidFacts.{length-values, root-node, all-done-finished, finished-all-done}
+use Rattle.table.specs.Well.{Fn, Laid}
+use Rattle.rules.proofs.LaidFacts.{length-values, root-node, all-done-finished, finished-all-done, callee-fn}
 use Rattle.rules.proofs.ActCases.{by-pick, by-state}
 
 abbrev pub Moves : Act → Type 0
@@ -54,12 +52,12 @@ module _ (P : Act → Type 0) where
   at-busy t o b e h = subst (λ c. P (by-status c o b)) (sym e) h
 
 module _ (apply : ℕ → List ℕ → ℕ) {F N : ℕ} {body at : ℕ → Expr} {home : ℕ → ℕ} (laid : Laid F N body at home) where
-  module _ (s : View) (h : ℕ) (r : Fn apply F body h) where
+  module _ (s : View) (h : ℕ) (r : Fn F body h) where
     range : (u : Expr) → Sub u (body h) → (m : ℕ) → Node m u → Range N m
-    range u p m k = let i = laid .inside h m (r .0) (r .1) (sub-node u m (body h) p k) in (i .1, i .2)
+    range u p m k = let i = laid .inside h m r (sub-node u m (body h) p k) in (i .1, i .2)
 
-    own-root : (g : ℕ) → Fn apply F body g → Owns N home g (id (body g))
-    own-root g q = let i = laid .inside g (id (body g)) (q .0) (q .1) (node-id (body g)) in (i .1, i .2, i .0)
+    own-root : (g : ℕ) → Fn F body g → Owns N home g (id (body g))
+    own-root g q = let i = laid .inside g (id (body g)) q (node-id (body g)) in (i .1, i .2, i .0)
 
     pub act-fair : (u : Expr) → Sub u (body h) → FairAct F N home body (id u) (act apply body h s u)
     act-fair (const n v) p = by-state (FairAct F N home body n) (s .status n) _ _ (λ o. tt) (λ b. tt) tt
@@ -68,47 +66,49 @@ module _ (apply : ℕ → List ℕ → ℕ) {F N : ℕ} {body at : ℕ → Expr}
     act-fair (prim n op es) p = by-state (FairAct F N home body n) (s .status n) _ _
         (λ o. (
           λ m i. range (prim n op es) p m (inr (root-node m es i)),
-          λ i. apart-sub (prim n op es) (body h) (laid .well .apart h (r .0) (r .1)) p .0 (root-node n es i),
+          λ i. apart-sub (prim n op es) (body h) (laid .well .apart h r) p .0 (root-node n es i),
         ))
         (λ b. by-pick (FairAct F N home body n) (all-done s es) _ _ (λ e. tt) (λ e. tt)) tt
     act-fair (call n g es) p = by-state (FairAct F N home body n) (s .status n) _ _
         (λ o. (
           λ m i. range (call n g es) p m (inr (root-node m es i)),
-          λ i. apart-sub (call n g es) (body h) (laid .well .apart h (r .0) (r .1)) p .0 (root-node n es i),
+          λ i. apart-sub (call n g es) (body h) (laid .well .apart h r) p .0 (root-node n es i),
         ))
         (λ b. by-pick (FairAct F N home body n) (s .second n) _ _
-        (λ e. by-pick (FairAct F N home body n) (done s (id (body g))) _ _ (λ e. (g<h .0, fn-g .1)) (λ e. tt))
+        (λ e. by-pick (FairAct F N home body n) (done s (id (body g))) _ _ (λ e. fn-g) (λ e. tt))
         (λ e. by-pick (FairAct F N home body n) (all-done s es) _ _
         (λ e. by-pick (FairAct F N home body n) (eqb (s .occupant g) 0) _ _
         (λ e. (
-          g<h .0,
+          fn-g .0,
           fn-g .1,
-          omega (arith, length-values s es, laid .narrow h (call n g es) (r .0) (r .1) p),
+          omega (arith, length-values s es, laid .narrow h (call n g es) r p),
           own-root g fn-g,
           elsewhere,
         )) (λ e. tt))
         (λ e. tt)))
         tt
       where
-        g<h : (1 ≤ g) × (g < h)
-        g<h = laid .well .below h n g (r .0) (r .1) (sub-call n g es (body h) p)
-
-        fn-g : Fn apply F body g
-        fn-g = (g<h .0, omega (arith, g<h .1, r .1))
+        fn-g : Fn F body g
+        fn-g = callee-fn (laid .well) h n g r (sub-call n g es (body h) p)
 
         elsewhere : Owns N home g n → ⊥
-        elsewhere o = omega (arith, o .2, laid .inside h n (r .0) (r .1) (sub-node (call n g es) n (body h) p (inl refl)) .0, g<h .1)
+        elsewhere o = omega (
+          arith,
+          o .2,
+          laid .inside h n r (sub-node (call n g es) n (body h) p (inl refl)) .0,
+          laid .well .below h n g r (sub-call n g es (body h) p) .1,
+        )
     act-fair (self n es) p = by-state (FairAct F N home body n) (s .status n) _ _
         (λ o. (
           λ m i. range (self n es) p m (inr (root-node m es i)),
-          λ i. apart-sub (self n es) (body h) (laid .well .apart h (r .0) (r .1)) p .0 (root-node n es i),
+          λ i. apart-sub (self n es) (body h) (laid .well .apart h r) p .0 (root-node n es i),
         ))
         (λ b. by-pick (FairAct F N home body n) (all-done s es) _ _
-        (λ e. (r .0, r .1, omega (arith, length-values s es, laid .narrow h (self n es) (r .0) (r .1) p), own-root h r)) (λ e. tt)) tt
+        (λ e. (r .0, r .1, omega (arith, length-values s es, laid .narrow h (self n es) r p), own-root h r)) (λ e. tt)) tt
     act-fair (cond n a b c) p = by-state (FairAct F N home body n) (s .status n) _ _
         (λ o. (
           λ m i. ⊎-elim (λ e. range (cond n a b c) p m (inr (inl (subst (λ y. Node y a) (sym e) (node-id a))))) absurd i,
-          λ i. ⊎-elim (λ e. apart-sub (cond n a b c) (body h) (laid .well .apart h (r .0) (r .1)) p .0
+          λ i. ⊎-elim (λ e. apart-sub (cond n a b c) (body h) (laid .well .apart h r) p .0
               (subst (λ y. Node y a) (sym e) (node-id a)))
               absurd i,
         ))
@@ -123,7 +123,7 @@ module _ (apply : ℕ → List ℕ → ℕ) {F N : ℕ} {body at : ℕ → Expr}
     act-fair (bind n ds b) p = by-state (FairAct F N home body n) (s .status n) _ _
         (λ o. (
           λ m i. range (bind n ds b) p m (inr (inl (root-node m ds i))),
-          λ i. apart-sub (bind n ds b) (body h) (laid .well .apart h (r .0) (r .1)) p .0 (root-node n ds i),
+          λ i. apart-sub (bind n ds b) (body h) (laid .well .apart h r) p .0 (root-node n ds i),
         ))
         (λ t. by-pick (FairAct F N home body n) (s .second n) _ _
         (λ e. by-pick (FairAct F N home body n) (done s (id b)) _ _ (λ e. tt) (λ e. tt))
@@ -132,7 +132,7 @@ module _ (apply : ℕ → List ℕ → ℕ) {F N : ℕ} {body at : ℕ → Expr}
         tt
 
     -- a node that has a step in the abstract circuit moves
-    pub able-moves : (u : Expr) → Able apply F body s u → Moves (act apply body h s u)
+    pub able-moves : (u : Expr) → Able body s u → Moves (act apply body h s u)
     able-moves (const n v) o = at-open Moves (s .status n) _ _ (o .0) tt
     able-moves (param n i) o = at-open Moves (s .status n) _ _ (o .0) tt
     able-moves (bound n d) o = at-open Moves (s .status n) _ _ (o .0) tt
@@ -197,47 +197,3 @@ module _ (apply : ℕ → List ℕ → ℕ) {F N : ℕ} {body at : ℕ → Expr}
         (λ e k. (n, g, es, refl, (t, w), all-done-finished s es f, eqb-false (s .occupant g) 0 e)))
         (λ e. absurd)))
         absurd
-
-  -- the cases of a step, in the order of document 01
-  module _ (tags : ℕ → Bool) (s : State512) (n : ℕ) (P : Stepped → Type 0) where
-    abbrev Refuses : ℕ → ℕ → Type 0
-    Refuses k p = P (record { answer = refused k p; state = s })
-
-    abbrev Main : Bool
-    Main = done (view s) (id (body F))
-
-    abbrev Here : Act
-    Here = act apply body (home n) (view s) (at n)
-
-    by-test : (b : Bool) (x y : Stepped) → (b ≡ true → P x) → (b ≡ false → P y) → P (pick b x y)
-    by-test true x y f g = f refl
-    by-test false x y f g = g refl
-
-    pub by-outcome : (a : Act) → (a ≡ stuck → Refuses 21 n) → (a ≡ blocked → Refuses (pick (tags n) 22 23) n)
-        → ((m : Move) → a ≡ does m → P (record {
-          answer = told (id (body F)) (view (perform N home body s n m));
-          state = perform N home body s n m;
-        }))
-        → P (outcome apply F N body at home tags s n a)
-    by-outcome stuck f g h = f refl
-    by-outcome blocked f g h = g refl
-    by-outcome (does m) f g h = h m refl
-
-    pub step-cases : ((Range N n → ⊥) → Refuses 12 0)
-        → (over 3 N (s .status) ≡ true → Refuses 24 0) → (over N F (s .occupant) ≡ true → Refuses 24 0)
-        → (Range N n → Main ≡ true → Refuses 20 n)
-        → (Range N n → Main ≡ false → Here ≡ stuck → Refuses 21 n)
-        → (Range N n → Main ≡ false → Here ≡ blocked → Refuses (pick (tags n) 22 23) n)
-        → (Range N n → Main ≡ false → (m : Move) → Here ≡ does m
-        → P (record { answer = told (id (body F)) (view (perform N home body s n m)); state = perform N home body s n m }))
-        → P (circuitStep apply F N body at home tags s n)
-    unfolding circuitStep
-    step-cases c12 c24 c24′ c20 c21 c22 c =
-        by-test (eqb n 0) _ _ (λ e. c12 (λ r. omega (arith, r .0, eqb-true n 0 e)))
-        (λ e0. by-test (ltb N n) _ _ (λ e. c12 (λ r. omega (arith, r .1, ltb-true N n e)))
-        (λ e1. by-test (over 3 N (s .status)) _ _ c24 (λ e2. by-test (over N F (s .occupant)) _ _ c24′
-        (λ e3. by-test Main _ _ (c20 (there e0 e1)) (λ e4. by-outcome Here (c21 (there e0 e1) e4) (c22 (there e0 e1) e4)
-        (c (there e0 e1) e4))))))
-      where
-        there : eqb n 0 ≡ false → ltb N n ≡ false → Range N n
-        there a b = (omega (arith, eqb-false n 0 a), ltb-false N n b)

@@ -43,6 +43,17 @@ unfolding total
 sum-zero zero = refl
 sum-zero (suc k) = omega (arith, sum-zero k)
 
+-- all but the last are 0
+sum-none : (k : ℕ) (R : ℕ → ℕ) → ((f : ℕ) → 1 ≤ f → f ≤ k → R f ≡ 0) → total R k ≡ 0
+unfolding total
+sum-none zero R h = refl
+sum-none (suc k) R h = omega (arith, h (suc k) (omega arith) (omega arith), sum-none k R (λ f a b. h f a (omega arith)))
+
+pub sum-last : (k : ℕ) (R : ℕ → ℕ) → 1 ≤ k → ((f : ℕ) → 1 ≤ f → f < k → R f ≡ 0) → total R k ≡ R k
+unfolding total
+sum-last zero R a h = absurd (omega arith)
+sum-last (suc k) R a h = omega (arith, sum-none k R (λ f p q. h f p (omega arith)))
+
 -- sums over the nodes, entry by entry
 pub sum-ext : (k : ℕ) (f g : ℕ → ℕ) → ((c : ℕ) → 1 ≤ c → c ≤ k → f c ≡ g c) → total f k ≡ total g k
 unfolding total

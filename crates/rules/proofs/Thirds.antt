@@ -2,7 +2,6 @@
 use Prim.Native.Nat.{ℕ, _+_, _%_}
 use mathlib.Core.Bool.{Bool, true, false}
 use mathlib.Core.Path.{_≡_, subst, sym, ap, _∙_}
-use mathlib.Core.Logic.{⊎-elim}
 use mathlib.Core.List.{List}
 use native.Mathlib.Omega.{arith}
 use native.Mathlib.Decide.{ℕ-discrete}
@@ -10,21 +9,21 @@ use lib.Dec.{eqb}
 use borrow.Author.Tests.{eq-eqb, ne-eqb}
 use Rattle.table.specs.Syntax.{Expr, Exprs, call, id, Sub}
 use Rattle.rules.specs.State.{View, In}
-use Rattle.rules.proofs.Shape.{Still, Busy, Live}
+use Rattle.rules.proofs.Shape.{Busy, open-moves}
 use Rattle.rules.proofs.Frame.{Same}
-use Rattle.table.specs.Well.{CallIn, Laid}
+use Rattle.table.specs.Well.{Fn, CallIn, Laid}
 use Rattle.table.proofs.CallPlaces.{call-node}
-use Rattle.rules.proofs.Places.{inner-busy, still-busy, sub-live}
+use Rattle.rules.proofs.Places.{inner-busy, still-busy}
 use Rattle.rules.proofs.SelfCalls.{self-alone}
 use Rattle.table.specs.Pick.{pick, Range}
-use Rattle.rules.proofs.Invariant.{Fn, Sound, Step, inner, enter, leave, again, inner-moving, stepping}
+use Rattle.rules.proofs.Invariant.{Sound, Step, inner, enter, leave, again}
+use Rattle.rules.proofs.Acting.{stepping-live, live, live-part, fn-g, inner-acts, enter-acts, again-acts}
 use Rattle.rules.proofs.StateLaws.{in?}
 use Rattle.rules.specs.Step.{Act, Move, begins, turns, finishes, enters, leaves, restarts, done, all-done, act}
 use Rattle.rules.proofs.Performed.{Resets, Owns, Does, Acted}
 use Rattle.rules.proofs.ActCases.{by-pick, by-state, live-open}
 use Rattle.rules.proofs.StepSound.{stepped}
-use Rattle.rules.proofs.Enter as Enter
-use Rattle.rules.proofs.Again as Again
+use Rattle.rules.proofs.Enter.{asleep}
 
 -- 1 for a busy call in its first phase, 2 in its second, 0 for an idle, open or done one
 abbrev pub third : View → ℕ → ℕ
@@ -40,25 +39,20 @@ third-same : (s s′ : View) (c : ℕ) → Same s s′ c → third s′ c ≡ th
 third-same s s′ c h = λ i. pick (eqb (h .0 i) 2) (pick (h .1 i) 2 1) 0
 
 module _ (apply : ℕ → List ℕ → ℕ) {F N : ℕ} {body at : ℕ → Expr} {home : ℕ → ℕ} (laid : Laid F N body at home) (s s′ : View)
-    (sound : Sound apply F body s) where
+    (sound : Sound F body s) where
   -- a busy call keeps its state while another node takes a step
-  module _ (f c g : ℕ) (q : Fn apply F body f) (i : CallIn c g (body f)) (busy : s .status c ≡ 2) where
+  module _ (f c g : ℕ) (q : Fn F body f) (i : CallIn c g (body f)) (busy : s .status c ≡ 2) where
     pub busy-kept : (st : Step apply F body s s′) → (c ≡ stepped apply F body st → ⊥) → Same s s′ c
-    busy-kept (inner h r u st) d = st .keeps c (λ k. d (inner-busy s c busy apply (s .register h) s′ u (st .rule) live k))
-      where
-        moving : Still s (id u) → ⊥
-        moving = inner-moving apply F body (laid .well) s s′ sound (s .register h) u (st .rule)
-
-        live : Live s u
-        live = sub-live s u moving (body h) (st .place) (stepping apply F body (laid .well) s s′ sound h r u (st .place) moving .1)
+    busy-kept (inner h r u st) d = st .keeps c (λ k. d (inner-busy s c busy apply (s .register h) s′ u (st .rule)
+        (live-part (inner-acts (laid .well) sound r st)) k))
     busy-kept (enter h r n k es st) d =
-        st .keeps c d (still-busy s c busy (body k) (sound .rest k (Enter.fn-g apply F body (laid .well) s s′ sound h r n k es st)
-        (Enter.asleep apply F body (laid .well) s s′ sound h r n k es st)))
+        let x = enter-acts (laid .well) sound r st in
+        st .keeps c d (still-busy s c busy (body k) (sound .rest k (fn-g x) (asleep x st)))
     busy-kept (leave h r n k es st) d = st .keeps c d
     busy-kept (again h r n es st) d = st .keeps c (λ k.
-        let e : f ≡ h = laid .well .owner f h c (q .0) (q .1) (r .0) (r .1) (call-node c g (body f) i) k in
-        self-alone s n es (st .waits) (st .ready) c g busy (body h) (laid .well .tail h (r .0) (r .1)) (st .place)
-        (Again.live-h apply F body (laid .well) s s′ sound h r n es st) (subst (λ x. CallIn c g (body x)) e i))
+        let e : f ≡ h = laid .well .owner f h c q r (call-node c g (body f) i) k in
+        self-alone s n es (st .waits) (st .ready) c g busy (body h) (laid .well .tail h r) (st .place)
+        (live (again-acts (laid .well) sound r st)) (subst (λ x. CallIn c g (body x)) e i))
 
   -- a node that is not busy does not become so by a step at another
   module _ (n c : ℕ) (d : c ≡ n → ⊥) (r : Range N c) (rest : s .status c ≡ 2 → ⊥) where
@@ -91,23 +85,27 @@ module _ (apply : ℕ → List ℕ → ℕ) {F N : ℕ} {body at : ℕ → Expr}
     rest-kept (restarts f vs) x = reset-rest f vs (λ m. ⊥) (λ z. z) (x .0)
 
   -- a step at another node
-  pub third-other : (f c g n : ℕ) → Fn apply F body f → CallIn c g (body f) → (m : Move) → Does N home body s s′ n m
+  pub third-other : (f c g n : ℕ) → Fn F body f → CallIn c g (body f) → (m : Move) → Does N home body s s′ n m
       → (st : Step apply F body s s′) → stepped apply F body st ≡ n
       → (c ≡ n → ⊥) → third s′ c ≡ third s c
   third-other f c g n q i m x st e d = go (ℕ-discrete (s .status c) 2)
     where
       r : Range N c
-      r = let o = laid .inside f c (q .0) (q .1) (call-node c g (body f) i) in (o .1, o .2)
+      r = let o = laid .inside f c q (call-node c g (body f) i) in (o .1, o .2)
 
       go : Dec (s .status c ≡ 2) → third s′ c ≡ third s c
       go (yes b) = third-same s s′ c (busy-kept f c g q i b st (λ k. d (k ∙ e)))
       go (no b) = third-rest s′ c (rest-kept n c d r b m x) ∙ sym (third-rest s c b)
 
   -- a step at the call itself
-  pub third-own : (h n g : ℕ) (es : Exprs) → Fn apply F body h → Sub (call n g es) (body h)
+  pub third-own : (h n g : ℕ) (es : Exprs) → Fn F body h → Sub (call n g es) (body h)
       → Acted N home body s s′ n (act apply body h s (call n g es)) → third s′ n ≡ (third s n + 1) % 3
   third-own h n g es r p = by-state Goal (s .status n) _ _
-      (λ o x. third-busy s′ n false (x .busy, x .seconds n ∙ live-open s (call n g es) (live o) o .1)
+      (λ o x. third-busy s′ n false (
+        x .busy,
+        x .seconds n ∙ live-open s (call n g es)
+            (stepping-live sound h r (call n g es) p (open-moves s n o)) o .1,
+      )
       ∙ ap (λ y. (y + 1) % 3) (sym (third-rest s n (λ e. omega (arith, o, e)))))
       (λ t. by-pick Goal (s .second n) _ _
       (λ w. by-pick Goal (done s (id (body g))) _ _
@@ -122,8 +120,3 @@ module _ (apply : ℕ → List ℕ → ℕ) {F N : ℕ} {body at : ℕ → Expr}
     where
       Goal : Act → Type 0
       Goal x = Acted N home body s s′ n x → third s′ n ≡ (third s n + 1) % 3
-
-      live : s .status n ≡ 1 → Live s (call n g es)
-      live o =
-          let m : Still s n → ⊥ = λ k. ⊎-elim (λ z. omega (arith, o, z)) (λ z. omega (arith, o, z)) (k .0) in
-          sub-live s (call n g es) m (body h) p (stepping apply F body (laid .well) s s sound h r (call n g es) p m .1)

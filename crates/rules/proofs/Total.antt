@@ -1,229 +1,196 @@
 -- what is left of the whole circuit falls by one with each step
-use Prim.Native.Nat.{ℕ, _+_, _≤_, _<_}
+use Prim.Native.Nat.{ℕ, _+_}
+use mathlib.Core.Bool.{true≢false}
 use mathlib.Core.Path.{_≡_, refl, subst, sym, ap, _∙_, fun-ext}
-use mathlib.Core.Logic.{inl, inr}
+use mathlib.Core.Logic.{inl, inr, ⊎-elim}
 use mathlib.Core.List.{List}
 use native.Mathlib.Omega.{arith}
 use native.Mathlib.Decide.{ℕ-discrete}
+use lib.ListN.{getD}
 use Rattle.table.specs.Syntax.{Expr, Exprs, call, self, id, Node}
-use Rattle.rules.specs.State.{View}
-use Rattle.rules.proofs.Shape.{Live}
+use Rattle.table.specs.Well.{Fn, Well}
 use Rattle.table.specs.Environment.{values, put}
-use Rattle.rules.proofs.Left.{Left}
-use Rattle.table.specs.Well.{CallIn, Well}
-use Rattle.table.proofs.CallPlaces.{call-node, sub-call, call-at}
-use Rattle.rules.proofs.SelfCalls.{self-left}
-use Rattle.rules.proofs.Invariant.{Step, inner, enter, leave, again, Fn, Active, LeaveStep, AgainStep, Sound, stepping}
+use Rattle.table.proofs.SyntaxLaws.{sub-node}
+use Rattle.rules.specs.State.{View}
 use Rattle.rules.specs.Reading.{Outcome, val, Readings, Reads}
-use Rattle.rules.proofs.Counts.{left-reads, left-done, over-left}
+use Rattle.rules.proofs.Frame.{Same}
+use Rattle.rules.proofs.Left.{Left}
+use Rattle.rules.proofs.Mix.{mix-out}
+use Rattle.rules.proofs.SelfCalls.{self-left}
+use Rattle.rules.proofs.Counts.{left-reads, left-done, left-going, over-left, over-left*, inner-left}
 use Rattle.rules.proofs.SumLaws.{put-same, put-other, sum-put}
-use Rattle.rules.proofs.Remaining.{Closes, aside-rest′, own-rest}
-use Rattle.rules.proofs.TotalEnter.{inner-before, enter-before}
+use Rattle.rules.proofs.Invariant.{Step, inner, enter, leave, again, Active, active-over, InnerStep, EnterStep, LeaveStep, AgainStep}
+use Rattle.rules.proofs.Invariant.{Sound}
+use Rattle.rules.proofs.Acting.{Acting, active, live, elsewhere, node-h, fn-g, n≢0, h≢g, apart-callee}
+use Rattle.rules.proofs.Acting.{inner-acts, enter-acts, leave-acts, again-acts}
+use Rattle.rules.proofs.Remaining.{nowhere, Closes, Rest, Expects, Before, rest-aside, rest-own, one-more}
 use Rattle.rules.specs.Reading as Reading
+use Rattle.rules.proofs.Enter as Enter
 use Rattle.rules.proofs.Leave as Leave
-use Rattle.rules.proofs.Again as Again
-use Rattle.rules.proofs.Remaining as Remaining
 
-module _ (apply : ℕ → List ℕ → ℕ) (F : ℕ) (body : ℕ → Expr) (K : Readings) where
-  abbrev Ends : ℕ → Outcome → ℕ → ℕ → Type 0
-  Ends = Remaining.Ends apply F body K
+module _ (apply : ℕ → List ℕ → ℕ) {F : ℕ} {body : ℕ → Expr} (K : Readings) (s s′ : View) {W′ R′ : ℕ → ℕ}
+    (after : Expects apply F body K s′ W′ R′) where
+  -- what holds after the step of a function that is active before it
+  still : (f : ℕ) → Fn F body f → s′ .occupant f ≡ s .occupant f → Active F s f → Rest apply body K s′ W′ f (W′ (s′ .occupant f)) (R′ f)
+  still f q e a = after .active f q (active-over e a)
 
-  abbrev nowhere : ℕ → ℕ
-  nowhere = Remaining.nowhere apply F body K
+  idle : (f : ℕ) → Fn F body f → s′ .occupant f ≡ s .occupant f → (Active F s f → ⊥) → R′ f ≡ 0
+  idle f q e a = after .rest f q (λ b. a (active-over (sym e) b))
 
-  abbrev Rest : View → (ℕ → ℕ) → ℕ → ℕ → ℕ → Type 0
-  Rest = Remaining.Rest apply F body K
+  module _ {h : ℕ} {u : Expr} (x : Acting F body s h u) (st : InnerStep apply body s s′ h u) where
+    inner-before : Before apply F body K s W′ R′
+    inner-before = one-more apply F body K s W′ W′ R′ R′ h 0 (x .fn) (active x) (omega arith) refl
+        (rest-own apply body K s s′ W′ W′ x 1 (st .keeps) (λ m y. refl)
+        (λ ρ o k l f g. inner-left apply K s s′ W′ (s .register h) u (st .rule) l ρ o k f g)
+        (R′ h) (st .keepsFn h) refl (still h (x .fn) (st .keepsFn h .0) (active x)))
+        (λ f q a e. rest-aside apply body K s s′ W′ W′ (λ m. Node m u) (st .keeps) (λ m y. refl) f (R′ f)
+        (λ m y z. elsewhere x f q e m y (sub-node u m (body h) (st .place) z)) (st .keepsFn f) refl (still f q (st .keepsFn f .0) a))
+        (λ f q a. idle f q (st .keepsFn f .0) a)
 
-  abbrev Expects : View → (ℕ → ℕ) → (ℕ → ℕ) → Type 0
-  Expects = Remaining.Expects apply F body K
+  module _ {h n g : ℕ} {es : Exprs} (x : Acting F body s h (call n g es)) (st : LeaveStep body s s′ h n g es) where
+    got : ℕ
+    got = s .value (id (body g))
 
-  abbrev Before : View → (ℕ → ℕ) → (ℕ → ℕ) → Type 0
-  Before = Remaining.Before apply F body K
+    W₁ : ℕ → ℕ
+    W₁ = put W′ n got
 
-  module _ (well : Well F body) (reads : Closes apply F body K) (s s′ : View) (sound : Sound apply F body s) (W′ R′ : ℕ
-      → ℕ) (after : Expects s′ W′ R′) where
-    module _ (h : ℕ) (r : Fn apply F body h) (n g : ℕ) (es : Exprs) (st : LeaveStep apply F body s s′ h n g es) where
-      g<h₃ : (1 ≤ g) × (g < h)
-      g<h₃ = Leave.g<h apply F body well s s′ sound h r n g es st
+    W₁-other : (m : ℕ) → (m ≡ n → ⊥) → W′ m ≡ W₁ m
+    unfolding W₁
+    W₁-other m d = sym (put-other W′ n got m d)
 
-      fn-g₃ : Fn apply F body g
-      fn-g₃ = Leave.fn-g apply F body well s s′ sound h r n g es st
+    W₁-n : W₁ n ≡ got
+    unfolding W₁
+    W₁-n = put-same W′ n got
 
-      n≢0₃ : n ≡ 0 → ⊥
-      n≢0₃ = Leave.n≢0 apply F body well s s′ sound h r n g es st
+    leaving : (ρ : ℕ → ℕ) (o : Outcome) (k : ℕ) → Left apply K s′ W′ (s .register h) (call n g es) ρ o k
+        → Left apply K s W₁ (s .register h) (call n g es) ρ o (1 + k)
+    unfolding got
+    leaving ρ o k y =
+        let z = left-done apply K s′ W′ (s .register h) (call n g es) (st .becomes .0) ρ o k y in
+        inr (inr (st .holds .0, inr (st .holds .1, z .1 ∙ ap val (st .becomes .2 ∙ sym W₁-n), omega (arith, z .2))))
 
-      mine₃ : s .occupant g ≡ n
-      mine₃ = Leave.mine apply F body well s s′ sound h r n g es st
+    -- another function's occupant is another call
+    other : (f : ℕ) → Fn F body f → (f ≡ g → ⊥) → W′ (s .occupant f) ≡ W₁ (s .occupant f)
+    other f q d = W₁-other (s .occupant f) (λ e. let o = x .sound .held f n q e (n≢0 x) in
+        Leave.one-callee x st f n (o .0) (o .1) d (o .3) refl)
 
-      in-h₃ : CallIn n g (body h)
-      in-h₃ = sub-call n g es (body h) (st .place)
+    leave-before : Before apply F body K s W′ R′
+    unfolding got
+    leave-before = one-more apply F body K s W₁ W′ R′ R′ h 0 (x .fn) (active x) (omega arith) (sym (W₁-other 0 (λ e. n≢0 x (sym e))))
+        (rest-own apply body K s s′ W₁ W′ x 1 (λ m k. st .keeps m (λ e. k (inl e))) (λ m k. W₁-other m (λ e. k (inl e)))
+        (λ ρ o k l f q. leaving ρ o k q) (R′ h) (st .keepsFn h (h≢g x)) (other h (x .fn) (h≢g x))
+        (still h (x .fn) (st .keepsFn h (h≢g x) .0) (active x)))
+        (λ f q a e. others f q a e (ℕ-discrete f g)) (λ f q a. rest f q a (ℕ-discrete f g))
+      where
+        over : Rest apply body K s W₁ g (W₁ (s .occupant g)) 0
+        over = (
+          val got,
+          0,
+          0,
+          over-left apply K s W₁ (s .register g) (body g) nowhere (val got) 0 (st .over, refl, refl),
+          (ap W₁ (Leave.mine x st) ∙ W₁-n, refl),
+          refl,
+        )
 
-      abbrev U₃ : Expr
-      U₃ = call n g es
+        others : (f : ℕ) → Fn F body f → Active F s f → (f ≡ h → ⊥) → Dec (f ≡ g) → Rest apply body K s W₁ f (W₁ (s .occupant f)) (R′ f)
+        others f q a e (yes d) =
+            subst (λ y. Rest apply body K s W₁ y (W₁ (s .occupant y)) (R′ y)) (sym d)
+            (subst (Rest apply body K s W₁ g (W₁ (s .occupant g))) (sym (after .rest g (fn-g x) (Leave.asleep x st))) over)
+        others f q a e (no d) = rest-aside apply body K s s′ W₁ W′ (λ m. m ≡ n) (st .keeps) W₁-other f (R′ f) (Leave.untouched x st f q e)
+            (st .keepsFn f d) (other f q d) (still f q (st .keepsFn f d .0) a)
 
-      got : ℕ
-      got = s .value (id (body g))
+        rest : (f : ℕ) → Fn F body f → (Active F s f → ⊥) → Dec (f ≡ g) → R′ f ≡ 0
+        rest f q a (yes d) = absurd (a (subst (Active F s) (sym d) (Leave.active-g x st)))
+        rest f q a (no d) = idle f q (st .keepsFn f d .0) a
 
-      W₃ : ℕ → ℕ
-      W₃ = put W′ n got
+  -- K has what is left of a body that is new
+  module _ (reads : Closes apply F body K) where
+    new-reads : (f : ℕ) → Fn F body f → s′ .status (id (body f)) ≡ 1 → (vs : List ℕ) → s′ .register f ≡ (λ i. getD vs i 0) → (v : ℕ)
+        → Rest apply body K s′ W′ f v (R′ f) → K f vs v (R′ f)
+    new-reads f q o vs e v y =
+        subst (K f vs v) (sym (y .5)) (reads f v vs (y .0) (y .1) (y .2) q
+        (subst (λ r. Reads apply K r (body f) nowhere (y .0) (y .1)) e
+        (left-reads apply K s′ W′ (s′ .register f) (body f) (inr o) nowhere (y .0) (y .1) (y .3))) (y .4))
 
-      R₃ : ℕ → ℕ
-      R₃ = put R′ h (1 + R′ h)
+    module _ {h n g : ℕ} {es : Exprs} (x : Acting F body s h (call n g es)) (st : EnterStep body s s′ h n g es) where
+      -- the call as the plain reading has it
+      called : K g (values (s .value) es) (W′ n) (R′ g)
+      called = new-reads g (fn-g x) (st .new .0 .0) (values (s .value) es) (fun-ext (st .arguments)) (W′ n)
+          (subst (λ m. Rest apply body K s′ W′ g (W′ m) (R′ g)) (st .occupies) (after .active g (fn-g x)
+          (inr (λ z. n≢0 x (sym (st .occupies) ∙ z)))))
 
-      h≢g₃ : h ≡ g → ⊥
-      h≢g₃ e = omega (arith, g<h₃ .1, e)
+      at-t : Same s′ (Enter.t x st) n
+      at-t = let b = mix-out (body g) s s′ n (apart-callee x n (node-h x)) in (sym (b .0), sym (b .1), sym (b .2))
 
-      lv₃ : Active apply F body s h × Live s (body h)
-      lv₃ = stepping apply F body well s s′ sound h r U₃ (st .place) (Leave.moving apply F body well s s′ sound h r n g es st)
+      entering : (ρ : ℕ → ℕ) (o : Outcome) (k : ℕ) → Left apply K (Enter.t x st) W′ (s .register h) (call n g es) ρ o k
+          → Left apply K s W′ (s .register h) (call n g es) ρ o ((1 + R′ g) + k)
+      entering ρ o k y =
+          ⊎-elim (λ z. absurd (true≢false (sym (st .enters .1) ∙ sym (at-t .1) ∙ z .0))) (λ z. inr (inr (
+            st .waits .0,
+            inl (
+              st .waits .1,
+              (
+                values (s .value) es,
+                W′ n,
+                0,
+                R′ g,
+                over-left* apply K s W′ (s .register h) es ρ (st .ready),
+                called,
+                z .1,
+                omega (arith, z .2),
+              ),
+            ),
+          ))) (left-going apply K (Enter.t x st) W′ (s .register h) (call n g es) (at-t .0 ∙ st .enters .0) ρ o k y)
 
-      now₃ : (f : ℕ) → (f ≡ g → ⊥) → Active apply F body s f → Active apply F body s′ f
-      now₃ f d (inl e) = inl e
-      now₃ f d (inr z) = inr (λ e. z (sym (st .keepsFn f d .0) ∙ e))
+      R₁ : ℕ → ℕ
+      R₁ = put R′ g 0
 
-      asleep₃ : Active apply F body s′ g → ⊥
-      asleep₃ (inl e) = omega (arith, e, g<h₃ .1, r .1)
-      asleep₃ (inr z) = z (st .frees)
+      R₁-other : (f : ℕ) → (f ≡ g → ⊥) → R₁ f ≡ R′ f
+      unfolding R₁
+      R₁-other f d = put-other R′ g 0 f d
 
-      -- another function's occupant is another call
-      other₃ : (f : ℕ) → Fn apply F body f → (f ≡ g → ⊥) → s .occupant f ≡ n → ⊥
-      other₃ f q d e =
-          let o = sound .held f n q e n≢0₃ in
-          let k≡h : o .0 ≡ h = well .owner (o .0) h n (o .1 .0) (o .1 .1) (r .0) (r .1) (call-node n f (body (o .0)) (o .3))
-          (call-node n g (body h) in-h₃) in
-          let z = call-at U₃ n f refl (body h) (well .apart h (r .0) (r .1)) (subst (λ x. CallIn n f (body x)) k≡h (o .3)) (st .place) in
-          d (callees (z .0) (z .1))
+      enter-before : Before apply F body K s W′ R′
+      unfolding R₁
+      enter-before = one-more apply F body K s W′ W′ R₁ R′ h (R′ g) (x .fn) (active x)
+          (omega (arith, sum-put F R′ g 0 (fn-g x .0) (fn-g x .1))) refl
+          (subst (λ k. Rest apply body K s W′ h (W′ (s .occupant h)) ((1 + R′ g) + k)) (sym (R₁-other h (h≢g x))) own)
+          (λ f q a e. others f q a e (ℕ-discrete f g)) (λ f q a. rest f q a (ℕ-discrete f g))
         where
-          callees : (xs : Exprs) → U₃ ≡ call n f xs → f ≡ g
-          callees xs p = cc
+          own : Rest apply body K s W′ h (W′ (s .occupant h)) ((1 + R′ g) + R′ h)
+          own = rest-own apply body K s (Enter.t x st) W′ W′ x (1 + R′ g) (λ m k. Enter.keeps-t x st m (λ e. k (inl e))) (λ m k. refl)
+              (λ ρ o k l f q. entering ρ o k q) (R′ h) (st .keepsFn h (h≢g x)) refl
+              (rest-aside apply body K (Enter.t x st) s′ W′ W′ (λ m. Node m (body g)) (mix-out (body g) s s′) (λ m k. refl) h (R′ h)
+              (apart-callee x) (refl, λ i. refl) refl (still h (x .fn) (st .keepsFn h (h≢g x) .0) (active x)))
 
-      expects₃ : (m : ℕ) → (m ≡ n → ⊥) → W′ m ≡ W₃ m
-      unfolding W₃
-      expects₃ m x = sym (put-other W′ n got m x)
+          others : (f : ℕ) → Fn F body f → Active F s f → (f ≡ h → ⊥) → Dec (f ≡ g) → Rest apply body K s W′ f (W′ (s .occupant f)) (R₁ f)
+          others f q a e (yes d) = absurd (Enter.asleep x st (subst (Active F s) d a))
+          others f q a e (no d) =
+              subst (Rest apply body K s W′ f (W′ (s .occupant f))) (sym (R₁-other f d))
+              (rest-aside apply body K s s′ W′ W′ (Enter.X x st) (Enter.keeps-x x st) (λ m y. refl) f (R′ f) (Enter.untouched x st f q e d)
+              (st .keepsFn f d) refl (still f q (st .keepsFn f d .0) a))
 
-      W₃-n : W₃ n ≡ got
-      unfolding W₃
-      W₃-n = put-same W′ n got
+          rest : (f : ℕ) → Fn F body f → (Active F s f → ⊥) → Dec (f ≡ g) → R₁ f ≡ 0
+          rest f q a (yes d) = subst (λ y. R₁ y ≡ 0) (sym d) (put-same R′ g 0)
+          rest f q a (no d) = R₁-other f d ∙ idle f q (st .keepsFn f d .0) a
 
-      local₃ : (ρ : ℕ → ℕ) (o : Outcome) (k : ℕ) → Left apply K s′ W′ (s .register h) U₃ ρ o k
-          → Left apply K s W₃ (s .register h) U₃ ρ o (1 + k)
-      unfolding got
-      local₃ ρ o k x =
-          let y = left-done apply K s′ W′ (s .register h) U₃ (st .becomes .0) ρ o k x in
-          inr (inr (st .holds .0, inr (st .holds .1, y .1 ∙ ap val (st .becomes .2 ∙ sym W₃-n), omega (arith, y .2))))
-
-      pub leave-before : Before s W′ R′
-      unfolding R₃ got
-      leave-before = (
-        W₃,
-        R₃,
-        record {
-          active = λ f q a. act f q a (ℕ-discrete f h) (ℕ-discrete f g);
-          rest = λ f q a. rst f q a (ℕ-discrete f g);
-        },
-        omega (arith, sum-put F R′ h (1 + R′ h) (r .0) (r .1)),
-        sym (expects₃ 0 (λ e. n≢0₃ (sym e))),
-      )
-        where
-          own : Rest s W₃ h (W₃ (s .occupant h)) (1 + R′ h)
-          own = own-rest apply F body K s s′ W′ W₃ h U₃ 1 (λ m k. st .keeps m (λ e. k (inl e))) (λ m k. expects₃ m (λ e. k (inl e)))
-              (Leave.moving apply F body well s s′ sound h r n g es st) (λ ρ o k l f q. local₃ ρ o k q) (well .apart h (r .0) (r .1))
-              (st .place) (lv₃ .1) (well .fits h (s .value) (r .0) (r .1)) (st .keepsFn h h≢g₃ .1) (W₃ (s .occupant h)) (R′ h)
-              (subst (λ w. Rest s′ W′ h w (R′ h)) (expects₃ (s .occupant h) (other₃ h r h≢g₃))
-              (subst (λ w. Rest s′ W′ h (W′ w) (R′ h)) (st .keepsFn h h≢g₃ .0) (after .active h r (now₃ h h≢g₃ (lv₃ .0)))))
-
-          over : Rest s W₃ g (W₃ (s .occupant g)) 0
-          over = (
-            val got,
-            0,
-            0,
-            over-left apply K s W₃ (s .register g) (body g) nowhere (val got) 0 (st .over, refl, refl),
-            (ap W₃ mine₃ ∙ W₃-n, refl),
-            refl,
-          )
-
-          act : (f : ℕ) → Fn apply F body f → Active apply F body s f → Dec (f ≡ h) → Dec (f ≡ g) → Rest s W₃ f (W₃ (s .occupant f)) (R₃ f)
-          act f q a (yes e) d = subst (λ y. Rest s W₃ y (W₃ (s .occupant y)) (R₃ y)) (sym e) (subst (Rest s W₃ h (W₃ (s .occupant h)))
-              (sym (put-same R′ h (1 + R′ h))) own)
-          act f q a (no e) (yes d) =
-              subst (λ y. Rest s W₃ y (W₃ (s .occupant y)) (R₃ y)) (sym d)
-              (subst (Rest s W₃ g (W₃ (s .occupant g))) (sym (put-other R′ h (1 + R′ h) g (λ z. h≢g₃ (sym z))
-              ∙ after .rest g fn-g₃ asleep₃)) over)
-          act f q a (no e) (no d) =
-              subst (Rest s W₃ f (W₃ (s .occupant f))) (sym (put-other R′ h (1 + R′ h) f e))
-              (subst (λ y. Rest s W₃ f y (R′ f)) (expects₃ (s .occupant f) (other₃ f q d))
-              (aside-rest′ apply F body K s s′ W′ (λ m. m ≡ n) (st .keeps) W₃ expects₃ f (W′ (s .occupant f)) (R′ f)
-              (λ m k x. e (well .owner f h m (q .0) (q .1) (r .0) (r .1) k
-              (subst (λ y. Node y (body h)) (sym x) (call-node n g (body h) in-h₃)))) (st .keepsFn f d .1)
-              (subst (λ y. Rest s′ W′ f (W′ y) (R′ f)) (st .keepsFn f d .0) (after .active f q (now₃ f d a)))))
-
-          rst : (f : ℕ) → Fn apply F body f → (Active apply F body s f → ⊥) → Dec (f ≡ g) → R₃ f ≡ 0
-          rst f q a (yes e) = absurd (a (inr (λ z. n≢0₃ (sym mine₃ ∙ subst (λ y. s .occupant y ≡ 0) e z))))
-          rst f q a (no d) = put-other R′ h (1 + R′ h) f (λ e. a (subst (Active apply F body s) (sym e) (lv₃ .0)))
-              ∙ after .rest f q (λ b. a (back b))
-            where
-              back : Active apply F body s′ f → Active apply F body s f
-              back (inl e) = inl e
-              back (inr z) = inr (λ e. z (st .keepsFn f d .0 ∙ e))
-
-    module _ (h : ℕ) (r : Fn apply F body h) (n : ℕ) (es : Exprs) (st : AgainStep apply F body s s′ h n es) where
-      abbrev U₄ : Expr
-      U₄ = self n es
-
-      R₄ : ℕ → ℕ
-      R₄ = put R′ h (1 + R′ h)
-
-      lv₄ : Active apply F body s h × Live s (body h)
-      lv₄ = stepping apply F body well s s′ sound h r U₄ (st .place) (Again.moving apply F body well s s′ sound h r n es st)
-
-      now₄ : (f : ℕ) → Active apply F body s f → Active apply F body s′ f
-      now₄ f (inl e) = inl e
-      now₄ f (inr z) = inr (λ e. z (sym (st .occupants f) ∙ e))
-
-      pub again-before : Before s W′ R′
-      unfolding R₄
-      again-before = (
-        W′,
-        R₄,
-        record { active = λ f q a. act f q a (ℕ-discrete f h); rest = λ f q a. rst f q a },
-        omega (arith, sum-put F R′ h (1 + R′ h) (r .0) (r .1)),
+    module _ {h n : ℕ} {es : Exprs} (x : Acting F body s h (self n es)) (st : AgainStep body s s′ h n es) where
+      again-before : Before apply F body K s W′ R′
+      again-before = one-more apply F body K s W′ W′ R′ R′ h 0 (x .fn) (active x) (omega arith) refl (
+        Reading.again (values (s .value) es),
+        1,
+        R′ h,
+        self-left s n es (st .waits) (st .ready) apply K W′ (s .register h) (body h) (x .well .tail h (x .fn)) (st .place) (live x)
+            nowhere,
+        new-reads h (x .fn) (st .new .0 .0) (values (s .value) es) (fun-ext (st .arguments)) (W′ (s .occupant h))
+            (subst (λ m. Rest apply body K s′ W′ h (W′ m) (R′ h)) (st .occupants h) (still h (x .fn) (st .occupants h) (active x))),
         refl,
       )
-        where
-          own : Rest s W′ h (W′ (s .occupant h)) (1 + R′ h)
-          own =
-              let x = after .active h r (now₄ h (lv₄ .0)) in
-              let p = left-reads apply K s′ W′ (s′ .register h) (body h) (inr (st .new .0 .0)) nowhere (x .0) (x .1) (x .3) in (
-                Reading.again (values (s .value) es),
-                1,
-                R′ h,
-                self-left s n es (st .waits) (st .ready) apply K W′ (s .register h) (body h) (well .tail h (r .0) (r .1)) (st .place)
-                    (lv₄ .1) nowhere,
-                subst (K h (values (s .value) es) (W′ (s .occupant h))) (sym (x .5))
-                    (reads h (W′ (s .occupant h)) (values (s .value) es) (x .0) (x .1) (x .2) r
-                    (subst (λ y. Reads apply K y (body h) nowhere (x .0) (x .1)) (fun-ext (st .arguments)) p)
-                    (subst (λ y. Ends h (x .0) (W′ y) (x .2)) (st .occupants h) (x .4))),
-                omega arith,
-              )
+          (λ f q a e. rest-aside apply body K s s′ W′ W′ (λ m. Node m (body h)) (st .keeps) (λ m y. refl) f (R′ f) (elsewhere x f q e)
+          (st .keepsFn f e) refl (still f q (st .occupants f) a))
+          (λ f q a. idle f q (st .occupants f) a)
 
-          act : (f : ℕ) → Fn apply F body f → Active apply F body s f → Dec (f ≡ h) → Rest s W′ f (W′ (s .occupant f)) (R₄ f)
-          act f q a (yes e) = subst (λ y. Rest s W′ y (W′ (s .occupant y)) (R₄ y)) (sym e) (subst (Rest s W′ h (W′ (s .occupant h)))
-              (sym (put-same R′ h (1 + R′ h))) own)
-          act f q a (no e) =
-              subst (Rest s W′ f (W′ (s .occupant f))) (sym (put-other R′ h (1 + R′ h) f e))
-              (aside-rest′ apply F body K s s′ W′ (λ m. Node m (body h)) (st .keeps) W′ (λ m y. refl) f (W′ (s .occupant f)) (R′ f)
-              (λ m y z. e (well .owner f h m (q .0) (q .1) (r .0) (r .1) y z)) (st .keepsFn f e .1)
-              (subst (λ y. Rest s′ W′ f (W′ y) (R′ f)) (st .keepsFn f e .0) (after .active f q (now₄ f a))))
-
-          rst : (f : ℕ) → Fn apply F body f → (Active apply F body s f → ⊥) → R₄ f ≡ 0
-          rst f q a = put-other R′ h (1 + R′ h) f (λ e. a (subst (Active apply F body s) (sym e) (lv₄ .0)))
-              ∙ after .rest f q (λ b. a (back b))
-            where
-              back : Active apply F body s′ f → Active apply F body s f
-              back (inl e) = inl e
-              back (inr z) = inr (λ e. z (st .occupants f ∙ e))
-
-    pub step-before : Step apply F body s s′ → Before s W′ R′
-    step-before (inner h r u st) = inner-before apply F body K well reads s s′ sound W′ R′ after h r u st
-    step-before (enter h r n g es st) = enter-before apply F body K well reads s s′ sound W′ R′ after h r n g es st
-    step-before (leave h r n g es st) = leave-before h r n g es st
-    step-before (again h r n es st) = again-before h r n es st
+    pub step-before : Well F body → Sound F body s → Step apply F body s s′ → Before apply F body K s W′ R′
+    step-before well sound (inner h r u st) = inner-before (inner-acts well sound r st) st
+    step-before well sound (enter h r n g es st) = enter-before (enter-acts well sound r st) st
+    step-before well sound (leave h r n g es st) = leave-before (leave-acts well sound r st) st
+    step-before well sound (again h r n es st) = again-before (again-acts well sound r st) st

@@ -6,7 +6,8 @@ use native.Mathlib.Omega.{arith}
 use native.Mathlib.Decide.{ℕ-discrete}
 use lib.ListN.{getD}
 use Rattle.table.specs.Syntax.{Expr, Exprs, const, param, prim, call, self, cond, bind, bound, none, some}
-use Rattle.rules.specs.Reading.{Chosen, Outcome, val, again, last, Readings, Reads, Reads*, Round, stops, goes}
+use Rattle.rules.proofs.Branches.{chosen-case, chosen-both}
+use Rattle.rules.specs.Reading.{Outcome, val, again, last, Readings, Reads, Reads*, Round, stops, goes}
 use Rattle.table.specs.Environment.{extend}
 use Rattle.table.specs.Pick.{mixed}
 use Rattle.rules.specs.Reading as Reading
@@ -41,16 +42,9 @@ module _ (apply : ℕ → List ℕ → ℕ) (K : Readings) (unique : Unique K) (
     reads-unique (cond n a b c) ρ o q k l x y =
         let t = reads-unique a ρ (val (x .0)) (val (y .0)) (x .1) (y .1) (x .3) (y .3) in
         let e = val-inj (x .0) (y .0) (t .0) in
-        let r = branch (x .0) (x .4) (subst (Chosen (Reads apply K args b ρ q (y .2)) (Reads apply K args c ρ q (y .2))) (sym e) (y .4))
-        (λ u w. reads-unique b ρ o q (x .2) (y .2) u w) (λ u w. reads-unique c ρ o q (x .2) (y .2) u w) in
+        let r = chosen-case (λ r. r) (λ r. r) (x .0) (chosen-both (λ u w. reads-unique b ρ o q (x .2) (y .2) u w)
+        (λ u w. reads-unique c ρ o q (x .2) (y .2) u w) (x .0) (y .0) (sym e) (x .4) (y .4)) in
         (r .0, omega (arith, x .5, y .5, t .1, r .1, ap last (r .0)))
-      where
-        branch : (v : ℕ) → Chosen (Reads apply K args b ρ o (x .2)) (Reads apply K args c ρ o (x .2)) v
-            → Chosen (Reads apply K args b ρ q (y .2)) (Reads apply K args c ρ q (y .2)) v
-            → (Reads apply K args b ρ o (x .2) → Reads apply K args b ρ q (y .2) → (o ≡ q) × (x .2 ≡ y .2))
-            → (Reads apply K args c ρ o (x .2) → Reads apply K args c ρ q (y .2) → (o ≡ q) × (x .2 ≡ y .2)) → (o ≡ q) × (x .2 ≡ y .2)
-        branch zero u w f g = g u w
-        branch (suc v) u w f g = f u w
     reads-unique (bind n ds b) ρ o q k l x y =
         let a = reads-unique* ds ρ (x .0) (y .0) (x .1) (y .1) (x .3) (y .3) in
         let r = reads-unique b (extend ds (x .0) ρ) o q (x .2) (y .2) (x .4) (subst (λ vs. Reads apply K args b (extend ds vs ρ) q (y .2))

@@ -5,7 +5,7 @@ use lib.Dec.{eqb}
 use lib.ListN.{length}
 use Rattle.rules.specs.State.{State512, view, circuitStart}
 use Rattle.rules.specs.Step.{Act, act, Stepped, refusal, circuitStep}
-use Rattle.rules.specs.Play.{Ask, asks, Log, Accepted, played, entries, leavings}
+use Rattle.rules.specs.Play.{Ask, asks, Log, IsTaken, played, entries, leavings}
 use Rattle.rules.specs.Operations.{operate}
 use Rattle.table.specs.Bytes.{functions, nodes, params}
 use Rattle.table.specs.Naming.{owner}
@@ -54,7 +54,7 @@ stepOf t tags s n = stepAfter (checkWith t tags) s (circuitOf t tags s n)
 
 -- "Some step would be taken next if a step asked then at some node isn't refused"
 abbrev pub Possible : (t tags : List ℕ) → State512 → ℕ → Type 0
-Possible t tags s n = Accepted (stepOf t tags s n .answer)
+Possible t tags s n = IsTaken (stepOf t tags s n .answer)
 
 -- steps asked one after the other, "its table being the table of every step", each with tags of its own
 unfoldable pub playsOf : (t : List ℕ) → State512 → List (Ask (List ℕ)) → Log

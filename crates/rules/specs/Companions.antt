@@ -1,4 +1,5 @@
--- what holds beside the third demand: under any tags, of a call's steps, of runs from a start, past N and F, of 32-bit values
+-- what holds beside the third demand: under any tags, of a call's steps, of runs from a start, past N and F, of 32-bit values, of the
+-- table's own list, of the reading
 use Prim.Native.Nat.{ℕ, _+_, _%_, _^_, _≤_, _<_}
 use mathlib.Core.Path.{_≡_}
 use mathlib.Core.Logic.{_⊎_}
@@ -7,26 +8,27 @@ use mathlib.Core.List.{List, _++_}
 use lib.Dec.{eqb}
 use lib.ListN.{length, getD, take}
 use Rattle.table.specs.Pick.{pick}
-use Rattle.table.specs.Bytes.{functions, nodes}
-use Rattle.table.specs.Check.{accepted}
-use Rattle.table.specs.Expressions.{exprAt}
-use Rattle.list.specs.Tags.{checkWith}
+use Rattle.table.specs.Bytes.{functions, nodes, params}
+use Rattle.table.specs.Check.{accepted, checkOf}
+use Rattle.table.specs.Expressions.{exprAt, bodyOf}
+use Rattle.list.specs.Tags.{checkWith, tagsOf}
 use Rattle.rules.specs.Reading.{ReadsTo}
-use Rattle.rules.specs.State.{State512, View, entry, view}
-use Rattle.rules.specs.Step.{does, enters, leaves, refusal}
+use Rattle.rules.specs.State.{State512, Sized, View, entry, view, circuitStart}
+use Rattle.rules.specs.Step.{Act, denied, does, enters, leaves, refusal}
 use Rattle.rules.specs.Play.{Ask, count, calls}
-use Rattle.rules.specs.Circuit.{stepOf, playsOf, playOf, entriesOf, leavingsOf, Possible, actOf}
-use Rattle.rules.specs.Runs.{MainDone, mainValue, standing, gave, atRest, barred, Driven, Ran}
-use Rattle.rules.specs.Demand.{Answers}
+use Rattle.rules.specs.Circuit.{started, startOf, stepOf, playsOf, playOf, entriesOf, leavingsOf, Possible, actOf}
+use Rattle.rules.specs.Runs.{MainDone, mainValue, standing, gave, atRest, barred, Driven, Ran, runOf, RunPlays, Drives, Found}
+use Rattle.rules.specs.Runs.{nothing, Finds}
+use Rattle.rules.specs.Demand.{Answers, DemandThree}
 
--- the steps at call node c of function f, k of them taken before: the next is the (k + 1)st
-pub record Phases (t : List ℕ) (s : State512) (c f k : ℕ) : Type 0 where
+-- x is what the next step does at a call of function f, k of the call's steps taken before: it is the (k + 1)st
+pub record Phases (x : Act) (f k : ℕ) : Type 0 where
   -- "the second, fifth and so on enter its callee", and no other does
-  pub entering : k % 3 ≡ 1 → (vs : List ℕ) × (actOf t s c ≡ does (enters f vs))
-  pub entered : (g : ℕ) (vs : List ℕ) → actOf t s c ≡ does (enters g vs) → (k % 3 ≡ 1) × (g ≡ f)
+  pub entering : k % 3 ≡ 1 → (vs : List ℕ) × (x ≡ does (enters f vs))
+  pub entered : (g : ℕ) (vs : List ℕ) → x ≡ does (enters g vs) → (k % 3 ≡ 1) × (g ≡ f)
   -- "the third, sixth and so on leave it", and no other does
-  pub leaving : k % 3 ≡ 2 → (v : ℕ) × (actOf t s c ≡ does (leaves f v))
-  pub left : (g v : ℕ) → actOf t s c ≡ does (leaves g v) → (k % 3 ≡ 2) × (g ≡ f)
+  pub leaving : k % 3 ≡ 2 → (v : ℕ) × (x ≡ does (leaves f v))
+  pub left : (g v : ℕ) → x ≡ does (leaves g v) → (k % 3 ≡ 2) × (g ≡ f)
 
 -- under any tags, changing at every step, "its table being the table of every step"; s is the state of a start with these arguments
 pub record UnderAnyTags (t args : List ℕ) (s : State512) (asked : List (Ask (List ℕ))) : Type 0 where
@@ -36,7 +38,7 @@ pub record UnderAnyTags (t args : List ℕ) (s : State512) (asked : List (Ask (L
   -- the count and the rules agree: of the steps taken at a call, those that enter and those that leave
   pub phases : (c f : ℕ) → 1 ≤ c → c ≤ nodes t → calls (exprAt t c) f ≡ true
       → (tags : List ℕ) → Possible t tags (playsOf t s asked .state) c
-      → Phases t (playsOf t s asked .state) c f (count c (playsOf t s asked .nodes))
+      → Phases (actOf t (playsOf t s asked .state) c) f (count c (playsOf t s asked .nodes))
   -- main has answered exactly if its root is done, and with its value
   pub answered-done : (v : ℕ) → Answers (playsOf t s asked) v → MainDone t (playsOf t s asked .state)
       × (mainValue t (playsOf t s asked .state) ≡ v)
@@ -76,9 +78,9 @@ AgreePast t s s′ = Agree (λ n. nodes t < n) (λ f. functions t < f) (view s) 
 -- a run over the list ms, after steps asked at the numbers `ns` from a start, and what it tells
 -- "The steps of a run are such steps, and the number it tells is that of the steps taken in it"
 pub record RunDemand (t tags : List ℕ) (s : State512) (ns ms : List ℕ) (r : Ran) : Type 0 where
-  pub state : r .state ≡ playOf t tags s (ns ++ take (r .taken) ms) .state
-  pub steps : playOf t tags s (ns ++ take (r .taken) ms) .nodes ≡ playOf t tags s ns .nodes ++ take (r .taken) ms
-  pub number : r .taken ≡ length (take (r .taken) ms)
+  pub state : r .state ≡ playOf t tags s (ns ++ take (r .steps) ms) .state
+  pub steps : playOf t tags s (ns ++ take (r .steps) ms) .nodes ≡ playOf t tags s ns .nodes ++ take (r .steps) ms
+  pub number : r .steps ≡ length (take (r .steps) ms)
 
 -- a run with a budget, after steps asked at the numbers `ns` from a start; it picks the steps `picked`
 pub record DriveDemand (t tags args : List ℕ) (s : State512) (ns : List ℕ) (r : Driven) : Type 0 where
@@ -86,9 +88,9 @@ pub record DriveDemand (t tags args : List ℕ) (s : State512) (ns : List ℕ) (
   -- "The steps of a run are such steps, and the number it tells is that of the steps taken in it"
   pub state : r .state ≡ playOf t tags s (ns ++ picked) .state
   pub steps : playOf t tags s (ns ++ picked) .nodes ≡ playOf t tags s ns .nodes ++ picked
-  pub number : r .taken ≡ length picked
+  pub number : r .steps ≡ length picked
   -- its answer is the reading's, and all steps since the start are its count
-  pub right : (v : ℕ) → r .ended ≡ gave v → ReadsTo t args v (length (playOf t tags s ns .nodes) + r .taken)
+  pub right : (v : ℕ) → r .ended ≡ gave v → ReadsTo t args v (length (playOf t tags s ns .nodes) + r .steps)
   -- it never says at rest: before main answers some step is possible, and an answer is looked at first
   pub never-rests : r .ended ≡ atRest → ⊥
   pub never-barred : (number place : ℕ) → r .ended ≡ barred number place → ⊥
@@ -104,6 +106,55 @@ Words l = (i : ℕ) → Word (getD l i 0)
 abbrev pub Bytes : List ℕ → Type 0
 Bytes t = (i : ℕ) → getD t i 0 < 256
 
+-- values and registers are 32-bit
 pub record Fits (s : State512) : Type 0 where
   pub value : Words (s .value)
   pub registers : Words (s .registers)
+
+-- every accepted table starts with its own list and main's number of arguments ..
+abbrev pub OwnStart : Type 0
+OwnStart = (t args : List ℕ) (F N : ℕ) → checkOf t ≡ accepted F N → length args ≡ params t (functions t)
+    → startOf t (tagsOf t) args ≡ started (circuitStart (functions t) (bodyOf t) args)
+
+-- .. and the demand holds of that circuit, with no premise on the list
+abbrev pub OwnList : Type 0
+OwnList = (t args : List ℕ) (s : State512) → startOf t (tagsOf t) args ≡ started s → (ns : List ℕ) → DemandThree t (tagsOf t) args s ns
+
+-- the plain reading has one value and one count ..
+abbrev pub ReadingUnique : Type 0
+ReadingUnique = (t args : List ℕ) (v w k l : ℕ) → ReadsTo t args v k → ReadsTo t args w l → (v ≡ w) × (k ≡ l)
+
+-- .. and its value is a word, where table and arguments are
+abbrev pub ReadingWord : Type 0
+ReadingWord = (t args : List ℕ) (F N : ℕ) → checkOf t ≡ accepted F N → Bytes t → Words args → (v k : ℕ) → ReadsTo t args v k → Word v
+
+-- from a start with words every state is one of words, whatever the tags
+abbrev pub FitsFromStart : Type 0
+FitsFromStart = (t tags args : List ℕ) (s : State512) → startOf t tags args ≡ started s → Bytes t → Words args
+    → (asked : List (Ask (List ℕ))) → Fits (playsOf t s asked .state)
+
+-- of every state, also one that no start leads to
+pub record InAnyState (t tags : List ℕ) : Type 0 where
+  -- "A step ignores .. state entries past F and N": two states that agree up to them get one answer, and agree after it
+  pub step-ignores : (s s′ : State512) → Sized s → Sized s′ → AgreeWithin t s s′ → (n : ℕ)
+      → (stepOf t tags s n .answer ≡ stepOf t tags s′ n .answer) × AgreeWithin t (stepOf t tags s n .state) (stepOf t tags s′ n .state)
+  -- ".. and keeps" them
+  pub step-keeps : (s : State512) → Sized s → (n : ℕ) → AgreePast t s (stepOf t tags s n .state)
+  -- "The state is unchanged by a refusal"
+  pub refused-unchanged : (s : State512) (n k p : ℕ) → stepOf t tags s n .answer ≡ denied k p → stepOf t tags s n ≡ refusal s k p
+  -- a step keeps a state of words
+  pub step-fits : Bytes t → (s : State512) → Fits s → (n : ℕ) → Fits (stepOf t tags s n .state)
+  -- "once main's root is done the query says none"
+  pub query-over : (s : State512) (F N : ℕ) → standing t tags s ≡ accepted F N → MainDone t s → (r : Found) → Finds t tags s r → r ≡ nothing
+  -- "stops at the first refusal, and tells the steps taken and that refusal, if any", where table, tags and 24 are passed
+  pub run-plays : (s : State512) (ns : List ℕ) (F N : ℕ) → standing t tags s ≡ accepted F N → RunPlays t tags s ns (runOf t tags s ns)
+
+-- query and runs after steps asked at the numbers ns from a start; s is the state of a start with these arguments
+pub record AfterSteps (t tags args : List ℕ) (s : State512) (ns : List ℕ) : Type 0 where
+  -- a run over a list ms, and its steps as steps since the start
+  pub start-run : (ms : List ℕ) → RunPlays t tags (playOf t tags s ns .state) ms (runOf t tags (playOf t tags s ns .state) ms)
+  pub run-demand : (ms : List ℕ) → RunDemand t tags s ns ms (runOf t tags (playOf t tags s ns .state) ms)
+  -- a query says none only after the answer
+  pub start-query : Finds t tags (playOf t tags s ns .state) nothing → (v : ℕ) × Answers (playOf t tags s ns) v
+  -- a run with a budget
+  pub drive-demand : (budget : ℕ) (r : Driven) → Drives t tags (playOf t tags s ns .state) budget r → DriveDemand t tags args s ns r

@@ -8,7 +8,7 @@ use Rattle.table.specs.Bytes.{functions}
 use Rattle.list.specs.Tags.{Holding}
 use Rattle.rules.specs.Reading.{ReadsTo}
 use Rattle.rules.specs.State.{State512, In}
-use Rattle.rules.specs.Step.{answered, refused}
+use Rattle.rules.specs.Step.{answered, denied}
 use Rattle.rules.specs.Play.{Log}
 use Rattle.rules.specs.Circuit.{started, startOf, playOf, entriesOf, leavingsOf, Possible}
 
@@ -20,7 +20,7 @@ Answers l v = In (answered v) (l .answers)
 -- 0 and above N too"; s is the state of a start with these arguments
 pub record DemandThree (t tags args : List ℕ) (s : State512) (ns : List ℕ) : Type 0 where
   -- no step is refused 23: no call that waits at an occupied resource is without an arbiter
-  pub arbitrated : (place : ℕ) → In (refused 23 place) (playOf t tags s ns .answers) → ⊥
+  pub arbitrated : (place : ℕ) → In (denied 23 place) (playOf t tags s ns .answers) → ⊥
   -- "a resource's entries are never more than one above its leavings": after every prefix of the list
   pub exclusive : (k f : ℕ) → 1 ≤ f → f ≤ functions t
       → entriesOf t f (playOf t tags s (take k ns) .nodes) ≤ leavingsOf t f (playOf t tags s (take k ns) .nodes) + 1

@@ -7,18 +7,18 @@ use Rattle.table.specs.Syntax.{Expr, const, param, prim, call, self, cond, bind
 use Rattle.table.specs.Pick.{pick}
 use Rattle.table.specs.Find.{total}
 use Rattle.rules.specs.State.{State512}
-use Rattle.rules.specs.Step.{Reply, taken, answered, refused, Stepped}
+use Rattle.rules.specs.Step.{Reply, taken, answered, denied, Stepped}
 
 -- "A step is taken if it isn't refused; the one that answers is taken too"
-abbrev pub Accepted : Reply → Type 0
-Accepted taken = Unit {0}
-Accepted (answered v) = Unit {0}
-Accepted (refused k p) = ⊥
+abbrev pub IsTaken : Reply → Type 0
+IsTaken taken = Unit {0}
+IsTaken (answered v) = Unit {0}
+IsTaken (denied k p) = ⊥
 
 abbrev pub noted : Reply → ℕ → List ℕ → List ℕ
 noted taken n ns = n ∷ ns
 noted (answered v) n ns = n ∷ ns
-noted (refused k p) n ns = ns
+noted (denied k p) n ns = ns
 
 -- a step asked at a number, under the tags that it is asked with
 pub record Ask (T : Type 0) : Type 0 where

@@ -7,13 +7,12 @@ use mathlib.Core.List.{List, [], _∷_}
 use lib.ListN.{length, getD, take}
 use Rattle.table.specs.Syntax.{id}
 use Rattle.table.specs.Bytes.{functions, nodes}
-use Rattle.table.specs.Check.{Verdict, accepted, stage}
+use Rattle.table.specs.Check.{Verdict, accepted, stage, refused}
 use Rattle.table.specs.Expressions.{bodyOf}
 use Rattle.list.specs.Tags.{after, checkWith}
 use Rattle.rules.specs.State.{State512, view}
-use Rattle.rules.specs.Step.{Reply, taken, answered, refused, refusal, Stepped, over}
+use Rattle.rules.specs.Step.{Reply, taken, answered, denied, refusal, Stepped, over}
 use Rattle.rules.specs.Circuit.{stepOf, playOf, Possible}
-use Rattle.table.specs.Check as TableCheck
 
 -- "Query and runs check table, tags and 24 before anything else"
 unfoldable pub standing : (t tags : List ℕ) → State512 → Verdict
@@ -28,25 +27,25 @@ pub data Halt : Type 0 where
   stopped : (number place : ℕ) → Halt
 
 pub record Ran : Type 0 where
-  pub taken : ℕ
+  pub steps : ℕ
   pub halt : Halt
   pub state : State512
 
 -- a step, and the run after it: "stops at the first refusal"
 abbrev pub andThen : Stepped → Reply → Ran → Ran
-andThen r taken l = record { taken = suc (l .taken); halt = l .halt; state = l .state }
-andThen r (answered v) l = record { taken = suc (l .taken); halt = l .halt; state = l .state }
-andThen r (refused k p) l = record { taken = 0; halt = stopped k p; state = r .state }
+andThen r taken l = record { steps = suc (l .steps); halt = l .halt; state = l .state }
+andThen r (answered v) l = record { steps = suc (l .steps); halt = l .halt; state = l .state }
+andThen r (denied k p) l = record { steps = 0; halt = stopped k p; state = r .state }
 
 unfoldable pub runFrom : (t tags : List ℕ) → State512 → List ℕ → Ran
-runFrom t tags s [] = record { taken = 0; halt = whole; state = s }
+runFrom t tags s [] = record { steps = 0; halt = whole; state = s }
 runFrom t tags s (n ∷ ns) =
     let r : Stepped = stepOf t tags s n in
     andThen r (r .answer) (runFrom t tags (r .state) ns)
 
 abbrev pub runAfter : Verdict → State512 → Ran → Ran
 runAfter (accepted F N) s r = r
-runAfter (TableCheck.refused number place) s r = record { taken = 0; halt = stopped number place; state = s }
+runAfter (refused number place) s r = record { steps = 0; halt = stopped number place; state = s }
 
 -- "A run takes a list of nodes, stops at the first refusal, and tells the steps taken and that refusal, if any"
 unfoldable pub runOf : (t tags : List ℕ) → State512 → List ℕ → Ran
@@ -54,13 +53,13 @@ runOf t tags s ns = runAfter (standing t tags s) s (runFrom t tags s ns)
 
 -- "The steps of a run are such steps, and the number it tells is that of the steps taken in it": of a run r over ns from s
 pub record RunPlays (t tags : List ℕ) (s : State512) (ns : List ℕ) (r : Ran) : Type 0 where
-  pub steps : playOf t tags s (take (r .taken) ns) .nodes ≡ take (r .taken) ns
-  pub number : length (take (r .taken) ns) ≡ r .taken
-  pub state : playOf t tags s (take (r .taken) ns) .state ≡ r .state
+  pub steps : playOf t tags s (take (r .steps) ns) .nodes ≡ take (r .steps) ns
+  pub number : length (take (r .steps) ns) ≡ r .steps
+  pub state : playOf t tags s (take (r .steps) ns) .state ≡ r .state
   -- to the end of the list, or the next step asked is refused
-  pub all : r .halt ≡ whole → r .taken ≡ length ns
+  pub all : r .halt ≡ whole → r .steps ≡ length ns
   pub next : (k p : ℕ) → r .halt ≡ stopped k p
-      → (r .taken < length ns) × (stepOf t tags (r .state) (getD ns (r .taken) 0) ≡ refusal (r .state) k p)
+      → (r .steps < length ns) × (stepOf t tags (r .state) (getD ns (r .steps) 0) ≡ refusal (r .state) k p)
 
 -- main's root is done, and its value
 abbrev pub MainDone : (t : List ℕ) → State512 → Type 0
@@ -77,13 +76,13 @@ pub data Ended : Type 0 where
   barred : (number place : ℕ) → Ended
 
 pub record Driven : Type 0 where
-  pub taken : ℕ
+  pub steps : ℕ
   pub ended : Ended
   pub state : State512
 
 -- "says answered (looked at first, also before any step), at rest (looked at second, exactly if no step is possible), or spent,
 -- the last only after exactly that many steps", of the state s that it ends in
-abbrev pub Says : (t tags : List ℕ) → (budget taken : ℕ) → State512 → Ended → Type 0
+abbrev pub Says : (t tags : List ℕ) → (budget steps : ℕ) → State512 → Ended → Type 0
 Says t tags budget k s (gave v) = MainDone t s × (mainValue t s ≡ v)
 Says t tags budget k s atRest = (MainDone t s → ⊥) × ((n : ℕ) → Possible t tags s n → ⊥)
 Says t tags budget k s spent = (MainDone t s → ⊥) × ((n : ℕ) × Possible t tags s n) × (k ≡ budget)
@@ -93,14 +92,14 @@ Says t tags budget k s (barred number place) = ⊥
 pub record Picks (t tags : List ℕ) (s : State512) (budget : ℕ) (r : Driven) : Type 0 where
   pub picked : List ℕ
   pub possible : playOf t tags s picked .nodes ≡ picked
-  pub number : length picked ≡ r .taken
-  pub within : r .taken ≤ budget
+  pub number : length picked ≡ r .steps
+  pub within : r .steps ≤ budget
   pub state : playOf t tags s picked .state ≡ r .state
-  pub says : Says t tags budget (r .taken) (r .state) (r .ended)
+  pub says : Says t tags budget (r .steps) (r .state) (r .ended)
 
 abbrev pub DrivesAfter : Verdict → (t tags : List ℕ) → State512 → (budget : ℕ) → Driven → Type 0
 DrivesAfter (accepted F N) t tags s budget r = Picks t tags s budget r
-DrivesAfter (TableCheck.refused number place) t tags s budget r = r ≡ record { taken = 0; ended = barred number place; state = s }
+DrivesAfter (refused number place) t tags s budget r = r ≡ record { steps = 0; ended = barred number place; state = s }
 
 -- what is true of a run with a budget
 abbrev pub Drives : (t tags : List ℕ) → State512 → (budget : ℕ) → Driven → Type 0
@@ -116,7 +115,7 @@ abbrev pub FindsAfter : Verdict → (t tags : List ℕ) → State512 → Found �
 FindsAfter (accepted F N) t tags s (names n) = Possible t tags s n
 FindsAfter (accepted F N) t tags s nothing = (n : ℕ) → Possible t tags s n → ⊥
 FindsAfter (accepted F N) t tags s (unasked number place) = ⊥
-FindsAfter (TableCheck.refused number place) t tags s r = r ≡ unasked number place
+FindsAfter (refused number place) t tags s r = r ≡ unasked number place
 
 -- "A query names a possible step, any one, or none exactly if there is none"
 abbrev pub Finds : (t tags : List ℕ) → State512 → Found → Type 0

@@ -12,7 +12,7 @@ use Rattle.rules.specs.State.{State512, View, entry, write, view, fill, 
 pub data Reply : Type 0 where
   taken : Reply
   answered : (v : ℕ) → Reply
-  refused : (number place : ℕ) → Reply
+  denied : (number place : ℕ) → Reply
 
 -- what a step does at its node
 pub data Move : Type 0 where
@@ -147,7 +147,7 @@ pub record Stepped : Type 0 where
 
 -- "The state is unchanged by a refusal"
 abbrev pub refusal : State512 → (number place : ℕ) → Stepped
-refusal s k p = record { answer = refused k p; state = s }
+refusal s k p = record { answer = denied k p; state = s }
 
 module _ (apply : ℕ → List ℕ → ℕ) (F N : ℕ) (body at : ℕ → Expr) (home : ℕ → ℕ) where
   -- 21 "no step, for a cause other than 22 or 23"; 22 "tagged call ..", 23 "the same, untagged";

@@ -18,7 +18,7 @@ use Rattle.table.proofs.View.{View, is-const, is-param, is-prim, is-cal
 use Rattle.table.proofs.NodePlaces.{rise-node, sub-at, in-body, node-owner}
 use Rattle.table.proofs.NumbersApart.{apart-at}
 use Rattle.table.proofs.Tails.{tail-body}
-use Rattle.table.proofs.Scopes.{fits-body}
+use Rattle.table.proofs.Scopes.{sees-body}
 
 module _ (t : List ℕ) (ok : Passed t) where
   abbrev lk : Linked t
@@ -55,12 +55,12 @@ module _ (t : List ℕ) (ok : Passed t) where
 
   pub well : Well (functions t) (bodyOf t)
   well = record {
-    apart = λ f a b. apart-body f (a, b);
-    owner = λ f g m a b c d p q. sym (node-owner t ok f m (a, b) p .1) ∙ node-owner t ok g m (c, d) q .1;
-    nonzero = λ f m a b p z. omega (arith, z, node-owner t ok f m (a, b) p .0 .0);
-    below = λ f c g a b p. calls-below f c g (a, b) p;
-    tail = λ f a b. tail-body t ok f (a, b);
-    fits = λ f s a b. fits-body t ok s f (a, b);
+    apart = apart-body;
+    owner = λ f g m i j p q. sym (node-owner t ok f m i p .1) ∙ node-owner t ok g m j q .1;
+    nonzero = λ f m i p z. omega (arith, z, node-owner t ok f m i p .0 .0);
+    below = calls-below;
+    tail = tail-body t ok;
+    sees = λ f s i. sees-body t ok s f i;
   }
 
   -- a part of a body is the expression of its own number

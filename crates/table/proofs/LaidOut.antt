@@ -4,9 +4,8 @@ use mathlib.Core.Path.{_≡_, refl, subst, sym, ap, _∙_}
 use mathlib.Core.List.{List}
 use native.Mathlib.Omega.{arith}
 use lib.ListN.{length}
-use Rattle.table.specs.Pick.{Range}
-use Rattle.table.specs.Syntax.{Expr, Sub, Exprs, call, none, some, id, size, width, roots}
-use Rattle.table.specs.Well.{Laid, CallIn}
+use Rattle.table.specs.Syntax.{Expr, Sub, Exprs, call, none, some, id, size, arity, roots}
+use Rattle.table.specs.Well.{Fn, Laid, CallIn}
 use Rattle.table.proofs.CallPlaces.{call-node, call-at}
 use Rattle.table.specs.Bytes.{functions, nodes, params, word, first}
 use Rattle.table.specs.Naming.{owner, children}
@@ -30,10 +29,10 @@ module _ (t : List ℕ) (ok : Passed t) where
   few n f i j h = subst (λ k. k ≤ 8) (sym h ∙ ap length (sym (roots-kids t ok n i)) ∙ length-roots (exprsAt t (first t n)))
       (params-small t ok f j)
 
-  narrow-at : (n : ℕ) → IsNode t n → width (exprAt t n) ≤ 8
+  narrow-at : (n : ℕ) → IsNode t n → arity (exprAt t n) ≤ 8
   narrow-at n i = go (view t ok n i) (owner-in t (ok .linking) n i)
     where
-      go : View t n → IsFunction t (owner t n) → width (exprAt t n) ≤ 8
+      go : View t n → IsFunction t (owner t n) → arity (exprAt t n) ≤ 8
       go (is-const k z e) o = rw e (omega arith)
       go (is-param k z l e) o = rw e (omega arith)
       go (is-prim k q e) o = rw e (omega arith)
@@ -49,13 +48,13 @@ module _ (t : List ℕ) (ok : Passed t) where
     functions = ok .F-high;
     nodes = ok .N-high;
     well = well t ok;
-    home-there = λ n a b. owner-in t (ok .linking) n (a, b);
-    placed = λ n a b. in-body t ok n (a, b);
-    number = λ n a b. id-at t ok n (a, b);
-    inside = λ f m a b k. let r = node-owner t ok f m (a, b) k in (r .1, r .0 .0, r .0 .1);
-    narrow = λ f u a b s.
-        let r = part-is t ok f (a, b) u s in
-        subst (λ x. width x ≤ 8) (sym (r .0)) (narrow-at (id u) (r .1));
+    home-there = owner-in t (ok .linking);
+    placed = in-body t ok;
+    number = id-at t ok;
+    inside = λ f m i k. let r = node-owner t ok f m i k in (r .1, r .0 .0, r .0 .1);
+    narrow = λ f u i s.
+        let r = part-is t ok f i u s in
+        subst (λ x. arity x ≤ 8) (sym (r .0)) (narrow-at (id u) (r .1));
   }
 
 -- the check's own F and N are the table's
@@ -64,8 +63,8 @@ laid t F N e = by-size t (passed t F N e .0)
 
 -- a call node, by its number
 module _ {F N : ℕ} {body at : ℕ → Expr} {home : ℕ → ℕ} (laid : Laid F N body at home) where
-  pub call-here : (f c g : ℕ) → Range F f → CallIn c g (body f) → (es : Exprs) × (at c ≡ call c g es)
+  pub call-here : (f c g : ℕ) → Fn F body f → CallIn c g (body f) → (es : Exprs) × (at c ≡ call c g es)
   call-here f c g q i =
-      let o = laid .inside f c (q .0) (q .1) (call-node c g (body f) i) in
-      call-at (at c) c g (laid .number c (o .1) (o .2)) (body f) (laid .well .apart f (q .0) (q .1)) i
-      (subst (λ x. Sub (at c) (body x)) (o .0) (laid .placed c (o .1) (o .2)))
+      let o = laid .inside f c q (call-node c g (body f) i) in
+      call-at (at c) c g (laid .number c (o .1, o .2)) (body f) (laid .well .apart f q) i
+      (subst (λ x. Sub (at c) (body x)) (o .0) (laid .placed c (o .1, o .2)))

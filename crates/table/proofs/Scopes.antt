@@ -11,7 +11,7 @@ use borrow.Author.Tests.{eq-eqb, ne-eqb}
 use Rattle.table.specs.Syntax.{Expr, Exprs, const, none, some, id}
 use Rattle.table.specs.Pick.{pick}
 use Rattle.table.specs.Environment.{extend, values}
-use Rattle.table.specs.Well.{Fits, Fits*}
+use Rattle.table.specs.Well.{Sees, Sees*}
 use Rattle.table.specs.Bytes.{nodes, root, kind, word, first, next}
 use Rattle.table.specs.Find.{backBy, back}
 use Rattle.table.proofs.FindLaws.{both, pair, either, same, isnt, back-step}
@@ -143,34 +143,34 @@ module _ (t : List ℕ) (ok : Passed t) where
     abbrev pub Holds : ℕ → (ℕ → ℕ) → Type 0
     Holds n ρ = (d : ℕ) → T (inScope t d n) → ρ d ≡ value d
 
-    abbrev pub Fitting : ℕ → Type 0
-    Fitting n = (ρ : ℕ → ℕ) → Holds n ρ → Fits value (exprAt t n) ρ
+    abbrev pub Seeing : ℕ → Type 0
+    Seeing n = (ρ : ℕ → ℕ) → Holds n ρ → Sees value (exprAt t n) ρ
 
-    step : (n : ℕ) → IsNode t n → ((m : ℕ) → n < m → m ≤ nodes t → Fitting m) → Fitting n
+    step : (n : ℕ) → IsNode t n → ((m : ℕ) → n < m → m ≤ nodes t → Seeing m) → Seeing n
     step n i f ρ h = go (view t ok n i)
       where
-        at : (c : ℕ) → IsNode t c → parent t c ≡ n → Fitting c
+        at : (c : ℕ) → IsNode t c → parent t c ≡ n → Seeing c
         at c j e = f c (omega (arith, parent-lower t c (j .0), e)) (j .1)
 
         -- a child that is no let'value body sees what its parent sees
-        same-scope : (c : ℕ) → IsNode t c → parent t c ≡ n → ((kind t n ≡ 6) → next t c ≡ 0 → ⊥) → Fits value (exprAt t c) ρ
+        same-scope : (c : ℕ) → IsNode t c → parent t c ≡ n → ((kind t n ≡ 6) → next t c ≡ 0 → ⊥) → Sees value (exprAt t c) ρ
         same-scope c j e q =
             at c j e ρ (λ d x. ⊎-elim (λ p. absurd (q (sym (ap (kind t) (p .1)) ∙ p .0 .of-let) (p .2))) (λ y. h d y)
             (scope-down t d n c (j .0) e x))
 
-        all : (kind t n ≡ 6 → ⊥) → Fits* value (exprsAt t (first t n)) ρ
-        all q = kids t lk n (λ c es. Fits* value es ρ) tt (λ c j e g. (same-scope c j e (λ x y. q x), g)) n i refl
+        all : (kind t n ≡ 6 → ⊥) → Sees* value (exprsAt t (first t n)) ρ
+        all q = kids t lk n (λ c es. Sees* value es ρ) tt (λ c j e g. (same-scope c j e (λ x y. q x), g)) n i refl
 
-        fit : (e : Expr) → exprAt t n ≡ e → Fits value e ρ → Fits value (exprAt t n) ρ
-        fit e p x = subst (λ y. Fits value y ρ) (sym p) x
+        fit : (e : Expr) → exprAt t n ≡ e → Sees value e ρ → Sees value (exprAt t n) ρ
+        fit e p x = subst (λ y. Sees value y ρ) (sym p) x
 
-        go : View t n → Fits value (exprAt t n) ρ
+        go : View t n → Sees value (exprAt t n) ρ
         go (is-const k z e) = fit (const n (word t n)) e tt
-        go (is-param k z l e) = subst (λ y. Fits value y ρ) (sym e) tt
-        go (is-prim k c e) = subst (λ y. Fits value y ρ) (sym e) (all (λ x. omega (arith, x, k)))
-        go (is-call k l q c e) = subst (λ y. Fits value y ρ) (sym e) (all (λ x. omega (arith, x, k)))
-        go (is-self k w l c e) = subst (λ y. Fits value y ρ) (sym e) (all (λ x. omega (arith, x, k)))
-        go (is-cond k a b c z e) = subst (λ y. Fits value y ρ) (sym e) (
+        go (is-param k z l e) = subst (λ y. Sees value y ρ) (sym e) tt
+        go (is-prim k c e) = subst (λ y. Sees value y ρ) (sym e) (all (λ x. omega (arith, x, k)))
+        go (is-call k l q c e) = subst (λ y. Sees value y ρ) (sym e) (all (λ x. omega (arith, x, k)))
+        go (is-self k w l c e) = subst (λ y. Sees value y ρ) (sym e) (all (λ x. omega (arith, x, k)))
+        go (is-cond k a b c z e) = subst (λ y. Sees value y ρ) (sym e) (
           same-scope (first t n) a pa (λ x y. omega (arith, x, k)),
           same-scope (thenAt t n) b pb (λ x y. omega (arith, x, k)),
           same-scope (elseAt t n) c pc (λ x y. omega (arith, x, k)),
@@ -184,8 +184,8 @@ module _ (t : List ℕ) (ok : Passed t) where
 
             pc : parent t (elseAt t n) ≡ n
             pc = parent-next t lk (thenAt t n) b (λ z. omega (arith, z, c .0)) ∙ pb
-        go (is-bind k a b c e) = subst (λ y. Fits value y ρ) (sym e)
-            (defs, subst (λ y. Fits value y ρ′) (sym (fin .is)) (at (fin .at) (fin .node) pf ρ′ held))
+        go (is-bind k a b c e) = subst (λ y. Sees value y ρ) (sym e)
+            (defs, subst (λ y. Sees value y ρ′) (sym (fin .is)) (at (fin .at) (fin .node) pf ρ′ held))
           where
             ds : Exprs
             ds = defsAt t (first t n)
@@ -202,21 +202,21 @@ module _ (t : List ℕ) (ok : Passed t) where
             pf : parent t (fin .at) ≡ n
             pf = fin .sibling ∙ pa
 
-            defs : Fits* value ds ρ
-            defs = defs-along t lk n (λ es. Fits* value es ρ) tt (λ c j e z g. (same-scope c j e (λ x y. z y), g)) (first t n) a pa
+            defs : Sees* value ds ρ
+            defs = defs-along t lk n (λ es. Sees* value es ρ) tt (λ c j e z g. (same-scope c j e (λ x y. z y), g)) (first t n) a pa
 
             held : Holds (fin .at) ρ′
             held d x = ⊎-elim
                 (λ p. extend-new value ρ d ds (subst (λ m. Defines d (defsAt t (first t m))) (p .1) (defined d (p .0))))
                 (λ y. extend-old value ρ d ds (h d y))
                 (scope-down t d n (fin .at) (fin .node .0) pf x)
-        go (is-bound k z l e) = subst (λ y. Fits value y ρ) (sym e) (h (word t n) l)
+        go (is-bound k z l e) = subst (λ y. Sees value y ρ) (sym e) (h (word t n) l)
 
-    pub fitting : (n : ℕ) → IsNode t n → Fitting n
-    fitting = backwards t lk Fitting step
+    pub fitting : (n : ℕ) → IsNode t n → Seeing n
+    fitting = backwards t lk Seeing step
 
-    pub fits-body : (f : ℕ) → IsFunction t f → Fits value (bodyOf t f) (λ d. 0)
+    pub sees-body : (f : ℕ) → IsFunction t f → Sees value (bodyOf t f) (λ d. 0)
     unfolding bodyOf
-    fits-body f i =
+    sees-body f i =
         let r = lk .roots f i in
         fitting (root t f) r (λ d. 0) (λ d x. absurd (scope-root t d (root t f) (r .0) (parent-root t lk f i) x))

@@ -88,12 +88,12 @@ size none = 0
 size (some e es) = suc (size es)
 
 -- the number of arguments of a call or a self call
-abbrev pub width : Expr → ℕ
-width (const n v) = 0
-width (param n i) = 0
-width (prim n op es) = 0
-width (call n g es) = size es
-width (self n es) = size es
-width (cond n a b c) = 0
-width (bind n ds b) = 0
-width (bound n d) = 0
+abbrev pub arity : Expr → ℕ
+arity (const n v) = 0
+arity (param n i) = 0
+arity (prim n op es) = 0
+arity (call n g es) = size es
+arity (self n es) = size es
+arity (cond n a b c) = 0
+arity (bind n ds b) = 0
+arity (bound n d) = 0

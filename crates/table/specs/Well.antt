@@ -3,8 +3,9 @@ use Prim.Native.Nat.{ℕ, _≤_, _<_}
 use mathlib.Core.Path.{_≡_}
 use mathlib.Core.Logic.{_⊎_}
 use Rattle.table.specs.Syntax.{Expr, Exprs, const, param, prim, call, self, cond, bind, bound, none, some, id, Node, Node*, Sub}
-use Rattle.table.specs.Syntax.{width}
+use Rattle.table.specs.Syntax.{arity}
 use Rattle.table.specs.Environment.{values, extend}
+use Rattle.table.specs.Pick.{Range}
 
 -- the numbers in an expression differ from each other
 abbrev pub Apart₂ : (ℕ → Type 0) → (ℕ → Type 0) → Type 0
@@ -71,36 +72,40 @@ Tail (bound n d) = Unit {0}
 -- the state holds what the environment says of each definiens in scope
 module _ (value : ℕ → ℕ) where
   abbrev mutual
-    pub Fits : Expr → (ℕ → ℕ) → Type 0
-    Fits (const n v) ρ = Unit {0}
-    Fits (param n i) ρ = Unit {0}
-    Fits (prim n op es) ρ = Fits* es ρ
-    Fits (call n g es) ρ = Fits* es ρ
-    Fits (self n es) ρ = Fits* es ρ
-    Fits (cond n a b c) ρ = Fits a ρ × Fits b ρ × Fits c ρ
-    Fits (bind n ds b) ρ = Fits* ds ρ × Fits b (extend ds (values value ds) ρ)
-    Fits (bound n d) ρ = ρ d ≡ value d
+    pub Sees : Expr → (ℕ → ℕ) → Type 0
+    Sees (const n v) ρ = Unit {0}
+    Sees (param n i) ρ = Unit {0}
+    Sees (prim n op es) ρ = Sees* es ρ
+    Sees (call n g es) ρ = Sees* es ρ
+    Sees (self n es) ρ = Sees* es ρ
+    Sees (cond n a b c) ρ = Sees a ρ × Sees b ρ × Sees c ρ
+    Sees (bind n ds b) ρ = Sees* ds ρ × Sees b (extend ds (values value ds) ρ)
+    Sees (bound n d) ρ = ρ d ≡ value d
 
-    pub Fits* : Exprs → (ℕ → ℕ) → Type 0
-    Fits* none ρ = Unit {0}
-    Fits* (some e es) ρ = Fits e ρ × Fits* es ρ
+    pub Sees* : Exprs → (ℕ → ℕ) → Type 0
+    Sees* none ρ = Unit {0}
+    Sees* (some e es) ρ = Sees e ρ × Sees* es ρ
+
+-- f is a function with a body
+abbrev pub Fn : ℕ → (ℕ → Expr) → ℕ → Type 0
+Fn F body f = Range F f
 
 -- what the check of a table ensures
 pub record Well (F : ℕ) (body : ℕ → Expr) : Type 0 where
-  pub apart : (f : ℕ) → 1 ≤ f → f ≤ F → Apart (body f)
-  pub owner : (f g m : ℕ) → 1 ≤ f → f ≤ F → 1 ≤ g → g ≤ F → Node m (body f) → Node m (body g) → f ≡ g
-  pub nonzero : (f m : ℕ) → 1 ≤ f → f ≤ F → Node m (body f) → m ≡ 0 → ⊥
-  pub below : (f c g : ℕ) → 1 ≤ f → f ≤ F → CallIn c g (body f) → (1 ≤ g) × (g < f)
-  pub tail : (f : ℕ) → 1 ≤ f → f ≤ F → Tail (body f)
-  pub fits : (f : ℕ) (value : ℕ → ℕ) → 1 ≤ f → f ≤ F → Fits value (body f) (λ d. 0)
+  pub apart : (f : ℕ) → Fn F body f → Apart (body f)
+  pub owner : (f g m : ℕ) → Fn F body f → Fn F body g → Node m (body f) → Node m (body g) → f ≡ g
+  pub nonzero : (f m : ℕ) → Fn F body f → Node m (body f) → m ≡ 0 → ⊥
+  pub below : (f c g : ℕ) → Fn F body f → CallIn c g (body f) → (1 ≤ g) × (g < f)
+  pub tail : (f : ℕ) → Fn F body f → Tail (body f)
+  pub sees : (f : ℕ) (value : ℕ → ℕ) → Fn F body f → Sees value (body f) (λ d. 0)
 
 pub record Laid (F N : ℕ) (body at : ℕ → Expr) (home : ℕ → ℕ) : Type 0 where
   pub some-function : 1 ≤ F
   pub functions : F ≤ 32
   pub nodes : N ≤ 512
   pub well : Well F body
-  pub home-there : (n : ℕ) → 1 ≤ n → n ≤ N → (1 ≤ home n) × (home n ≤ F)
-  pub placed : (n : ℕ) → 1 ≤ n → n ≤ N → Sub (at n) (body (home n))
-  pub number : (n : ℕ) → 1 ≤ n → n ≤ N → id (at n) ≡ n
-  pub inside : (f m : ℕ) → 1 ≤ f → f ≤ F → Node m (body f) → (home m ≡ f) × (1 ≤ m) × (m ≤ N)
-  pub narrow : (f : ℕ) (u : Expr) → 1 ≤ f → f ≤ F → Sub u (body f) → width u ≤ 8
+  pub home-there : (n : ℕ) → Range N n → Fn F body (home n)
+  pub placed : (n : ℕ) → Range N n → Sub (at n) (body (home n))
+  pub number : (n : ℕ) → Range N n → id (at n) ≡ n
+  pub inside : (f m : ℕ) → Fn F body f → Node m (body f) → (home m ≡ f) × (1 ≤ m) × (m ≤ N)
+  pub narrow : (f : ℕ) (u : Expr) → Fn F body f → Sub u (body f) → arity u ≤ 8
