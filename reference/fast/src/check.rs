@@ -1,10 +1,11 @@
-//! The table check in time linear in the table. What a node has to be is looked up and not branched on:
+//! The table check in one pass over the nodes. What a node has to be is looked up and not branched on:
 //! the kinds of neighbouring nodes are hard to foresee.
 
 use std::hint::select_unpredictable as select;
 
+use crate::rules::{rule, whole};
 use crate::{first, half, next, refusal, word, Parts};
-use crate::{BOUND, CALL, CONSTANT, IF, LET, MOST_FUNCTIONS, MOST_NODES, PARAMETER, PRIMITIVE};
+use crate::{BOUND, CALL, LET, MOST_FUNCTIONS, MOST_NODES, PARAMETER};
 
 /// 0 for an accepted table, else the refusal's number times 65536 plus its place.
 pub fn check(table: &[u8]) -> u32 {
@@ -24,13 +25,11 @@ pub(crate) fn survey(table: &[u8], survey: &mut Survey) -> u32 {
         return refusal(3, 0);
     }
     let parts = Parts::of(table);
-    if !survey.look_below(&parts) {
-        return links(&parts);
-    }
-    survey.sense(&parts)
+    survey.look(&parts).unwrap_or_else(|| links(&parts))
 }
 
-/// Refusal 4 where it applies.
+/// Refusal 4, which applies.
+#[cold]
 fn links(parts: &Parts) -> u32 {
     let nodes = parts.nodes();
     let mut named = [0u8; MOST_NODES + 1];
@@ -62,254 +61,178 @@ fn links(parts: &Parts) -> u32 {
     refusal(4, miscounted.map_or(lowest, |before| before + 1) as u32)
 }
 
-/// What is below a node, in one word: nodes at and below it, alone and with the siblings after it, how many siblings
-/// there are from it on, and the last of them. Children come after their holder, so it is filled from the last down.
-#[derive(Clone, Copy)]
-struct Below(u64);
-
-impl Below {
-    /// Stands for an empty chain.
-    const NONE: Below = Below(0);
-
-    fn new(node: usize, below: Below, after: Below, is_last: bool) -> Below {
-        let size = 1 + u64::from(below.span());
-        let last = select(is_last, (node as u64) << 48, 0);
-        Below((after.0 & !0xffff) + size * 0x1_0001 + (1 << 32) + last)
-    }
-
-    fn size(self) -> u16 {
-        self.0 as u16
-    }
-
-    fn span(self) -> u16 {
-        (self.0 >> 16) as u16
-    }
-
-    fn row(self) -> u16 {
-        (self.0 >> 32) as u16
-    }
-
-    fn last(self) -> usize {
-        (self.0 >> 48) as usize
-    }
-}
-
-/// What a node has from its holder, in one word: its place in preorder within the function, so that what is below a
-/// node is a range; which of the siblings are in tail position; the function; the holder's kind, 0 for a root.
-/// It goes from a node to its first child, and from a child to the next.
+/// What a node has from its holder, in one word, 0 while nobody has named it. It goes from a node to its first child,
+/// and from a child to the next. From the lowest bit: the function (8), which of the siblings are in tail position (3),
+/// the holder's kind (3, 0 for a root), how many children the holder may lack of the most it may have (3), the holder
+/// (10, from bit 20), the innermost let in whose body the node is (10, from bit 32), and how many siblings may still
+/// come (16).
 #[derive(Clone, Copy)]
 pub(crate) struct Above(u64);
+
+/// In tail position if it is the last sibling, if it is not the last, and if it comes after this one.
+const TAIL_LAST: u64 = 1 << 8;
+const TAIL_OTHER: u64 = 1 << 9;
+const TAIL_AFTER: u64 = 1 << 10;
+const KIND: u32 = 11;
+const LACKS: u32 = 14;
+const HOLDER: u32 = 20;
+const SCOPE: u32 = 32;
+const LEFT: u32 = 48;
 
 impl Above {
     const NONE: Above = Above(0);
 
-    fn root(function: usize) -> Above {
-        Above((function as u64) << 32 | ALL << 16)
+    const fn root(function: usize) -> Above {
+        Above(function as u64 | TAIL_LAST | TAIL_OTHER)
     }
 
-    fn first(self, kind: u8, in_tail: bool) -> Above {
-        let tail = select(in_tail, TAILS[usize::from(kind & 7)], NOT);
-        Above(((self.0 & 0xff_0000_ffff) + 1) | tail << 16 | u64::from(kind) << 48)
+    /// What every first child of such a node has, the node being in tail position and having at most so many children.
+    pub const fn below(kind: u8, fewest: u8, most: u8) -> Above {
+        let tail = match kind {
+            crate::IF => TAIL_AFTER,
+            LET => TAIL_LAST,
+            _ => 0,
+        };
+        let left = (most as u64).wrapping_sub(1) << LEFT;
+        Above(left | ((most - fewest) as u64) << LACKS | (kind as u64) << KIND | tail)
     }
 
-    fn next(self, size: u16) -> Above {
-        let settled = select(self.tail() == AFTER, (AFTER - ALL) << 16, 0);
-        Above(self.0 + u64::from(size) - settled)
+    fn next(self) -> Above {
+        let after = self.0 & TAIL_AFTER;
+        Above(self.0.wrapping_sub(1 << LEFT) | after >> 1 | after >> 2)
     }
 
-    fn place(self) -> u16 {
-        self.0 as u16
+    fn in_tail(self, is_last: bool) -> bool {
+        self.0 & select(is_last, TAIL_LAST, TAIL_OTHER) != 0
     }
 
-    fn tail(self) -> u64 {
-        self.0 >> 16 & 0xff
+    fn has_wrong_count(self) -> bool {
+        self.0 >> LEFT > self.0 >> LACKS & 7
     }
 
-    fn in_tail(self, next: usize) -> bool {
-        (self.tail() == ALL) | (self.tail() == LAST) & (next == 0)
+    fn scope(self) -> u16 {
+        (self.0 >> SCOPE & 0x3ff) as u16
     }
 
     pub fn owner(self) -> u8 {
-        (self.0 >> 32) as u8
+        self.0 as u8
     }
 
+    /// The holder's kind, 0 for a root.
     pub fn under(self) -> u8 {
-        (self.0 >> 48) as u8
+        (self.0 >> KIND & 7) as u8
+    }
+
+    /// The holder, 0 for a root.
+    pub fn holder(self) -> u16 {
+        (self.0 >> HOLDER & 0x3ff) as u16
     }
 }
 
-/// Which of a chain of siblings are in tail position: none, all, the last one as the body of a let,
-/// or those after this one as the branches of an if, seen from its condition.
-const NOT: u64 = 0;
-const ALL: u64 = 1;
-const LAST: u64 = 2;
-const AFTER: u64 = 3;
-
-/// What a node in tail position makes of its children, by kind.
-const TAILS: [u64; 8] = [NOT, NOT, NOT, NOT, NOT, AFTER, LAST, NOT];
-
-/// What the check learns of an accepted table.
+/// What the check learns of an accepted table, node n at n.
 pub(crate) struct Survey {
-    below: [Below; MOST_NODES + 1],
     pub above: [Above; MOST_NODES + 1],
-    /// The nodes of each function from the last to the first: where to begin, and which is the one before.
-    pub latest: [u16; 256],
-    pub earlier: [u16; MOST_NODES + 1],
 }
 
 impl Survey {
     pub fn empty() -> Survey {
-        Survey {
-            below: [Below::NONE; MOST_NODES + 1],
-            above: [Above::NONE; MOST_NODES + 1],
-            latest: [0; 256],
-            earlier: [0; MOST_NODES + 1],
-        }
+        Survey { above: [Above::NONE; MOST_NODES + 1] }
     }
 
-    /// False if refusal 4 applies: unless there are as many names as nodes, and each node is named.
-    fn look_below(&mut self, parts: &Parts) -> bool {
-        let nodes = parts.nodes();
-        let mut named = [false; MOST_NODES + 1];
-        let mut fit = true;
-        let mut names = parts.functions();
-        for head in parts.heads.chunks_exact(4) {
-            let root = half(head, 2);
-            if root == 0 || root > nodes {
-                return false;
-            }
-            named[root] = true;
-            fit &= next(parts.record(root)) == 0;
-        }
-        for node in (1..=nodes).rev() {
-            let record = parts.record(node);
-            let [first, next] = [first(record), next(record)].map(|link| {
-                let above = link.wrapping_sub(node + 1) < nodes - node;
-                fit &= above | (link == 0);
-                names += usize::from(link != 0);
-                select(above, link, 0)
-            });
-            named[first] = true;
-            named[next] = true;
-            self.below[node] = Below::new(node, self.below[first], self.below[next], next == 0);
-        }
-        fit & (names == nodes) & named[1..=nodes].iter().fold(true, |all, named| all & named)
-    }
-
-    /// Refusals 5 to 9.
-    fn sense(&mut self, parts: &Parts) -> u32 {
+    /// Refusals 5 to 9, or none where 4 applies. A name is a root, a first or a next; they come before the node that
+    /// they name, and every node is named once if each is named and there are as many names as nodes.
+    fn look(&mut self, parts: &Parts) -> Option<u32> {
+        let above = self.above.get_mut(..=parts.nodes())?;
+        let mut found = u32::MAX;
         let mut parameters = [0; 256];
         for (index, head) in parts.heads.chunks_exact(4).enumerate() {
+            let root = half(head, 2);
+            if root == 0 || root >= above.len() || next(parts.record(root)) != 0 {
+                return None;
+            }
             if head[0] > 8 || head[1] != 0 {
-                return refusal(5, 0);
+                found = refusal(5, 0);
             }
             parameters[index + 1] = head[0];
-            self.above[half(head, 2)] = Above::root(index + 1);
+            above[root] = Above::root(index + 1);
         }
-        let mut found = u32::MAX;
+        let mut names = parts.functions();
         for (before, record) in parts.records().enumerate() {
+            let node = before + 1;
             let (kind, extra, word, first, next) = (record[0], record[1], word(record), first(record), next(record));
-            let own = self.above[before + 1];
-            let (owner, in_tail) = (own.owner(), own.in_tail(next));
-            // Written for an absent link too: nobody reads entry 0.
-            self.above[next] = own.next(self.below[before + 1].size());
-            self.above[first] = own.first(kind, in_tail);
-            let latest = &mut self.latest[usize::from(owner)];
-            self.earlier[before + 1] = std::mem::replace(latest, before as u16 + 1);
-            let rule = &RULES[usize::from(kind == PRIMITIVE)][usize::from(select(kind == PRIMITIVE, extra, kind))];
-            let children = self.below[first].row();
+            let own = above[node];
+            if own.owner() == 0 || first.wrapping_sub(1) < node || next.wrapping_sub(1) < node {
+                return None;
+            }
+            names += usize::from(first != 0) + usize::from(next != 0);
+            let (owner, is_last) = (own.owner(), next == 0);
+            let in_tail = own.in_tail(is_last);
+            let is_body = (own.under() == LET) & is_last;
+            let scope = u64::from(select(is_body, own.holder(), own.scope())) << SCOPE;
+            let rule = rule(kind, extra);
+            let arguments = select(kind == CALL, parameters[usize::from(word as u8)], 0);
+            // Written for an absent link too: nobody asks for entry 0.
+            *above.get_mut(next)? = own.next();
+            let tail = select(in_tail, TAIL_LAST | TAIL_OTHER | TAIL_AFTER, 0);
+            let below = rule.below.0 & (tail | !(TAIL_LAST | TAIL_AFTER));
+            *above.get_mut(first)? = Above(
+                below.wrapping_add(u64::from(arguments) << LEFT)
+                    | u64::from(owner)
+                    | (node as u64) << HOLDER
+                    | scope,
+            );
+            above[node] = Above(own.0 & !(0x3ff << SCOPE) | scope);
             // Only in tail position the own function may be called.
-            let bad_call = (word.wrapping_sub(1) >= u32::from(owner) - u32::from(!in_tail))
-                | (children != parameters[word as usize & 255].into());
-            let mut bad = (whole(record) & rule.zero != 0)
-                | (children.wrapping_sub(rule.fewest) > rule.more)
-                | (kind == CALL) & bad_call
+            let callees = u32::from(owner) - u32::from(!in_tail);
+            let mut is_bad = (whole(record) & rule.zero != 0)
+                | (first == 0) & (rule.fewest | arguments != 0)
+                | (kind == CALL) & (word.wrapping_sub(1) >= callees)
                 | (kind == PARAMETER) & (extra >= parameters[usize::from(owner)]);
             if kind == BOUND {
-                bad |= word as usize > before || !self.sees(before + 1, word as usize);
+                is_bad |= !sees(parts, above, node, word);
             }
-            if bad {
-                // The lowest number comes first, and within it the lowest node.
-                found = found.min(self.refusal(before + 1, record, &parameters));
+            // The lowest number comes first, and within it the lowest node.
+            if is_bad {
+                found = found.min(fault(node, record, owner, arguments));
+            }
+            if is_last & own.has_wrong_count() {
+                found = found.min(refusal(7, own.holder().into()));
             }
         }
-        select(found == u32::MAX, 0, found)
-    }
-
-    /// Which refusal it is at a node that has one.
-    #[cold]
-    fn refusal(&self, node: usize, record: &[u8; 10], parameters: &[u8; 256]) -> u32 {
-        let (kind, extra, word) = (record[0], record[1], word(record));
-        let rule = if kind == PRIMITIVE { &RULES[1][usize::from(extra)] } else { &RULES[0][usize::from(kind)] };
-        let children = self.below[first(record)].row();
-        let owner = u32::from(self.above[node].owner());
-        let number = if kind == 0 || whole(record) & rule.zero != 0 {
-            5
-        } else if kind == CALL && !(1..=owner).contains(&word) {
-            6
-        } else if children.wrapping_sub(rule.fewest) > rule.more
-            || kind == CALL && children != parameters[word as usize].into()
-        {
-            7
-        } else if kind != CALL {
-            8
-        } else {
-            9
-        };
-        refusal(number, node as u32)
-    }
-
-    /// Whether a node is in the body of a let that has this definiens, which comes before the node.
-    fn sees(&self, node: usize, definiens: usize) -> bool {
-        let (below, above) = (self.below[definiens], self.above[definiens]);
-        if definiens == 0 || above.under() != LET {
-            return false;
-        }
-        let body = below.last();
-        // The body's place is counted from its definiens.
-        let begin = above.place() + below.span() - self.below[body].size();
-        let range = begin..begin + self.below[body].size();
-        definiens != body && above.owner() == self.above[node].owner() && range.contains(&self.above[node].place())
+        (names == parts.nodes()).then_some(select(found == u32::MAX, 0, found))
     }
 }
 
-fn whole(record: &[u8; 10]) -> u64 {
-    u64::from_le_bytes(record[..8].try_into().expect("eight bytes"))
+/// Which refusal it is at a node that has one of its own.
+#[cold]
+fn fault(node: usize, record: &[u8; 10], owner: u8, arguments: u8) -> u32 {
+    let (kind, word, rule) = (record[0], word(record), rule(record[0], record[1]));
+    let number = if kind == 0 || whole(record) & rule.zero != 0 {
+        5
+    } else if kind == CALL && !(1..=owner.into()).contains(&word) {
+        6
+    } else if first(record) == 0 && rule.fewest | arguments != 0 {
+        7
+    } else if kind != CALL {
+        8
+    } else {
+        9
+    };
+    refusal(number, node as u32)
 }
 
-/// What is asked of a node that its kind and operation alone decide.
-#[derive(Clone, Copy)]
-struct Rule {
-    /// Which of the bytes of kind, extra, word and first have to be zero.
-    zero: u64,
-    /// Fewest children, and how many more there may be.
-    fewest: u16,
-    more: u16,
+/// Whether a node is in the body of a let that has this definiens.
+fn sees(parts: &Parts, above: &[Above], node: usize, definiens: u32) -> bool {
+    let definiens = definiens as usize;
+    // A definiens comes before the body.
+    if definiens == 0 || definiens >= node || above[definiens].under() != LET || next(parts.record(definiens)) == 0 {
+        return false;
+    }
+    let holder = above[definiens].holder();
+    let mut scope = above[node].scope();
+    // Lets come before what is in them.
+    while scope > holder {
+        scope = above[usize::from(scope)].scope();
+    }
+    scope == holder
 }
-
-/// By kind, and for primitives by operation. A kind or operation that doesn't exist is itself what isn't zero;
-/// kind 0 has no number of children that fits.
-const RULES: [[Rule; 256]; 2] = {
-    const EXTRA: u64 = 0xff << 8;
-    const WORD: u64 = 0xffff_ffff << 16;
-    const FIRST: u64 = 0xffff << 48;
-    const fn rule(zero: u64, fewest: u16, most: u16) -> Rule {
-        Rule { zero, fewest, more: most - fewest }
-    }
-    let mut rules = [[rule(u64::MAX, u16::MAX, u16::MAX); 256]; 2];
-    rules[0][CONSTANT as usize] = rule(EXTRA | FIRST, 0, 0);
-    rules[0][PARAMETER as usize] = rule(WORD | FIRST, 0, 0);
-    // A call has the number of its callee, which is looked at apart.
-    rules[0][CALL as usize] = rule(EXTRA, 0, u16::MAX);
-    rules[0][IF as usize] = rule(EXTRA | WORD, 3, 3);
-    rules[0][LET as usize] = rule(EXTRA | WORD, 2, 9);
-    rules[0][BOUND as usize] = rule(EXTRA | FIRST, 0, 0);
-    let mut operation = 0;
-    while operation < 10 {
-        let count = if operation >= 5 && operation <= 7 { 1 } else { 2 };
-        rules[1][operation] = rule(WORD, count, count);
-        operation += 1;
-    }
-    rules[1][10] = rule(WORD, 1, 8);
-    rules
-};

@@ -3,6 +3,7 @@
 mod check;
 mod list;
 mod net;
+mod rules;
 mod run;
 mod sets;
 

@@ -43,9 +43,15 @@ fn listed(parts: &Parts, known: &Survey) -> [u64; MOST_NODES / 64] {
     let mut bodies = [0; MOST_FUNCTIONS + 1];
     let mut roots = [0; MOST_FUNCTIONS + 1];
     let mut order = [0; MOST_NODES];
+    let mut latest = [0u16; 256];
+    let mut earlier = [0u16; MOST_NODES + 1];
+    for node in 1..=parts.nodes() {
+        let latest = &mut latest[usize::from(known.above[node].owner())];
+        earlier[node] = std::mem::replace(latest, node as u16);
+    }
     let mut count = 0;
     for function in 1..=parts.functions() {
-        let mut node = usize::from(known.latest[function]);
+        let mut node = usize::from(latest[function]);
         while node != 0 {
             order[count] = node as u16;
             count += 1;
@@ -55,7 +61,7 @@ fn listed(parts: &Parts, known: &Survey) -> [u64; MOST_NODES / 64] {
             let held = select(is_held(known, node, record), all, 0);
             rows[node] =
                 Row { all: all | after.all, once: held | after.once, twice: after.twice | (held & after.once) };
-            node = known.earlier[node].into();
+            node = earlier[node].into();
         }
         roots[function] = parts.root(function);
         bodies[function] = rows[roots[function]].all | 1 << (function - 1);

@@ -1,0 +1,50 @@
+//! What is asked of a node that its kind and operation alone decide.
+
+use crate::check::Above;
+use crate::{BOUND, CALL, CONSTANT, IF, LET, PARAMETER, PRIMITIVE};
+
+#[derive(Clone, Copy)]
+pub(crate) struct Rule {
+    /// Which of the bytes of kind, extra, word and first have to be zero.
+    pub zero: u64,
+    /// What its first child has from it.
+    pub below: Above,
+    /// Fewest children; a call has the number of its callee, which is looked at apart.
+    pub fewest: u8,
+}
+
+pub(crate) fn rule(kind: u8, extra: u8) -> &'static Rule {
+    let is_primitive = kind == PRIMITIVE;
+    &RULES[usize::from(is_primitive)][usize::from(std::hint::select_unpredictable(is_primitive, extra, kind))]
+}
+
+/// The first eight bytes of a record: kind, extra, word and first.
+pub(crate) fn whole(record: &[u8; 10]) -> u64 {
+    u64::from_le_bytes(record[..8].try_into().expect("eight bytes"))
+}
+
+/// By kind, and for primitives by operation. A kind or operation that doesn't exist is itself what isn't zero;
+/// kind 0 lacks a child.
+static RULES: [[Rule; 256]; 2] = {
+    const EXTRA: u64 = 0xff << 8;
+    const WORD: u64 = 0xffff_ffff << 16;
+    const FIRST: u64 = 0xffff << 48;
+    const fn rule(kind: u8, zero: u64, fewest: u8, most: u8) -> Rule {
+        Rule { zero, below: Above::below(kind, fewest, most), fewest }
+    }
+    let mut rules = [[rule(0, u64::MAX, 1, 1); 256]; 2];
+    rules[0][CONSTANT as usize] = rule(CONSTANT, EXTRA | FIRST, 0, 0);
+    rules[0][PARAMETER as usize] = rule(PARAMETER, WORD | FIRST, 0, 0);
+    rules[0][CALL as usize] = rule(CALL, EXTRA, 0, 0);
+    rules[0][IF as usize] = rule(IF, EXTRA | WORD, 3, 3);
+    rules[0][LET as usize] = rule(LET, EXTRA | WORD, 2, 9);
+    rules[0][BOUND as usize] = rule(BOUND, EXTRA | FIRST, 0, 0);
+    let mut operation = 0;
+    while operation < 10 {
+        let count = if operation >= 5 && operation <= 7 { 1 } else { 2 };
+        rules[1][operation] = rule(PRIMITIVE, WORD, count, count);
+        operation += 1;
+    }
+    rules[1][10] = rule(PRIMITIVE, WORD, 1, 8);
+    rules
+};
