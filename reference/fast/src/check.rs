@@ -3,9 +3,9 @@
 
 use std::hint::select_unpredictable as select;
 
-use crate::rules::{rule, whole};
+use crate::rules::{rule, whole, Rule};
 use crate::{first, half, next, refusal, word, Parts};
-use crate::{BOUND, CALL, LET, MOST_FUNCTIONS, MOST_NODES, PARAMETER};
+use crate::{BOUND, CALL, IF, LET, MOST_FUNCTIONS, MOST_NODES, PARAMETER};
 
 /// 0 for an accepted table, else the refusal's number times 65536 plus its place.
 pub fn check(table: &[u8]) -> u32 {
@@ -34,7 +34,7 @@ fn links(parts: &Parts) -> u32 {
     let nodes = parts.nodes();
     let mut named = [0u8; MOST_NODES + 1];
     let mut lowest = nodes + 1;
-    for head in parts.heads.chunks_exact(4) {
+    for head in parts.heads {
         let root = half(head, 2);
         if root == 0 || root > nodes {
             return refusal(4, 0);
@@ -61,71 +61,93 @@ fn links(parts: &Parts) -> u32 {
     refusal(4, miscounted.map_or(lowest, |before| before + 1) as u32)
 }
 
-/// What a node has from its holder, in one word, 0 while nobody has named it. It goes from a node to its first child,
-/// and from a child to the next. From the lowest bit: the function (8), which of the siblings are in tail position (3),
-/// the holder's kind (3, 0 for a root), how many children the holder may lack of the most it may have (3), the holder
-/// (10, from bit 20), the innermost let in whose body the node is (10, from bit 32), and how many siblings may still
-/// come (16).
+/// What a node has from its holder, zeros while nobody has named it. It goes from a node to its first child, and from a
+/// child to the next.
 #[derive(Clone, Copy)]
-pub(crate) struct Above(u64);
+pub(crate) struct Above {
+    /// From the lowest bit: the function (6 bits), which of the siblings are in tail position (3), the holder's kind (3,
+    /// 0 for a root), the holder (10), and the innermost let in whose body the node is (10).
+    place: u32,
+    /// Two numbers that grow with each sibling (16 bits each): the first has its high bit once there are enough, the
+    /// second if there are too many.
+    counts: u32,
+}
 
-/// In tail position if it is the last sibling, if it is not the last, and if it comes after this one.
-const TAIL_LAST: u64 = 1 << 8;
-const TAIL_OTHER: u64 = 1 << 9;
-const TAIL_AFTER: u64 = 1 << 10;
-const KIND: u32 = 11;
-const LACKS: u32 = 14;
-const HOLDER: u32 = 20;
-const SCOPE: u32 = 32;
-const LEFT: u32 = 48;
+const OWNER: u32 = 0x3f;
+/// In tail position anyway, if it is the last sibling, and if it comes after this one.
+const TAIL: u32 = 1 << 6;
+const TAIL_AFTER: u32 = 1 << 7;
+const TAIL_LAST: u32 = 1 << 8;
+const KIND: u32 = 9;
+const HOLDER: u32 = 12;
+const SCOPE: u32 = 22;
+const NUMBER: u32 = 0x3ff;
+const ENOUGH: u32 = 1 << 15;
+const TOO_MANY: u32 = 1 << 31;
+/// One in both counts.
+const ONE: u32 = 1 << 16 | 1;
 
 impl Above {
-    const NONE: Above = Above(0);
+    const NONE: Above = Above { place: 0, counts: 0 };
 
     const fn root(function: usize) -> Above {
-        Above(function as u64 | TAIL_LAST | TAIL_OTHER)
+        Above { place: function as u32 | TAIL, counts: ENOUGH }
     }
 
-    /// What every first child of such a node has, the node being in tail position and having at most so many children.
+    /// What every first child of such a node has, the node being in tail position.
     pub const fn below(kind: u8, fewest: u8, most: u8) -> Above {
         let tail = match kind {
-            crate::IF => TAIL_AFTER,
+            IF => TAIL_AFTER,
             LET => TAIL_LAST,
             _ => 0,
         };
-        let left = (most as u64).wrapping_sub(1) << LEFT;
-        Above(left | ((most - fewest) as u64) << LACKS | (kind as u64) << KIND | tail)
+        let counts = (0x8001 - fewest as u32) | (0x8000 - most as u32) << 16;
+        Above { place: (kind as u32) << KIND | tail, counts }
     }
 
     fn next(self) -> Above {
-        let after = self.0 & TAIL_AFTER;
-        Above(self.0.wrapping_sub(1 << LEFT) | after >> 1 | after >> 2)
+        Above { place: self.place | (self.place & TAIL_AFTER) >> 1, counts: self.counts.wrapping_add(ONE) }
+    }
+
+    fn first(self, node: usize, in_tail: bool, rule: &Rule, arguments: u8) -> Above {
+        let below = rule.below.place & select(in_tail, !0, !(TAIL_LAST | TAIL_AFTER));
+        Above {
+            place: below | (node as u32) << HOLDER | self.place & (OWNER | NUMBER << SCOPE),
+            counts: rule.below.counts.wrapping_sub(u32::from(arguments) * ONE),
+        }
+    }
+
+    /// The same with the let around it, if it is a let's body.
+    fn in_scope(self, is_last: bool) -> Above {
+        let inner = self.place & !(NUMBER << SCOPE) | (self.place << (SCOPE - HOLDER)) & NUMBER << SCOPE;
+        Above { place: select((self.under() == LET) & is_last, inner, self.place), ..self }
     }
 
     fn in_tail(self, is_last: bool) -> bool {
-        self.0 & select(is_last, TAIL_LAST, TAIL_OTHER) != 0
+        self.place & select(is_last, TAIL | TAIL_LAST, TAIL) != 0
     }
 
-    fn has_wrong_count(self) -> bool {
-        self.0 >> LEFT > self.0 >> LACKS & 7
+    /// Asked of a last sibling: whether it ends the right number of them.
+    fn ends_well(self) -> bool {
+        self.counts & (ENOUGH | TOO_MANY) == ENOUGH
     }
 
-    fn scope(self) -> u16 {
-        (self.0 >> SCOPE & 0x3ff) as u16
+    fn scope(self) -> usize {
+        (self.place >> SCOPE) as usize
     }
 
     pub fn owner(self) -> u8 {
-        self.0 as u8
+        (self.place & OWNER) as u8
     }
 
     /// The holder's kind, 0 for a root.
     pub fn under(self) -> u8 {
-        (self.0 >> KIND & 7) as u8
+        (self.place >> KIND & 7) as u8
     }
 
     /// The holder, 0 for a root.
-    pub fn holder(self) -> u16 {
-        (self.0 >> HOLDER & 0x3ff) as u16
+    pub fn holder(self) -> usize {
+        (self.place >> HOLDER & NUMBER) as usize
     }
 }
 
@@ -140,14 +162,16 @@ impl Survey {
     }
 
     /// Refusals 5 to 9, or none where 4 applies. A name is a root, a first or a next; they come before the node that
-    /// they name, and every node is named once if each is named and there are as many names as nodes.
+    /// they name, and every node is named once if each is named and the names come to the sum of all nodes.
     fn look(&mut self, parts: &Parts) -> Option<u32> {
-        let above = self.above.get_mut(..=parts.nodes())?;
+        let nodes = parts.nodes();
+        let above = self.above.get_mut(..=nodes)?;
         let mut found = u32::MAX;
         let mut parameters = [0; 256];
-        for (index, head) in parts.heads.chunks_exact(4).enumerate() {
+        let mut names = 0;
+        for (index, head) in parts.heads.iter().enumerate() {
             let root = half(head, 2);
-            if root == 0 || root >= above.len() || next(parts.record(root)) != 0 {
+            if root == 0 || root > nodes || next(parts.record(root)) != 0 {
                 return None;
             }
             if head[0] > 8 || head[1] != 0 {
@@ -155,36 +179,29 @@ impl Survey {
             }
             parameters[index + 1] = head[0];
             above[root] = Above::root(index + 1);
+            names += root;
         }
-        let mut names = parts.functions();
-        for (before, record) in parts.records().enumerate() {
+        for (before, record) in parts.records.iter().enumerate() {
             let node = before + 1;
-            let (kind, extra, word, first, next) = (record[0], record[1], word(record), first(record), next(record));
-            let own = above[node];
-            if own.owner() == 0 || first.wrapping_sub(1) < node || next.wrapping_sub(1) < node {
+            let (whole, next) = (whole(record), next(record));
+            let (kind, extra, word, first) = (whole as u8, (whole >> 8) as u8, (whole >> 16) as u32, whole >> 48);
+            let (first, is_last) = (first as usize, next == 0);
+            let named = above[node];
+            if named.owner() == 0 || first.wrapping_sub(1) < node || next.wrapping_sub(1) < node {
                 return None;
             }
-            names += usize::from(first != 0) + usize::from(next != 0);
-            let (owner, is_last) = (own.owner(), next == 0);
-            let in_tail = own.in_tail(is_last);
-            let is_body = (own.under() == LET) & is_last;
-            let scope = u64::from(select(is_body, own.holder(), own.scope())) << SCOPE;
+            names += first + next;
+            let own = named.in_scope(is_last);
+            let (owner, in_tail) = (own.owner(), own.in_tail(is_last));
             let rule = rule(kind, extra);
             let arguments = select(kind == CALL, parameters[usize::from(word as u8)], 0);
             // Written for an absent link too: nobody asks for entry 0.
-            *above.get_mut(next)? = own.next();
-            let tail = select(in_tail, TAIL_LAST | TAIL_OTHER | TAIL_AFTER, 0);
-            let below = rule.below.0 & (tail | !(TAIL_LAST | TAIL_AFTER));
-            *above.get_mut(first)? = Above(
-                below.wrapping_add(u64::from(arguments) << LEFT)
-                    | u64::from(owner)
-                    | (node as u64) << HOLDER
-                    | scope,
-            );
-            above[node] = Above(own.0 & !(0x3ff << SCOPE) | scope);
+            *above.get_mut(next)? = named.next();
+            *above.get_mut(first)? = own.first(node, in_tail, rule, arguments);
+            above[node].place = own.place;
             // Only in tail position the own function may be called.
             let callees = u32::from(owner) - u32::from(!in_tail);
-            let mut is_bad = (whole(record) & rule.zero != 0)
+            let mut is_bad = (whole & rule.zero != 0)
                 | (first == 0) & (rule.fewest | arguments != 0)
                 | (kind == CALL) & (word.wrapping_sub(1) >= callees)
                 | (kind == PARAMETER) & (extra >= parameters[usize::from(owner)]);
@@ -195,11 +212,11 @@ impl Survey {
             if is_bad {
                 found = found.min(fault(node, record, owner, arguments));
             }
-            if is_last & own.has_wrong_count() {
-                found = found.min(refusal(7, own.holder().into()));
+            if is_last & !own.ends_well() {
+                found = found.min(refusal(7, own.holder() as u32));
             }
         }
-        (names == parts.nodes()).then_some(select(found == u32::MAX, 0, found))
+        (names == nodes * (nodes + 1) / 2).then_some(select(found == u32::MAX, 0, found))
     }
 }
 
@@ -225,14 +242,14 @@ fn fault(node: usize, record: &[u8; 10], owner: u8, arguments: u8) -> u32 {
 fn sees(parts: &Parts, above: &[Above], node: usize, definiens: u32) -> bool {
     let definiens = definiens as usize;
     // A definiens comes before the body.
-    if definiens == 0 || definiens >= node || above[definiens].under() != LET || next(parts.record(definiens)) == 0 {
+    if definiens == 0 || definiens >= node {
         return false;
     }
-    let holder = above[definiens].holder();
-    let mut scope = above[node].scope();
+    let (named, own) = (above[definiens], above[node]);
+    let mut scope = own.scope();
     // Lets come before what is in them.
-    while scope > holder {
-        scope = above[usize::from(scope)].scope();
+    while scope > named.holder() {
+        scope = above[scope].scope();
     }
-    scope == holder
+    scope == named.holder() && named.under() == LET && next(parts.record(definiens)) != 0
 }

@@ -31,39 +31,34 @@ pub(crate) const BOUND: u8 = 7;
 /// The two parts of a table whose length fits its F and N.
 #[derive(Clone, Copy)]
 pub(crate) struct Parts<'a> {
-    pub heads: &'a [u8],
-    pub records: &'a [u8],
+    pub heads: &'a [[u8; 4]],
+    pub records: &'a [[u8; 10]],
 }
 
 impl<'a> Parts<'a> {
     pub fn of(table: &'a [u8]) -> Parts<'a> {
         let (heads, records) = table[4..].split_at(4 * half(table, 0));
-        Parts { heads, records }
+        Parts { heads: heads.as_chunks().0, records: records.as_chunks().0 }
     }
 
     pub fn functions(&self) -> usize {
-        self.heads.len() / 4
+        self.heads.len()
     }
 
     pub fn nodes(&self) -> usize {
-        self.records.len() / 10
+        self.records.len()
     }
 
     pub fn parameters(&self, function: usize) -> usize {
-        self.heads[4 * (function - 1)].into()
+        self.heads[function - 1][0].into()
     }
 
     pub fn root(&self, function: usize) -> usize {
-        half(self.heads, 4 * (function - 1) + 2)
-    }
-
-    pub fn records(&self) -> impl Iterator<Item = &'a [u8; 10]> {
-        self.records.chunks_exact(10).map(|record| record.try_into().expect("ten bytes"))
+        half(&self.heads[function - 1], 2)
     }
 
     pub fn record(&self, node: usize) -> &'a [u8; 10] {
-        let at = 10 * (node - 1);
-        self.records[at..at + 10].try_into().expect("ten bytes")
+        &self.records[node - 1]
     }
 }
 
