@@ -6,11 +6,17 @@ mod net;
 mod rules;
 mod run;
 mod sets;
+mod state;
+mod step;
+mod tags;
 
 pub use check::check;
-pub use list::{check_tags, list};
-pub use run::{run, run_watched, start, Ending, State};
+pub use list::list;
+pub use run::{run, run_watched, Ending};
 pub use sets::list_by_sets;
+pub use state::{Lent, State};
+pub use step::{start, start_lent, step, step_lent};
+pub use tags::check_tags;
 
 /// Number and place of a refusal in one number; 0 stands for no refusal.
 pub(crate) const fn refusal(number: u32, place: u32) -> u32 {
@@ -76,4 +82,21 @@ pub(crate) fn first(record: &[u8; 10]) -> usize {
 
 pub(crate) fn next(record: &[u8; 10]) -> usize {
     half(record, 8)
+}
+
+/// What a primitive makes of the values of its first and its last child.
+pub(crate) fn compute(operation: u8, [a, b]: [u32; 2]) -> u32 {
+    match operation {
+        0 => a.wrapping_add(b),
+        1 => a.wrapping_sub(b),
+        2 => a & b,
+        3 => a | b,
+        4 => a ^ b,
+        5 => a << 1,
+        6 => a >> 1,
+        7 => a & 1,
+        8 => u32::from(a == b),
+        9 => u32::from(a < b),
+        _ => b,
+    }
 }

@@ -5,7 +5,7 @@
 use std::hint::select_unpredictable as select;
 
 use crate::check::{survey, Survey};
-use crate::{first, next, refusal, Parts, CALL, LET, MOST_FUNCTIONS, MOST_NODES, PRIMITIVE};
+use crate::{first, next, Parts, CALL, LET, MOST_FUNCTIONS, MOST_NODES, PRIMITIVE};
 
 /// What a node and the siblings after it may call, alone and of those held against each other once and twice.
 #[derive(Clone, Copy)]
@@ -93,31 +93,4 @@ fn other_callee(record: &[u8; 10], function: usize) -> usize {
 fn is_held(known: &Survey, node: usize, record: &[u8; 10]) -> bool {
     let under = known.above[node].under();
     (under == PRIMITIVE) | (under == CALL) | (under == LET) & (next(record) != 0)
-}
-
-/// Refusal 10 for a tag list handed in with an accepted table.
-pub fn check_tags(table: &[u8], tags: &[u8]) -> u32 {
-    let parts = Parts::of(table);
-    let nodes = parts.nodes();
-    if tags.len() != nodes.div_ceil(8) || tags[tags.len() - 1] as usize >> ((nodes - 1) % 8 + 1) != 0 {
-        return refusal(10, 0);
-    }
-    if tags.iter().all(|byte| *byte == 0) {
-        return 0;
-    }
-    let mut owner = [0u8; MOST_NODES + 1];
-    for function in 1..=parts.functions() {
-        owner[parts.root(function)] = function as u8;
-    }
-    for node in 1..=nodes {
-        let record = parts.record(node);
-        let tagged = tags[(node - 1) / 8] >> ((node - 1) % 8) & 1 == 1;
-        if tagged && (record[0] != CALL || record[2] == owner[node]) {
-            return refusal(10, node as u32);
-        }
-        // Child and next come later in the table, so the owner is there when they are looked at.
-        owner[first(record)] = owner[node];
-        owner[next(record)] = owner[node];
-    }
-    0
 }

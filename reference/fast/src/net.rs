@@ -29,8 +29,7 @@ pub struct Net {
 
 impl Net {
     /// Of an accepted table.
-    pub fn of(table: &[u8]) -> Net {
-        let parts = Parts::of(table);
+    pub fn of(parts: &Parts) -> Net {
         let mut net = Net {
             nodes: parts.nodes(),
             functions: parts.functions(),

@@ -1,68 +1,17 @@
 //! The run on a budget. A step costs what its node needs: nodes that it may have made ready wait on a stack.
 
+use crate::check::Survey;
 use crate::net::Net;
-use crate::{check, check_tags, refusal, Parts};
+use crate::state::{State, BUSY, DONE, OPEN};
+use crate::tags::checked;
+use crate::{compute, refusal};
 use crate::{BOUND, CALL, CONSTANT, IF, LET, MOST_FUNCTIONS, MOST_NODES, PARAMETER, PRIMITIVE};
-
-const OPEN: u8 = 1;
-const BUSY: u8 = 2;
-const DONE: u8 = 3;
-
-/// The state, node n and function f at n - 1 and f - 1.
-#[derive(Clone, PartialEq, Eq, Debug)]
-pub struct State {
-    pub status: [u8; MOST_NODES],
-    pub second: [bool; MOST_NODES],
-    pub value: [u32; MOST_NODES],
-    pub registers: [[u32; 8]; MOST_FUNCTIONS],
-    pub occupant: [u16; MOST_FUNCTIONS],
-}
-
-impl State {
-    pub fn zero() -> State {
-        State {
-            status: [0; MOST_NODES],
-            second: [false; MOST_NODES],
-            value: [0; MOST_NODES],
-            registers: [[0; 8]; MOST_FUNCTIONS],
-            occupant: [0; MOST_FUNCTIONS],
-        }
-    }
-
-    fn done(&self, node: usize) -> bool {
-        self.status[node - 1] == DONE
-    }
-}
 
 #[derive(Clone, Copy, PartialEq, Eq, Debug)]
 pub enum Ending {
     Answered(u32),
     AtRest,
     Spent,
-}
-
-/// Puts the state at its start; returns 0, or a refusal and then keeps the state.
-pub fn start(table: &[u8], tags: &[u8], arguments: &[u32], state: &mut State) -> u32 {
-    let refused = check_both(table, tags);
-    if refused != 0 {
-        return refused;
-    }
-    let parts = Parts::of(table);
-    let main = parts.functions();
-    if arguments.len() != parts.parameters(main) {
-        return refusal(11, 0);
-    }
-    *state = State::zero();
-    state.registers[main - 1][..arguments.len()].copy_from_slice(arguments);
-    state.status[parts.root(main) - 1] = OPEN;
-    0
-}
-
-fn check_both(table: &[u8], tags: &[u8]) -> u32 {
-    match check(table) {
-        0 => check_tags(table, tags),
-        refused => refused,
-    }
 }
 
 /// Takes possible steps up to the budget; tells how many and why it ended, or a refusal.
@@ -78,15 +27,11 @@ pub fn run_watched(
     budget: u32,
     mut watch: impl FnMut(u16),
 ) -> Result<(u32, Ending), u32> {
-    let refused = check_both(table, tags);
-    if refused != 0 {
-        return Err(refused);
-    }
-    let net = Net::of(table);
-    let bad_status = state.status[..net.nodes].iter().any(|status| *status > DONE);
-    if bad_status || state.occupant[..net.functions].iter().any(|node| usize::from(*node) > net.nodes) {
+    let parts = checked(table, tags, &mut Survey::empty())?;
+    if !state.is_in_order(parts.nodes(), parts.functions()) {
         return Err(refusal(24, 0));
     }
+    let net = Net::of(&parts);
     let mut runner =
         Runner { net: &net, state, ready: Stack::empty(), inside: Waiting::none(), blocked: Waiting::none() };
     for node in (1..=net.nodes).rev() {
@@ -96,7 +41,7 @@ pub fn run_watched(
     }
     let mut taken = 0;
     loop {
-        if runner.state.done(net.main_root()) {
+        if runner.state.is_done(net.main_root()) {
             return Ok((taken, Ending::Answered(runner.state.value[net.main_root() - 1])));
         }
         let (node, change) = loop {
@@ -198,7 +143,7 @@ impl Runner<'_> {
     fn children_done(&self, node: usize) -> bool {
         let mut child = usize::from(self.net.cells[node].first);
         while child != 0 {
-            if !self.state.done(child) {
+            if !self.state.is_done(child) {
                 return false;
             }
             child = self.net.cells[child].next.into();
@@ -226,7 +171,7 @@ impl Runner<'_> {
             PRIMITIVE if self.children_done(node) => Some(Change::Done(self.compute(node))),
             IF => {
                 let condition = usize::from(cell.first);
-                if !second && !self.state.done(condition) {
+                if !second && !self.state.is_done(condition) {
                     return None;
                 }
                 let mut branch = self.net.cells[condition].next;
@@ -238,7 +183,7 @@ impl Runner<'_> {
             LET => {
                 let mut child = usize::from(cell.first);
                 while self.net.cells[child].next != 0 {
-                    if !second && !self.state.done(child) {
+                    if !second && !self.state.is_done(child) {
                         return None;
                     }
                     child = self.net.cells[child].next.into();
@@ -253,7 +198,7 @@ impl Runner<'_> {
     fn last_part(&self, second: bool, last: usize) -> Option<Change> {
         match second {
             false => Some(Change::SecondPhase(last)),
-            true => self.state.done(last).then(|| Change::Done(self.state.value[last - 1])),
+            true => self.state.is_done(last).then(|| Change::Done(self.state.value[last - 1])),
         }
     }
 
@@ -264,7 +209,7 @@ impl Runner<'_> {
         }
         if second {
             let root = usize::from(self.net.roots[callee]);
-            if self.state.done(root) {
+            if self.state.is_done(root) {
                 return Some(Change::Leave(self.state.value[root - 1]));
             }
             self.inside.add(callee, node);
@@ -287,20 +232,7 @@ impl Runner<'_> {
         while self.net.cells[last].next != 0 {
             last = self.net.cells[last].next.into();
         }
-        let (a, b) = (self.state.value[one - 1], self.state.value[last - 1]);
-        match cell.extra {
-            0 => a.wrapping_add(b),
-            1 => a.wrapping_sub(b),
-            2 => a & b,
-            3 => a | b,
-            4 => a ^ b,
-            5 => a << 1,
-            6 => a >> 1,
-            7 => a & 1,
-            8 => u32::from(a == b),
-            9 => u32::from(a < b),
-            _ => b,
-        }
+        compute(cell.extra, [one, last].map(|child| self.state.value[child - 1]))
     }
 
     fn apply(&mut self, node: usize, change: Change) {
