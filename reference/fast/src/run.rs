@@ -1,16 +1,20 @@
 //! The run on a budget. A step costs what its node needs: nodes that it may have made ready wait on a stack.
 
 use crate::check::Survey;
-use crate::net::Net;
-use crate::state::{State, BUSY, DONE, OPEN};
+use crate::net::{cell, Cell, Net, NONE, SELF_CALL};
+use crate::state::{self, State};
 use crate::tags::checked;
 use crate::{compute, refusal};
 use crate::{BOUND, CALL, CONSTANT, IF, LET, MOST_FUNCTIONS, MOST_NODES, PARAMETER, PRIMITIVE};
 
+/// How a run ended.
 #[derive(Clone, Copy, PartialEq, Eq, Debug)]
 pub enum Ending {
+    /// Main's root is done, with this value.
     Answered(u32),
+    /// No step is possible.
     AtRest,
+    /// As many steps were taken as the budget has.
     Spent,
 }
 
@@ -25,287 +29,343 @@ pub fn run_watched(
     tags: &[u8],
     state: &mut State,
     budget: u32,
-    mut watch: impl FnMut(u16),
+    watch: impl FnMut(u16),
 ) -> Result<(u32, Ending), u32> {
-    let parts = checked(table, tags, &mut Survey::empty())?;
+    let mut known = Survey::empty();
+    let parts = checked(table, tags, &mut known)?;
     if !state.is_in_order(parts.nodes(), parts.functions()) {
         return Err(refusal(24, 0));
     }
-    let net = Net::of(&parts);
-    let mut runner =
-        Runner { net: &net, state, ready: Stack::empty(), inside: Waiting::none(), blocked: Waiting::none() };
-    for node in (1..=net.nodes).rev() {
-        if [OPEN, BUSY].contains(&runner.state.status[node - 1]) {
-            runner.ready.push(node);
-        }
-    }
-    let mut taken = 0;
-    loop {
-        if runner.state.is_done(net.main_root()) {
-            return Ok((taken, Ending::Answered(runner.state.value[net.main_root() - 1])));
-        }
-        let (node, change) = loop {
-            let Some(node) = runner.ready.pop() else {
-                return Ok((taken, Ending::AtRest));
-            };
-            if let Some(change) = runner.decide(node) {
-                break (node, change);
-            }
-        };
-        if taken == budget {
-            return Ok((taken, Ending::Spent));
-        }
-        runner.apply(node, change);
-        watch(node as u16);
-        taken += 1;
-    }
+    let net = Net::of(&parts, &known);
+    let mut runner = Runner::of(&net, state);
+    let taken = runner.go(budget, watch);
+    runner.put(state);
+    let ending = match runner.answer() {
+        Some(value) => Ending::Answered(value),
+        // Tried on the copy alone.
+        None if runner.step().is_some() => Ending::Spent,
+        None => Ending::AtRest,
+    };
+    Ok((taken, ending))
 }
 
-enum Change {
-    Done(u32),
-    Busy,
-    SecondPhase(usize),
-    Enter,
-    Leave(u32),
-    Again,
-}
+/// How a node stands, in a byte: its kind, its status, its second phase, and whether it is on the stack.
+const KIND: u8 = 7;
+const STATUS: u8 = 3 << 3;
+const OPEN: u8 = state::OPEN << 3;
+const BUSY: u8 = state::BUSY << 3;
+const DONE: u8 = state::DONE << 3;
+const SECOND: u8 = 1 << 5;
+const QUEUED: u8 = 1 << 6;
 
-/// Nodes to look at next, each at most once.
-struct Stack {
-    nodes: [u16; MOST_NODES],
-    count: usize,
-    has: [bool; MOST_NODES + 1],
-}
+const OPEN_CONSTANT: u8 = OPEN | CONSTANT;
+const OPEN_PARAMETER: u8 = OPEN | PARAMETER;
+const OPEN_BOUND: u8 = OPEN | BOUND;
+const OPEN_PRIMITIVE: u8 = OPEN | PRIMITIVE;
+const OPEN_CALL: u8 = OPEN | CALL;
+const OPEN_SELF_CALL: u8 = OPEN | SELF_CALL;
+const OPEN_IF: u8 = OPEN | IF;
+const OPEN_LET: u8 = OPEN | LET;
+const BUSY_PRIMITIVE: u8 = BUSY | PRIMITIVE;
+const BUSY_CALL: u8 = BUSY | CALL;
+const BUSY_SELF_CALL: u8 = BUSY | SELF_CALL;
+const BUSY_IF: u8 = BUSY | IF;
+const BUSY_LET: u8 = BUSY | LET;
 
-impl Stack {
-    fn empty() -> Stack {
-        Stack { nodes: [0; MOST_NODES], count: 0, has: [false; MOST_NODES + 1] }
-    }
-
-    fn push(&mut self, node: usize) {
-        if !self.has[node] {
-            self.has[node] = true;
-            self.nodes[self.count] = node as u16;
-            self.count += 1;
-        }
-    }
-
-    fn pop(&mut self) -> Option<usize> {
-        self.count = self.count.checked_sub(1)?;
-        let node = usize::from(self.nodes[self.count]);
-        self.has[node] = false;
-        Some(node)
-    }
-}
-
-/// Calls that wait for a function, as one chain each. One that no longer waits may stay until the next waking.
-struct Waiting {
-    head: [u16; MOST_FUNCTIONS + 1],
-    next: [u16; MOST_NODES + 1],
-    has: [bool; MOST_NODES + 1],
-}
-
-impl Waiting {
-    fn none() -> Waiting {
-        Waiting { head: [0; MOST_FUNCTIONS + 1], next: [0; MOST_NODES + 1], has: [false; MOST_NODES + 1] }
-    }
-
-    fn add(&mut self, function: usize, node: usize) {
-        if !self.has[node] {
-            self.has[node] = true;
-            self.next[node] = self.head[function];
-            self.head[function] = node as u16;
-        }
-    }
-
-    fn wake(&mut self, function: usize, ready: &mut Stack) {
-        let mut node = usize::from(std::mem::take(&mut self.head[function]));
-        while node != 0 {
-            self.has[node] = false;
-            ready.push(node);
-            node = self.next[node].into();
-        }
-    }
-}
-
+/// A state in the order of the net, and the nodes to look at next.
 struct Runner<'a> {
     net: &'a Net,
-    state: &'a mut State,
-    /// Every node with a step is in here; others may be too.
-    ready: Stack,
+    modes: [u8; MOST_NODES],
+    values: [u32; MOST_NODES],
+    registers: [u32; 8 * MOST_FUNCTIONS],
+    occupant: [u16; MOST_FUNCTIONS],
+    /// Every node with a step is in here once; others may be too.
+    stack: [u16; MOST_NODES],
+    count: usize,
     /// Calls in second phase, waiting for their callee's root.
     inside: Waiting,
     /// Calls with their arguments done, waiting for their callee to be free.
     blocked: Waiting,
 }
 
-impl Runner<'_> {
-    fn children_done(&self, node: usize) -> bool {
-        let mut child = usize::from(self.net.cells[node].first);
-        while child != 0 {
-            if !self.state.is_done(child) {
-                return false;
+/// Calls that wait for a function, as one chain each. One that no longer waits may stay until the next waking.
+struct Waiting {
+    head: [u16; MOST_FUNCTIONS],
+    next: [u16; MOST_NODES],
+    has: [bool; MOST_NODES],
+}
+
+impl Waiting {
+    const NOBODY: Waiting =
+        Waiting { head: [NONE; MOST_FUNCTIONS], next: [NONE; MOST_NODES], has: [false; MOST_NODES] };
+
+    #[cold]
+    fn add(&mut self, function: usize, at: usize) {
+        if !self.has[at] {
+            self.has[at] = true;
+            self.next[at] = self.head[function];
+            self.head[function] = at as u16;
+        }
+    }
+}
+
+impl<'a> Runner<'a> {
+    fn of(net: &'a Net, state: &State) -> Runner<'a> {
+        let mut runner = Runner {
+            net,
+            modes: [0; MOST_NODES],
+            values: [0; MOST_NODES],
+            registers: [0; 8 * MOST_FUNCTIONS],
+            occupant: state.occupant,
+            stack: [0; MOST_NODES],
+            count: 0,
+            inside: Waiting::NOBODY,
+            blocked: Waiting::NOBODY,
+        };
+        runner.registers.copy_from_slice(state.registers.as_flattened());
+        for (at, cell) in net.cells[..net.nodes].iter().enumerate().rev() {
+            let node = usize::from(cell.node) - 1;
+            let status = state.status[node] << 3;
+            runner.modes[at] = cell.kind | status | if state.second[node] { SECOND } else { 0 };
+            runner.values[at] = state.value[node];
+            if status == OPEN || status == BUSY {
+                runner.push(at);
             }
-            child = self.net.cells[child].next.into();
+        }
+        runner
+    }
+
+    fn put(&self, state: &mut State) {
+        for (at, cell) in self.net.cells[..self.net.nodes].iter().enumerate() {
+            let node = usize::from(cell.node) - 1;
+            state.status[node] = (self.modes[at] & STATUS) >> 3;
+            state.second[node] = self.modes[at] & SECOND != 0;
+            state.value[node] = self.values[at];
+        }
+        state.registers.as_flattened_mut().copy_from_slice(&self.registers);
+        state.occupant = self.occupant;
+    }
+
+    fn answer(&self) -> Option<u32> {
+        let root = cell(self.net.roots[self.net.main]);
+        self.is_done(root).then(|| self.values[root])
+    }
+
+    /// Takes steps up to the budget, the answer or rest; tells how many.
+    fn go(&mut self, budget: u32, mut watch: impl FnMut(u16)) -> u32 {
+        let root = cell(self.net.roots[self.net.main]);
+        for taken in 0..budget {
+            if self.is_done(root) {
+                return taken;
+            }
+            match self.step() {
+                Some(at) => watch(self.net.cells[at].node),
+                None => return taken,
+            }
+        }
+        budget
+    }
+
+    /// Takes a possible step, if there is one.
+    #[inline(always)]
+    fn step(&mut self) -> Option<usize> {
+        loop {
+            self.count = self.count.checked_sub(1)?;
+            let at = cell(self.stack[self.count % MOST_NODES]);
+            self.modes[at] &= !QUEUED;
+            if self.take(at) {
+                return Some(at);
+            }
+        }
+    }
+
+    /// Takes the step at a node that isn't on the stack; a call that has to wait is put where it will be woken.
+    #[inline(always)]
+    fn take(&mut self, at: usize) -> bool {
+        let Cell { word, first, operation, owner, .. } = self.net.cells[at];
+        match self.modes[at] & (STATUS | KIND) {
+            OPEN_CONSTANT => self.finish(at, word),
+            OPEN_PARAMETER => self.finish(at, self.registers[word as usize % (8 * MOST_FUNCTIONS)]),
+            OPEN_BOUND => self.finish(at, self.values[word as usize % MOST_NODES]),
+            OPEN_PRIMITIVE | OPEN_CALL | OPEN_SELF_CALL => {
+                self.wait(at);
+                let mut child = first;
+                while child != NONE {
+                    self.open(cell(child));
+                    child = self.net.cells[cell(child)].next;
+                }
+            }
+            OPEN_IF => {
+                self.wait(at);
+                self.open(cell(first));
+            }
+            OPEN_LET => {
+                self.wait(at);
+                let mut child = cell(first);
+                while self.net.cells[child].next != NONE {
+                    self.open(child);
+                    child = cell(self.net.cells[child].next);
+                }
+            }
+            BUSY_PRIMITIVE => {
+                let Some(last) = self.last_if_done(first) else {
+                    return false;
+                };
+                let values = [self.values[cell(first)], self.values[last]];
+                self.finish(at, compute(operation, values));
+            }
+            BUSY_IF => {
+                let condition = cell(first);
+                let mut branch = self.net.cells[condition].next;
+                if self.values[condition] == 0 {
+                    branch = self.net.cells[cell(branch)].next;
+                }
+                return self.last_part(at, cell(branch), self.is_done(condition));
+            }
+            BUSY_LET => {
+                let (mut child, mut is_ready) = (cell(first), true);
+                while self.net.cells[child].next != NONE {
+                    is_ready &= self.is_done(child);
+                    child = cell(self.net.cells[child].next);
+                }
+                return self.last_part(at, child, is_ready);
+            }
+            BUSY_SELF_CALL => {
+                if first != NONE && self.last_if_done(first).is_none() {
+                    return false;
+                }
+                self.enter(owner.into(), first);
+            }
+            BUSY_CALL => return self.take_call(at, word as usize % MOST_FUNCTIONS, first),
+            _ => return false,
         }
         true
     }
 
-    /// What a step would do here, if there is one; a call that has to wait is put where it will be woken.
-    fn decide(&mut self, node: usize) -> Option<Change> {
-        let cell = self.net.cells[node];
-        let status = self.state.status[node - 1];
-        if status == OPEN {
-            return Some(match cell.kind {
-                CONSTANT => Change::Done(cell.word),
-                PARAMETER => Change::Done(self.state.registers[usize::from(cell.owner) - 1][usize::from(cell.extra)]),
-                BOUND => Change::Done(self.state.value[cell.word as usize - 1]),
-                _ => Change::Busy,
-            });
-        }
-        if status != BUSY {
-            return None;
-        }
-        let second = self.state.second[node - 1];
-        match cell.kind {
-            PRIMITIVE if self.children_done(node) => Some(Change::Done(self.compute(node))),
-            IF => {
-                let condition = usize::from(cell.first);
-                if !second && !self.state.is_done(condition) {
-                    return None;
-                }
-                let mut branch = self.net.cells[condition].next;
-                if self.state.value[condition - 1] == 0 {
-                    branch = self.net.cells[usize::from(branch)].next;
-                }
-                self.last_part(second, branch.into())
+    /// The branch or body: opened once what comes before it is done, and then waited for.
+    #[inline(always)]
+    fn last_part(&mut self, at: usize, last: usize, is_ready: bool) -> bool {
+        if self.modes[at] & SECOND != 0 {
+            if !self.is_done(last) {
+                return false;
             }
-            LET => {
-                let mut child = usize::from(cell.first);
-                while self.net.cells[child].next != 0 {
-                    if !second && !self.state.is_done(child) {
-                        return None;
-                    }
-                    child = self.net.cells[child].next.into();
-                }
-                self.last_part(second, child)
-            }
-            CALL => self.decide_call(node, second),
-            _ => None,
-        }
-    }
-
-    fn last_part(&self, second: bool, last: usize) -> Option<Change> {
-        match second {
-            false => Some(Change::SecondPhase(last)),
-            true => self.state.is_done(last).then(|| Change::Done(self.state.value[last - 1])),
-        }
-    }
-
-    fn decide_call(&mut self, node: usize, second: bool) -> Option<Change> {
-        let callee = self.net.cells[node].word as usize;
-        if callee == usize::from(self.net.cells[node].owner) {
-            return self.children_done(node).then_some(Change::Again);
-        }
-        if second {
-            let root = usize::from(self.net.roots[callee]);
-            if self.state.is_done(root) {
-                return Some(Change::Leave(self.state.value[root - 1]));
-            }
-            self.inside.add(callee, node);
-            return None;
-        }
-        if !self.children_done(node) {
-            return None;
-        }
-        if self.state.occupant[callee - 1] != 0 {
-            self.blocked.add(callee, node);
-            return None;
-        }
-        Some(Change::Enter)
-    }
-
-    fn compute(&self, node: usize) -> u32 {
-        let cell = self.net.cells[node];
-        let one = usize::from(cell.first);
-        let mut last = one;
-        while self.net.cells[last].next != 0 {
-            last = self.net.cells[last].next.into();
-        }
-        compute(cell.extra, [one, last].map(|child| self.state.value[child - 1]))
-    }
-
-    fn apply(&mut self, node: usize, change: Change) {
-        let cell = self.net.cells[node];
-        let callee = cell.word as usize;
-        match change {
-            Change::Done(value) => self.finish(node, value),
-            Change::Busy => {
-                self.state.status[node - 1] = BUSY;
-                // Below its children on the stack, so that it is looked at after them.
-                self.ready.push(node);
-                let mut child = usize::from(cell.first);
-                while child != 0 {
-                    let after = usize::from(self.net.cells[child].next);
-                    if cell.kind != LET || after != 0 {
-                        self.open(child);
-                    }
-                    child = if cell.kind == IF { 0 } else { after };
-                }
-            }
-            Change::SecondPhase(last) => {
-                self.state.second[node - 1] = true;
-                self.ready.push(node);
-                self.open(last);
-            }
-            Change::Enter => {
-                self.ready.push(node);
-                self.reset(node, callee);
-                self.state.second[node - 1] = true;
-                self.state.occupant[callee - 1] = node as u16;
-            }
-            Change::Leave(value) => {
-                self.finish(node, value);
-                self.state.occupant[callee - 1] = 0;
-                self.blocked.wake(callee, &mut self.ready);
-            }
-            Change::Again => self.reset(node, callee),
-        }
-    }
-
-    fn open(&mut self, node: usize) {
-        self.state.status[node - 1] = OPEN;
-        self.ready.push(node);
-    }
-
-    fn finish(&mut self, node: usize, value: u32) {
-        self.state.status[node - 1] = DONE;
-        self.state.second[node - 1] = false;
-        self.state.value[node - 1] = value;
-        let cell = self.net.cells[node];
-        if cell.root_of != 0 {
-            self.inside.wake(cell.root_of.into(), &mut self.ready);
+            self.finish(at, self.values[last]);
         } else {
-            self.ready.push(cell.holder.into());
+            if !is_ready {
+                return false;
+            }
+            self.modes[at] |= SECOND;
+            self.push(at);
+            self.open(last);
+        }
+        true
+    }
+
+    #[inline(always)]
+    fn take_call(&mut self, at: usize, callee: usize, first: u16) -> bool {
+        if self.modes[at] & SECOND != 0 {
+            let root = cell(self.net.roots[callee]);
+            if !self.is_done(root) {
+                self.inside.add(callee, at);
+                return false;
+            }
+            self.finish(at, self.values[root]);
+            self.occupant[callee] = 0;
+            self.wake_blocked(callee);
+            return true;
+        }
+        if first != NONE && self.last_if_done(first).is_none() {
+            return false;
+        }
+        if self.occupant[callee] != 0 {
+            self.blocked.add(callee, at);
+            return false;
+        }
+        self.push(at);
+        self.enter(callee, first);
+        self.modes[at] |= SECOND;
+        self.occupant[callee] = self.net.cells[at].node;
+        true
+    }
+
+    fn is_done(&self, at: usize) -> bool {
+        self.modes[at] & STATUS == DONE
+    }
+
+    /// The last of a chain of siblings, if all are done.
+    fn last_if_done(&self, first: u16) -> Option<usize> {
+        let mut child = cell(first);
+        while self.is_done(child) {
+            match self.net.cells[child].next {
+                NONE => return Some(child),
+                next => child = cell(next),
+            }
+        }
+        None
+    }
+
+    fn push(&mut self, at: usize) {
+        self.stack[self.count % MOST_NODES] = at as u16;
+        self.count += usize::from(self.modes[at] & QUEUED == 0);
+        self.modes[at] |= QUEUED;
+    }
+
+    /// Makes an open node busy. It comes below its children on the stack, so that it is looked at after them.
+    fn wait(&mut self, at: usize) {
+        self.modes[at] ^= OPEN ^ BUSY;
+        self.push(at);
+    }
+
+    fn open(&mut self, at: usize) {
+        self.push(at);
+        self.modes[at] = self.modes[at] & !STATUS | OPEN;
+    }
+
+    fn finish(&mut self, at: usize, value: u32) {
+        self.modes[at] = self.modes[at] & KIND | DONE;
+        self.values[at] = value;
+        let Cell { holder, owner, .. } = self.net.cells[at];
+        if holder != NONE {
+            self.push(cell(holder));
+        } else if self.inside.head[usize::from(owner) % MOST_FUNCTIONS] != NONE {
+            self.wake_inside(owner.into());
         }
     }
 
-    fn reset(&mut self, call: usize, function: usize) {
+    #[cold]
+    fn wake_inside(&mut self, function: usize) {
+        let mut at = std::mem::replace(&mut self.inside.head[function], NONE);
+        while at != NONE {
+            self.inside.has[cell(at)] = false;
+            self.push(cell(at));
+            at = self.inside.next[cell(at)];
+        }
+    }
+
+    fn wake_blocked(&mut self, function: usize) {
+        let mut at = std::mem::replace(&mut self.blocked.head[function], NONE);
+        while at != NONE {
+            self.blocked.has[cell(at)] = false;
+            self.push(cell(at));
+            at = self.blocked.next[cell(at)];
+        }
+    }
+
+    /// Makes a function's body ready for these arguments and opens its root.
+    fn enter(&mut self, function: usize, first: u16) {
         let mut arguments = [0; 8];
-        let mut child = usize::from(self.net.cells[call].first);
+        let mut child = first;
         for argument in &mut arguments {
-            if child != 0 {
-                *argument = self.state.value[child - 1];
-                child = self.net.cells[child].next.into();
+            if child == NONE {
+                break;
             }
+            *argument = self.values[cell(child)];
+            child = self.net.cells[cell(child)].next;
         }
-        self.state.registers[function - 1] = arguments;
-        for node in self.net.members(function) {
-            let at = usize::from(*node) - 1;
-            self.state.status[at] = 0;
-            self.state.second[at] = false;
-            self.state.value[at] = 0;
-        }
-        self.open(self.net.roots[function].into());
+        self.registers[8 * function..8 * function + 8].copy_from_slice(&arguments);
+        let body = self.net.begin[function].into()..self.net.begin[function + 1].into();
+        self.modes[body.clone()].iter_mut().for_each(|mode| *mode &= KIND | QUEUED);
+        self.values[body].fill(0);
+        self.open(cell(self.net.roots[function]));
     }
 }
