@@ -37,13 +37,13 @@ pub fn run_watched(
         return Err(refusal(24, 0));
     }
     let net = Net::of(&parts, &known);
-    let mut runner = Runner::of(&net, state);
-    let taken = runner.go(budget, watch);
+    let (mut runner, mut top) = Runner::of(&net, state);
+    let taken = runner.go(&mut top, budget, watch);
     runner.put(state);
     let ending = match runner.answer() {
         Some(value) => Ending::Answered(value),
         // Tried on the copy alone.
-        None if runner.step().is_some() => Ending::Spent,
+        None if runner.step(&mut top).is_some() => Ending::Spent,
         None => Ending::AtRest,
     };
     Ok((taken, ending))
@@ -81,7 +81,6 @@ struct Runner<'a> {
     occupant: [u16; MOST_FUNCTIONS],
     /// Every node with a step is in here once; others may be too.
     stack: [u16; MOST_NODES],
-    count: usize,
     /// Calls in second phase, waiting for their callee's root.
     inside: Waiting,
     /// Calls with their arguments done, waiting for their callee to be free.
@@ -107,10 +106,27 @@ impl Waiting {
             self.head[function] = at as u16;
         }
     }
+
+    /// The latest that waits; all of them no longer do, once those after it are asked for one by one.
+    fn take(&mut self, function: usize) -> Option<usize> {
+        let latest = std::mem::replace(&mut self.head[function % MOST_FUNCTIONS], NONE);
+        self.woken(latest)
+    }
+
+    fn after(&mut self, at: usize) -> Option<usize> {
+        self.woken(self.next[at])
+    }
+
+    fn woken(&mut self, at: u16) -> Option<usize> {
+        (at != NONE).then(|| {
+            self.has[cell(at)] = false;
+            cell(at)
+        })
+    }
 }
 
 impl<'a> Runner<'a> {
-    fn of(net: &'a Net, state: &State) -> Runner<'a> {
+    fn of(net: &'a Net, state: &State) -> (Runner<'a>, usize) {
         let mut runner = Runner {
             net,
             modes: [0; MOST_NODES],
@@ -118,21 +134,21 @@ impl<'a> Runner<'a> {
             registers: [0; 8 * MOST_FUNCTIONS],
             occupant: state.occupant,
             stack: [0; MOST_NODES],
-            count: 0,
             inside: Waiting::NOBODY,
             blocked: Waiting::NOBODY,
         };
         runner.registers.copy_from_slice(state.registers.as_flattened());
+        let mut top = 0;
         for (at, cell) in net.cells[..net.nodes].iter().enumerate().rev() {
             let node = usize::from(cell.node) - 1;
             let status = state.status[node] << 3;
             runner.modes[at] = cell.kind | status | if state.second[node] { SECOND } else { 0 };
             runner.values[at] = state.value[node];
             if status == OPEN || status == BUSY {
-                runner.push(at);
+                runner.push(&mut top, at);
             }
         }
-        runner
+        (runner, top)
     }
 
     fn put(&self, state: &mut State) {
@@ -152,28 +168,28 @@ impl<'a> Runner<'a> {
     }
 
     /// Takes steps up to the budget, the answer or rest; tells how many.
-    fn go(&mut self, budget: u32, mut watch: impl FnMut(u16)) -> u32 {
+    fn go(&mut self, top: &mut usize, budget: u32, mut watch: impl FnMut(u16)) -> u32 {
         let root = cell(self.net.roots[self.net.main]);
-        for taken in 0..budget {
-            if self.is_done(root) {
-                return taken;
-            }
-            match self.step() {
-                Some(at) => watch(self.net.cells[at].node),
-                None => return taken,
-            }
+        let (mut taken, mut count) = (0, *top);
+        while taken < budget && !self.is_done(root) {
+            let Some(at) = self.step(&mut count) else {
+                break;
+            };
+            watch(self.net.cells[at].node);
+            taken += 1;
         }
-        budget
+        *top = count;
+        taken
     }
 
     /// Takes a possible step, if there is one.
     #[inline(always)]
-    fn step(&mut self) -> Option<usize> {
+    fn step(&mut self, top: &mut usize) -> Option<usize> {
         loop {
-            self.count = self.count.checked_sub(1)?;
-            let at = cell(self.stack[self.count % MOST_NODES]);
+            *top = top.checked_sub(1)?;
+            let at = cell(self.stack[*top % MOST_NODES]);
             self.modes[at] &= !QUEUED;
-            if self.take(at) {
+            if self.take(top, at) {
                 return Some(at);
             }
         }
@@ -181,29 +197,29 @@ impl<'a> Runner<'a> {
 
     /// Takes the step at a node that isn't on the stack; a call that has to wait is put where it will be woken.
     #[inline(always)]
-    fn take(&mut self, at: usize) -> bool {
+    fn take(&mut self, top: &mut usize, at: usize) -> bool {
         let Cell { word, first, operation, owner, .. } = self.net.cells[at];
         match self.modes[at] & (STATUS | KIND) {
-            OPEN_CONSTANT => self.finish(at, word),
-            OPEN_PARAMETER => self.finish(at, self.registers[word as usize % (8 * MOST_FUNCTIONS)]),
-            OPEN_BOUND => self.finish(at, self.values[word as usize % MOST_NODES]),
+            OPEN_CONSTANT => self.finish(top, at, word),
+            OPEN_PARAMETER => self.finish(top, at, self.registers[word as usize % (8 * MOST_FUNCTIONS)]),
+            OPEN_BOUND => self.finish(top, at, self.values[word as usize % MOST_NODES]),
             OPEN_PRIMITIVE | OPEN_CALL | OPEN_SELF_CALL => {
-                self.wait(at);
+                self.wait(top, at);
                 let mut child = first;
                 while child != NONE {
-                    self.open(cell(child));
+                    self.open(top, cell(child));
                     child = self.net.cells[cell(child)].next;
                 }
             }
             OPEN_IF => {
-                self.wait(at);
-                self.open(cell(first));
+                self.wait(top, at);
+                self.open(top, cell(first));
             }
             OPEN_LET => {
-                self.wait(at);
+                self.wait(top, at);
                 let mut child = cell(first);
                 while self.net.cells[child].next != NONE {
-                    self.open(child);
+                    self.open(top, child);
                     child = cell(self.net.cells[child].next);
                 }
             }
@@ -212,7 +228,7 @@ impl<'a> Runner<'a> {
                     return false;
                 };
                 let values = [self.values[cell(first)], self.values[last]];
-                self.finish(at, compute(operation, values));
+                self.finish(top, at, compute(operation, values));
             }
             BUSY_IF => {
                 let condition = cell(first);
@@ -220,7 +236,7 @@ impl<'a> Runner<'a> {
                 if self.values[condition] == 0 {
                     branch = self.net.cells[cell(branch)].next;
                 }
-                return self.last_part(at, cell(branch), self.is_done(condition));
+                return self.last_part(top, at, cell(branch), self.is_done(condition));
             }
             BUSY_LET => {
                 let (mut child, mut is_ready) = (cell(first), true);
@@ -228,15 +244,16 @@ impl<'a> Runner<'a> {
                     is_ready &= self.is_done(child);
                     child = cell(self.net.cells[child].next);
                 }
-                return self.last_part(at, child, is_ready);
+                return self.last_part(top, at, child, is_ready);
             }
             BUSY_SELF_CALL => {
                 if first != NONE && self.last_if_done(first).is_none() {
                     return false;
                 }
                 self.enter(owner.into(), first);
+                self.open(top, cell(self.net.roots[usize::from(owner) % MOST_FUNCTIONS]));
             }
-            BUSY_CALL => return self.take_call(at, word as usize % MOST_FUNCTIONS, first),
+            BUSY_CALL => return self.take_call(top, at, word as usize % MOST_FUNCTIONS, first),
             _ => return false,
         }
         true
@@ -244,34 +261,38 @@ impl<'a> Runner<'a> {
 
     /// The branch or body: opened once what comes before it is done, and then waited for.
     #[inline(always)]
-    fn last_part(&mut self, at: usize, last: usize, is_ready: bool) -> bool {
+    fn last_part(&mut self, top: &mut usize, at: usize, last: usize, is_ready: bool) -> bool {
         if self.modes[at] & SECOND != 0 {
             if !self.is_done(last) {
                 return false;
             }
-            self.finish(at, self.values[last]);
+            self.finish(top, at, self.values[last]);
         } else {
             if !is_ready {
                 return false;
             }
             self.modes[at] |= SECOND;
-            self.push(at);
-            self.open(last);
+            self.push(top, at);
+            self.open(top, last);
         }
         true
     }
 
     #[inline(always)]
-    fn take_call(&mut self, at: usize, callee: usize, first: u16) -> bool {
+    fn take_call(&mut self, top: &mut usize, at: usize, callee: usize, first: u16) -> bool {
         if self.modes[at] & SECOND != 0 {
             let root = cell(self.net.roots[callee]);
             if !self.is_done(root) {
                 self.inside.add(callee, at);
                 return false;
             }
-            self.finish(at, self.values[root]);
+            self.finish(top, at, self.values[root]);
             self.occupant[callee] = 0;
-            self.wake_blocked(callee);
+            let mut waiting = self.blocked.take(callee);
+            while let Some(at) = waiting {
+                self.push(top, at);
+                waiting = self.blocked.after(at);
+            }
             return true;
         }
         if first != NONE && self.last_if_done(first).is_none() {
@@ -281,8 +302,9 @@ impl<'a> Runner<'a> {
             self.blocked.add(callee, at);
             return false;
         }
-        self.push(at);
+        self.push(top, at);
         self.enter(callee, first);
+        self.open(top, cell(self.net.roots[callee]));
         self.modes[at] |= SECOND;
         self.occupant[callee] = self.net.cells[at].node;
         true
@@ -304,54 +326,43 @@ impl<'a> Runner<'a> {
         None
     }
 
-    fn push(&mut self, at: usize) {
-        self.stack[self.count % MOST_NODES] = at as u16;
-        self.count += usize::from(self.modes[at] & QUEUED == 0);
+    #[inline(always)]
+    fn push(&mut self, top: &mut usize, at: usize) {
+        self.stack[*top % MOST_NODES] = at as u16;
+        *top += usize::from(self.modes[at] & QUEUED == 0);
         self.modes[at] |= QUEUED;
     }
 
     /// Makes an open node busy. It comes below its children on the stack, so that it is looked at after them.
-    fn wait(&mut self, at: usize) {
+    #[inline(always)]
+    fn wait(&mut self, top: &mut usize, at: usize) {
         self.modes[at] ^= OPEN ^ BUSY;
-        self.push(at);
+        self.push(top, at);
     }
 
-    fn open(&mut self, at: usize) {
-        self.push(at);
+    #[inline(always)]
+    fn open(&mut self, top: &mut usize, at: usize) {
+        self.push(top, at);
         self.modes[at] = self.modes[at] & !STATUS | OPEN;
     }
 
-    fn finish(&mut self, at: usize, value: u32) {
+    #[inline(always)]
+    fn finish(&mut self, top: &mut usize, at: usize, value: u32) {
         self.modes[at] = self.modes[at] & KIND | DONE;
         self.values[at] = value;
         let Cell { holder, owner, .. } = self.net.cells[at];
         if holder != NONE {
-            self.push(cell(holder));
-        } else if self.inside.head[usize::from(owner) % MOST_FUNCTIONS] != NONE {
-            self.wake_inside(owner.into());
+            self.push(top, cell(holder));
+        } else {
+            let mut caller = self.inside.take(owner.into());
+            while let Some(at) = caller {
+                self.push(top, at);
+                caller = self.inside.after(at);
+            }
         }
     }
 
-    #[cold]
-    fn wake_inside(&mut self, function: usize) {
-        let mut at = std::mem::replace(&mut self.inside.head[function], NONE);
-        while at != NONE {
-            self.inside.has[cell(at)] = false;
-            self.push(cell(at));
-            at = self.inside.next[cell(at)];
-        }
-    }
-
-    fn wake_blocked(&mut self, function: usize) {
-        let mut at = std::mem::replace(&mut self.blocked.head[function], NONE);
-        while at != NONE {
-            self.blocked.has[cell(at)] = false;
-            self.push(cell(at));
-            at = self.blocked.next[cell(at)];
-        }
-    }
-
-    /// Makes a function's body ready for these arguments and opens its root.
+    /// Makes a function's body ready for these arguments; its root is to be opened.
     fn enter(&mut self, function: usize, first: u16) {
         let mut arguments = [0; 8];
         let mut child = first;
@@ -366,6 +377,5 @@ impl<'a> Runner<'a> {
         let body = self.net.begin[function].into()..self.net.begin[function + 1].into();
         self.modes[body.clone()].iter_mut().for_each(|mode| *mode &= KIND | QUEUED);
         self.values[body].fill(0);
-        self.open(cell(self.net.roots[function]));
     }
 }

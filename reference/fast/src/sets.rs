@@ -2,7 +2,8 @@
 //! run side by side held against each other where they meet.
 
 use crate::check::{survey, Survey};
-use crate::{first, next, Parts, CALL, IF, LET, MOST_FUNCTIONS, MOST_NODES, PRIMITIVE};
+use crate::{first, next, Parts, MOST_FUNCTIONS, MOST_NODES};
+use crate::{BOUND, CALL, CONSTANT, IF, LET, PARAMETER, PRIMITIVE};
 
 /// Call nodes, node n at bit n - 1.
 type Calls = [u64; MOST_NODES / 64];
@@ -55,37 +56,52 @@ impl Walk<'_> {
         walk.listed
     }
 
-    /// Adds the calls that may happen at or below a node; returns their callees.
-    fn node(&mut self, node: usize, calls: &mut Calls) -> Functions {
-        let record = self.parts.record(node);
-        match record[0] {
-            PRIMITIVE => self.side_by_side(first(record), 0, calls),
-            IF => self.branches(first(record), calls),
-            LET => {
-                let body = self.last(first(record));
-                self.side_by_side(first(record), body, calls) | self.node(body, calls)
-            }
-            CALL => self.side_by_side(first(record), 0, calls) | self.call(node, record[2].into(), calls),
-            _ => 0,
-        }
-    }
-
-    fn branches(&mut self, mut child: usize, calls: &mut Calls) -> Functions {
+    /// Adds the calls that may happen at or below a node; returns their callees. What comes last in a node is walked in
+    /// the same round, and a lone child is held against nothing.
+    fn node(&mut self, mut node: usize, calls: &mut Calls) -> Functions {
         let mut callees = 0;
-        while child != 0 {
-            callees |= self.node(child, calls);
-            child = next(self.parts.record(child));
+        loop {
+            let record = self.parts.record(node);
+            let child = first(record);
+            match record[0] {
+                PRIMITIVE => (),
+                CALL => callees |= self.call(node, record[2].into(), calls),
+                IF => {
+                    let then = next(self.parts.record(child));
+                    callees |= self.node(child, calls) | self.node(then, calls);
+                    node = next(self.parts.record(then));
+                    continue;
+                }
+                LET => {
+                    let body;
+                    (callees, body) = self.definientia(child, callees, calls);
+                    node = body;
+                    continue;
+                }
+                _ => return callees,
+            }
+            if child == 0 {
+                return callees;
+            }
+            if next(self.parts.record(child)) != 0 {
+                return callees | self.side_by_side(child, 0, calls);
+            }
+            node = child;
         }
-        callees
     }
 
-    fn last(&self, mut child: usize) -> usize {
-        loop {
-            match next(self.parts.record(child)) {
-                0 => return child,
-                after => child = after,
-            }
+    /// Adds the callees of what a let defines; tells its body too.
+    fn definientia(&mut self, first: usize, callees: Functions, calls: &mut Calls) -> (Functions, usize) {
+        let mut body = next(self.parts.record(first));
+        let mut after = next(self.parts.record(body));
+        if after == 0 {
+            return (callees | self.node(first, calls), body);
         }
+        while after != 0 {
+            body = after;
+            after = next(self.parts.record(body));
+        }
+        (callees | self.side_by_side(first, body, calls), body)
     }
 
     /// Siblings from this one up to, and without, an end: all of them may happen at once.
@@ -93,10 +109,13 @@ impl Walk<'_> {
         let mut own = NO_CALLS;
         let (mut callees, mut shared) = (0, 0);
         while child != end {
-            let more = self.node(child, &mut own);
-            shared |= callees & more;
-            callees |= more;
-            child = next(self.parts.record(child));
+            let record = self.parts.record(child);
+            if !is_leaf(record[0]) {
+                let more = self.node(child, &mut own);
+                shared |= callees & more;
+                callees |= more;
+            }
+            child = next(record);
         }
         if callees != 0 {
             self.list(&own, shared);
@@ -127,6 +146,11 @@ impl Walk<'_> {
         join(calls, below);
         callees | 1 << (callee - 1)
     }
+}
+
+/// Constants, parameters and bounds call nothing.
+fn is_leaf(kind: u8) -> bool {
+    (1 << CONSTANT | 1 << PARAMETER | 1 << BOUND) >> kind & 1 == 1
 }
 
 fn join(calls: &mut Calls, more: &Calls) {
