@@ -3,7 +3,7 @@
 
 use std::hint::select_unpredictable as select;
 
-use crate::rules::{rule, whole, Rule};
+use crate::rules::{rule, whole};
 use crate::{first, half, next, refusal, word, Parts};
 use crate::{BOUND, CALL, IF, LET, MOST_FUNCTIONS, MOST_NODES, PARAMETER};
 
@@ -25,7 +25,11 @@ pub(crate) fn survey(table: &[u8], survey: &mut Survey) -> u32 {
         return refusal(3, 0);
     }
     let parts = Parts::of(table);
-    survey.look(&parts).unwrap_or_else(|| links(&parts))
+    match survey.look(&parts) {
+        Some(false) => 0,
+        Some(true) => fault(&parts, survey),
+        None => links(&parts),
+    }
 }
 
 /// Refusal 4, which applies.
@@ -65,89 +69,72 @@ fn links(parts: &Parts) -> u32 {
 /// child to the next.
 #[derive(Clone, Copy)]
 pub(crate) struct Above {
-    /// From the lowest bit: the function (6 bits), which of the siblings are in tail position (3), the holder's kind (3,
-    /// 0 for a root), the holder (10), and the innermost let in whose body the node is (10).
+    /// From the lowest bit: the function (6 bits), which of the siblings are in tail position (3), whether the holder is
+    /// a let (1), and two numbers that grow with each sibling (11 each): the first has its high bit once there are
+    /// enough, the second if there are too many.
     place: u32,
-    /// Two numbers that grow with each sibling (16 bits each): the first has its high bit once there are enough, the
-    /// second if there are too many.
-    counts: u32,
+    /// The holder, 0 for a root, and, in the upper half, the innermost let in whose body the node is.
+    around: u32,
 }
 
 const OWNER: u32 = 0x3f;
-/// In tail position anyway, if it is the last sibling, and if it comes after this one.
+/// In tail position anyway, if it comes after this one, and if it is the last sibling.
 const TAIL: u32 = 1 << 6;
 const TAIL_AFTER: u32 = 1 << 7;
 const TAIL_LAST: u32 = 1 << 8;
-const KIND: u32 = 9;
-const HOLDER: u32 = 12;
-const SCOPE: u32 = 22;
-const NUMBER: u32 = 0x3ff;
-const ENOUGH: u32 = 1 << 15;
+const IN_LET: u32 = 1 << 9;
+const ENOUGH: u32 = 1 << 20;
 const TOO_MANY: u32 = 1 << 31;
 /// One in both counts.
-const ONE: u32 = 1 << 16 | 1;
+const ONE: u32 = 1 << 21 | 1 << 10;
 
 impl Above {
-    const NONE: Above = Above { place: 0, counts: 0 };
+    const NONE: Above = Above { place: 0, around: 0 };
 
     const fn root(function: usize) -> Above {
-        Above { place: function as u32 | TAIL, counts: ENOUGH }
+        Above { place: function as u32 | TAIL | ENOUGH, around: 0 }
     }
 
-    /// What every first child of such a node has, the node being in tail position.
-    pub const fn below(kind: u8, fewest: u8, most: u8) -> Above {
-        let tail = match kind {
+    /// The place of every first child of such a node in tail position, but for the function.
+    pub const fn below(kind: u8, fewest: u8, most: u8) -> u32 {
+        let kind = match kind {
             IF => TAIL_AFTER,
-            LET => TAIL_LAST,
+            LET => TAIL_LAST | IN_LET,
             _ => 0,
         };
-        let counts = (0x8001 - fewest as u32) | (0x8000 - most as u32) << 16;
-        Above { place: (kind as u32) << KIND | tail, counts }
+        kind | ENOUGH + (1 << 10) - ((fewest as u32) << 10) | TOO_MANY - ((most as u32) << 21)
     }
 
     fn next(self) -> Above {
-        Above { place: self.place | (self.place & TAIL_AFTER) >> 1, counts: self.counts.wrapping_add(ONE) }
-    }
-
-    fn first(self, node: usize, in_tail: bool, rule: &Rule, arguments: u8) -> Above {
-        let below = rule.below.place & select(in_tail, !0, !(TAIL_LAST | TAIL_AFTER));
-        Above {
-            place: below | (node as u32) << HOLDER | self.place & (OWNER | NUMBER << SCOPE),
-            counts: rule.below.counts.wrapping_sub(u32::from(arguments) * ONE),
-        }
+        Above { place: self.place.wrapping_add(ONE) | (self.place & TAIL_AFTER) >> 1, around: self.around }
     }
 
     /// The same with the let around it, if it is a let's body.
     fn in_scope(self, is_last: bool) -> Above {
-        let inner = self.place & !(NUMBER << SCOPE) | (self.place << (SCOPE - HOLDER)) & NUMBER << SCOPE;
-        Above { place: select((self.under() == LET) & is_last, inner, self.place), ..self }
+        let inner = (self.around & 0xffff) * 0x1_0001;
+        Above { around: select((self.place & IN_LET != 0) & is_last, inner, self.around), ..self }
     }
 
     fn in_tail(self, is_last: bool) -> bool {
         self.place & select(is_last, TAIL | TAIL_LAST, TAIL) != 0
     }
 
-    /// Asked of a last sibling: whether it ends the right number of them.
-    fn ends_well(self) -> bool {
-        self.counts & (ENOUGH | TOO_MANY) == ENOUGH
+    /// Of a last sibling: not zero if it ends a wrong number of them.
+    fn miscounts(self) -> u32 {
+        (self.place ^ ENOUGH) & (ENOUGH | TOO_MANY)
     }
 
     fn scope(self) -> usize {
-        (self.place >> SCOPE) as usize
+        (self.around >> 16) as usize
     }
 
     pub fn owner(self) -> u8 {
         (self.place & OWNER) as u8
     }
 
-    /// The holder's kind, 0 for a root.
-    pub fn under(self) -> u8 {
-        (self.place >> KIND & 7) as u8
-    }
-
     /// The holder, 0 for a root.
     pub fn holder(self) -> usize {
-        (self.place >> HOLDER & NUMBER) as usize
+        usize::from(self.around as u16)
     }
 }
 
@@ -161,26 +148,25 @@ impl Survey {
         Survey { above: [Above::NONE; MOST_NODES + 1] }
     }
 
-    /// Refusals 5 to 9, or none where 4 applies. A name is a root, a first or a next; they come before the node that
-    /// they name, and every node is named once if each is named and the names come to the sum of all nodes.
-    fn look(&mut self, parts: &Parts) -> Option<u32> {
+    /// Whether one of the refusals 5 to 9 applies, or none where 4 does. A name is a root, a first or a next; they come
+    /// before the node that they name, and every node is named once if each is named and the names come to the sum of
+    /// all nodes.
+    fn look(&mut self, parts: &Parts) -> Option<bool> {
         let nodes = parts.nodes();
         let above = self.above.get_mut(..=nodes)?;
-        let mut found = u32::MAX;
         let mut parameters = [0; 256];
-        let mut names = 0;
+        let (mut names, mut bad) = (0, 0);
         for (index, head) in parts.heads.iter().enumerate() {
             let root = half(head, 2);
             if root == 0 || root > nodes || next(parts.record(root)) != 0 {
                 return None;
             }
-            if head[0] > 8 || head[1] != 0 {
-                found = refusal(5, 0);
-            }
+            bad |= u64::from(head[0] > 8 || head[1] != 0);
             parameters[index + 1] = head[0];
             above[root] = Above::root(index + 1);
             names += root;
         }
+        let (mut bounds, mut bound_count) = ([0; MOST_NODES], 0);
         for (before, record) in parts.records.iter().enumerate() {
             let node = before + 1;
             let (whole, next) = (whole(record), next(record));
@@ -191,65 +177,99 @@ impl Survey {
                 return None;
             }
             names += first + next;
-            let own = named.in_scope(is_last);
-            let (owner, in_tail) = (own.owner(), own.in_tail(is_last));
-            let rule = rule(kind, extra);
-            let arguments = select(kind == CALL, parameters[usize::from(word as u8)], 0);
             // Written for an absent link too: nobody asks for entry 0.
             *above.get_mut(next)? = named.next();
-            *above.get_mut(first)? = own.first(node, in_tail, rule, arguments);
-            above[node].place = own.place;
+            let own = named.in_scope(is_last);
+            above[node].around = own.around;
+            let (owner, in_tail) = (own.owner(), own.in_tail(is_last));
+            let rule = rule(kind, extra);
+            let arguments = u32::from(select(kind == CALL, parameters[usize::from(word as u8)], 0));
+            let below = rule.below & select(in_tail, !0, !(TAIL_LAST | TAIL_AFTER));
+            *above.get_mut(first)? = Above {
+                place: below.wrapping_sub(arguments * ONE) | u32::from(owner),
+                around: own.around & 0xffff_0000 | node as u32,
+            };
             // Only in tail position the own function may be called.
             let callees = u32::from(owner) - u32::from(!in_tail);
-            let mut is_bad = (whole & rule.zero != 0)
-                | (first == 0) & (rule.fewest | arguments != 0)
-                | (kind == CALL) & (word.wrapping_sub(1) >= callees)
-                | (kind == PARAMETER) & (extra >= parameters[usize::from(owner)]);
-            if kind == BOUND {
-                is_bad |= !sees(parts, above, node, word);
-            }
-            // The lowest number comes first, and within it the lowest node.
-            if is_bad {
-                found = found.min(fault(node, record, owner, arguments));
-            }
-            if is_last & !own.ends_well() {
-                found = found.min(refusal(7, own.holder() as u32));
-            }
+            bad |= whole & rule.zero
+                | u64::from(select(first == 0, rule.fewest | arguments, 0))
+                | u64::from((kind == CALL) & (word.wrapping_sub(1) >= callees))
+                | u64::from((kind == PARAMETER) & (extra >= parameters[usize::from(owner)]))
+                | u64::from(select(is_last, own.miscounts(), 0));
+            bounds[bound_count % MOST_NODES] = node as u16;
+            bound_count += usize::from(kind == BOUND);
         }
-        (names == nodes * (nodes + 1) / 2).then_some(select(found == u32::MAX, 0, found))
+        for node in &bounds[..bound_count] {
+            bad |= u64::from(!sees(parts, above, (*node).into()));
+        }
+        (names == nodes * (nodes + 1) / 2).then_some(bad != 0)
     }
 }
 
-/// Which refusal it is at a node that has one of its own.
-#[cold]
-fn fault(node: usize, record: &[u8; 10], owner: u8, arguments: u8) -> u32 {
-    let (kind, word, rule) = (record[0], word(record), rule(record[0], record[1]));
-    let number = if kind == 0 || whole(record) & rule.zero != 0 {
-        5
-    } else if kind == CALL && !(1..=owner.into()).contains(&word) {
-        6
-    } else if first(record) == 0 && rule.fewest | arguments != 0 {
-        7
-    } else if kind != CALL {
-        8
-    } else {
-        9
-    };
-    refusal(number, node as u32)
-}
-
-/// Whether a node is in the body of a let that has this definiens.
-fn sees(parts: &Parts, above: &[Above], node: usize, definiens: u32) -> bool {
-    let definiens = definiens as usize;
+/// Whether a bound is in the body of a let that has its definiens.
+fn sees(parts: &Parts, above: &[Above], bound: usize) -> bool {
+    let definiens = word(parts.record(bound)) as usize;
     // A definiens comes before the body.
-    if definiens == 0 || definiens >= node {
+    if definiens == 0 || definiens >= bound {
         return false;
     }
-    let (named, own) = (above[definiens], above[node]);
-    let mut scope = own.scope();
-    // Lets come before what is in them.
-    while scope > named.holder() {
-        scope = above[scope].scope();
+    let let_node = above[definiens].holder();
+    let mut scope = above[bound].scope();
+    let outer = |scope: usize| select(scope > let_node, above[scope].scope(), scope);
+    // Lets come before what is in them. Most are near, and how near is hard to foresee.
+    for _ in 0..3 {
+        scope = outer(scope);
     }
-    scope == named.holder() && named.under() == LET && next(parts.record(definiens)) != 0
+    while scope > let_node {
+        scope = outer(scope);
+    }
+    (scope == let_node) & (above[definiens].place & IN_LET != 0) & (next(parts.record(definiens)) != 0)
 }
+
+/// The lowest of the refusals 5 to 9, one of which applies: the lowest number, and within it the lowest node.
+#[cold]
+fn fault(parts: &Parts, known: &Survey) -> u32 {
+    if parts.heads.iter().any(|head| head[0] > 8 || head[1] != 0) {
+        return refusal(5, 0);
+    }
+    let number = |(record, node): (&[u8; 10], usize)| {
+        let (kind, extra, word, above) = (record[0], record[1], word(record), known.above[node]);
+        let (rule, owner) = (rule(kind, extra), u32::from(above.owner()));
+        let mut children = 0;
+        let mut child = first(record);
+        while child != 0 {
+            children += 1;
+            child = next(parts.record(child));
+        }
+        let range = match kind {
+            CALL if (1..=owner).contains(&word) => {
+                let arguments = parts.parameters(word as usize) as u32;
+                arguments..=arguments
+            }
+            _ => rule.fewest..=rule.most,
+        };
+        let is_seen = match kind {
+            PARAMETER => usize::from(extra) < parts.parameters(owner as usize),
+            BOUND => sees(parts, &known.above, node),
+            _ => true,
+        };
+        if kind == 0 || whole(record) & rule.zero != 0 {
+            5
+        } else if kind == CALL && !(1..=owner).contains(&word) {
+            6
+        } else if !range.contains(&children) {
+            7
+        } else if !is_seen {
+            8
+        } else if kind == CALL && word == owner && !above.in_tail(next(record) == 0) {
+            9
+        } else {
+            NO_FAULT
+        }
+    };
+    let faults = parts.records.iter().zip(1..).map(|record| refusal(number(record), record.1 as u32));
+    faults.min().unwrap_or(0)
+}
+
+/// Above every refusal's number.
+const NO_FAULT: u32 = 99;

@@ -58,7 +58,7 @@ fn listed(parts: &Parts, known: &Survey) -> [u64; MOST_NODES / 64] {
             let record = parts.record(node);
             let (below, after) = (rows[first(record)], rows[next(record)]);
             let all = below.all | bodies[other_callee(record, function)];
-            let held = select(is_held(known, node, record), all, 0);
+            let held = select(is_held(parts, known, node, record), all, 0);
             rows[node] =
                 Row { all: all | after.all, once: held | after.once, twice: after.twice | (held & after.once) };
             node = earlier[node].into();
@@ -72,7 +72,7 @@ fn listed(parts: &Parts, known: &Survey) -> [u64; MOST_NODES / 64] {
         let node = usize::from(*node);
         let record = parts.record(node);
         let own = wants[node];
-        let sure = own.sure | select(is_held(known, node, record), own.shared, 0);
+        let sure = own.sure | select(is_held(parts, known, node, record), own.shared, 0);
         // Written for an absent link too: nobody reads entry 0.
         wants[next(record)] = own;
         wants[first(record)] = Want { sure, shared: rows[first(record)].twice };
@@ -90,7 +90,8 @@ fn other_callee(record: &[u8; 10], function: usize) -> usize {
 }
 
 /// Whether a node is held against its siblings: a child of a primitive or call, or a definiens.
-fn is_held(known: &Survey, node: usize, record: &[u8; 10]) -> bool {
-    let under = known.above[node].under();
+fn is_held(parts: &Parts, known: &Survey, node: usize, record: &[u8; 10]) -> bool {
+    let holder = known.above[node].holder();
+    let under = if holder == 0 { 0 } else { parts.record(holder)[0] };
     (under == PRIMITIVE) | (under == CALL) | (under == LET) & (next(record) != 0)
 }

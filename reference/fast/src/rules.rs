@@ -7,10 +7,11 @@ use crate::{BOUND, CALL, CONSTANT, IF, LET, PARAMETER, PRIMITIVE};
 pub(crate) struct Rule {
     /// Which of the bytes of kind, extra, word and first have to be zero.
     pub zero: u64,
-    /// What its first child has from it.
-    pub below: Above,
-    /// Fewest children; a call has the number of its callee, which is looked at apart.
-    pub fewest: u8,
+    /// The place of its first child.
+    pub below: u32,
+    /// Fewest and most children; a call has the number of its callee, which is looked at apart.
+    pub fewest: u32,
+    pub most: u32,
 }
 
 pub(crate) fn rule(kind: u8, extra: u8) -> &'static Rule {
@@ -30,7 +31,7 @@ static RULES: [[Rule; 256]; 2] = {
     const WORD: u64 = 0xffff_ffff << 16;
     const FIRST: u64 = 0xffff << 48;
     const fn rule(kind: u8, zero: u64, fewest: u8, most: u8) -> Rule {
-        Rule { zero, below: Above::below(kind, fewest, most), fewest }
+        Rule { zero, below: Above::below(kind, fewest, most), fewest: fewest as u32, most: most as u32 }
     }
     let mut rules = [[rule(0, u64::MAX, 1, 1); 256]; 2];
     rules[0][CONSTANT as usize] = rule(CONSTANT, EXTRA | FIRST, 0, 0);

@@ -139,11 +139,13 @@ impl Walk<'_> {
         if callee == self.function {
             return 0;
         }
-        let (word, bit) = ((node - 1) / 64, 1 << ((node - 1) % 64));
-        calls[word] |= bit;
-        self.sites[callee][word] |= bit;
+        let (at, bit) = ((node - 1) / 64, 1 << ((node - 1) % 64));
         let (below, callees) = &self.bodies[callee];
-        join(calls, below);
+        // All words in one way: reading them together right after one was written alone is slow.
+        for (word, (call, below)) in calls.iter_mut().zip(below).enumerate() {
+            *call |= below | if word == at { bit } else { 0 };
+        }
+        self.sites[callee][at] |= bit;
         callees | 1 << (callee - 1)
     }
 }
