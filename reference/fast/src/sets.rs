@@ -63,19 +63,15 @@ impl Walk<'_> {
         loop {
             let record = self.parts.record(node);
             let child = first(record);
+            let mut body = 0;
             match record[0] {
                 PRIMITIVE => (),
                 CALL => callees |= self.call(node, record[2].into(), calls),
+                LET => body = self.last(child),
                 IF => {
                     let then = next(self.parts.record(child));
                     callees |= self.node(child, calls) | self.node(then, calls);
                     node = next(self.parts.record(then));
-                    continue;
-                }
-                LET => {
-                    let body;
-                    (callees, body) = self.definientia(child, callees, calls);
-                    node = body;
                     continue;
                 }
                 _ => return callees,
@@ -83,28 +79,32 @@ impl Walk<'_> {
             if child == 0 {
                 return callees;
             }
-            if next(self.parts.record(child)) != 0 {
-                return callees | self.side_by_side(child, 0, calls);
+            if next(self.parts.record(child)) != body {
+                callees |= self.side_by_side(child, body, calls);
+            } else if body != 0 {
+                callees |= self.node(child, calls);
+            } else {
+                body = child;
             }
-            node = child;
+            if body == 0 {
+                return callees;
+            }
+            node = body;
         }
     }
 
-    /// Adds the callees of what a let defines; tells its body too.
-    fn definientia(&mut self, first: usize, callees: Functions, calls: &mut Calls) -> (Functions, usize) {
-        let mut body = next(self.parts.record(first));
-        let mut after = next(self.parts.record(body));
-        if after == 0 {
-            return (callees | self.node(first, calls), body);
+    fn last(&self, mut child: usize) -> usize {
+        loop {
+            match next(self.parts.record(child)) {
+                0 => return child,
+                after => child = after,
+            }
         }
-        while after != 0 {
-            body = after;
-            after = next(self.parts.record(body));
-        }
-        (callees | self.side_by_side(first, body, calls), body)
     }
 
-    /// Siblings from this one up to, and without, an end: all of them may happen at once.
+    /// Siblings from this one up to, and without, an end: all of them may happen at once. It is part of the walk of a
+    /// node, so that each level returns once: a processor foresees but few returns.
+    #[inline(always)]
     fn side_by_side(&mut self, mut child: usize, end: usize, calls: &mut Calls) -> Functions {
         let mut own = NO_CALLS;
         let (mut callees, mut shared) = (0, 0);
@@ -118,7 +118,9 @@ impl Walk<'_> {
             child = next(record);
         }
         if callees != 0 {
-            self.list(&own, shared);
+            if shared != 0 {
+                self.list(&own, shared);
+            }
             join(calls, &own);
         }
         callees
@@ -126,12 +128,13 @@ impl Walk<'_> {
 
     /// Lists those of the calls whose callee two of the parts share.
     fn list(&mut self, calls: &Calls, mut shared: Functions) {
+        let mut sites = NO_CALLS;
         while shared != 0 {
-            let function = shared.trailing_zeros() as usize + 1;
-            for ((listed, call), site) in self.listed.iter_mut().zip(calls).zip(&self.sites[function]) {
-                *listed |= call & site;
-            }
+            join(&mut sites, &self.sites[shared.trailing_zeros() as usize + 1]);
             shared &= shared - 1;
+        }
+        for ((listed, call), site) in self.listed.iter_mut().zip(calls).zip(&sites) {
+            *listed |= call & site;
         }
     }
 
