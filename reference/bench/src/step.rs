@@ -15,8 +15,9 @@ use design::Tree;
 const SIZES: [usize; 3] = [16, 128, 512];
 const TABLES: usize = 12;
 
-/// Steps that are asked for one after the other, so that putting the state back to its start hardly counts.
+/// Calls that are made one after the other, so that handing out a state for them hardly counts.
 const STEPS: u32 = 64;
+const STARTS: u32 = 16;
 
 /// Against plain Rust that makes the same copies of the state; in place is shown for what is possible.
 const BOUND: f64 = 1.5;
@@ -42,8 +43,9 @@ pub fn section(ratios: &mut Ratios) {
     println!();
     let section = Section::new("one start, medians; table and tags are checked in each", "nodes", &COLUMNS);
     for (size, jobs) in &by_size {
-        let times = medians(jobs, 0, [&start_proved, &start_copied, &start_in_place]);
-        section.row(&size.to_string(), &[&times.nanos[..], &times.ratios[..]].concat());
+        let times = medians(jobs, 0, [&starts_proved, &starts_copied, &starts_in_place]);
+        let nanos = times.nanos.map(|nanos| nanos / f64::from(STARTS));
+        section.row(&size.to_string(), &[&nanos[..], &times.ratios[..]].concat());
         ratios.add(&format!("one start, {size} nodes"), times.ratios[0], BOUND);
     }
 }
@@ -104,8 +106,8 @@ fn steps_proved(job: &Job) {
     for node in &job.nodes {
         let told = compare_circuit::step(black_box(&job.table), black_box(&job.tags), &mut state, *node);
         assert!(black_box(told).is_ok());
+        black_box(&mut state);
     }
-    black_box(state);
 }
 
 fn steps_copied(job: &Job) {
@@ -124,21 +126,27 @@ fn steps_in_place(job: &Job) {
     }
 }
 
-fn start_proved(job: &Job) {
+fn starts_proved(job: &Job) {
     let mut state = job.proved.clone();
-    let told = compare_circuit::start(black_box(&job.table), black_box(&job.tags), &job.arguments, &mut state);
-    assert!(black_box(told).is_ok());
-    black_box(state);
+    for _ in 0..STARTS {
+        let told = compare_circuit::start(black_box(&job.table), black_box(&job.tags), &job.arguments, &mut state);
+        assert!(black_box(told).is_ok());
+        black_box(&mut state);
+    }
 }
 
-fn start_copied(job: &Job) {
+fn starts_copied(job: &Job) {
     let mut state = job.fast.clone();
-    black_box(fast::start_lent(black_box(&job.table), black_box(&job.tags), &job.arguments, &mut state.lend()));
-    black_box(state);
+    for _ in 0..STARTS {
+        black_box(fast::start_lent(black_box(&job.table), black_box(&job.tags), &job.arguments, &mut state.lend()));
+        black_box(&mut state);
+    }
 }
 
-fn start_in_place(job: &Job) {
+fn starts_in_place(job: &Job) {
     let mut state = job.fast.clone();
-    black_box(fast::start(black_box(&job.table), black_box(&job.tags), &job.arguments, &mut state));
-    black_box(state);
+    for _ in 0..STARTS {
+        black_box(fast::start(black_box(&job.table), black_box(&job.tags), &job.arguments, &mut state));
+        black_box(&mut state);
+    }
 }
