@@ -1,9 +1,10 @@
-//! The table check in one pass over the nodes. What a node has to be is looked up and not branched on:
-//! the kinds of neighbouring nodes are hard to foresee.
+//! The table check in one pass over the nodes and one over the bounds. What a node has to be is looked up and not
+//! branched on: the kinds of neighbouring nodes are hard to foresee.
 
 use std::hint::select_unpredictable as select;
 
 use crate::rules::{rule, whole};
+use crate::scope::{all_see, Order};
 use crate::{first, half, next, refusal, word, Parts};
 use crate::{BOUND, CALL, IF, LET, MOST_FUNCTIONS, MOST_NODES, PARAMETER};
 
@@ -112,7 +113,7 @@ impl Above {
     /// The same with the let around it, if it is a let's body.
     fn in_scope(self, is_last: bool) -> Above {
         let inner = (self.around & 0xffff) * 0x1_0001;
-        Above { around: select((self.place & IN_LET != 0) & is_last, inner, self.around), ..self }
+        Above { around: select(self.is_in_let() & is_last, inner, self.around), ..self }
     }
 
     fn in_tail(self, is_last: bool) -> bool {
@@ -124,8 +125,13 @@ impl Above {
         (self.place ^ ENOUGH) & (ENOUGH | TOO_MANY)
     }
 
-    fn scope(self) -> usize {
+    /// The innermost let in whose body the node is, 0 for none.
+    pub fn scope(self) -> usize {
         (self.around >> 16) as usize
+    }
+
+    pub fn is_in_let(self) -> bool {
+        self.place & IN_LET != 0
     }
 
     pub fn owner(self) -> u8 {
@@ -199,31 +205,11 @@ impl Survey {
             bounds[bound_count % MOST_NODES] = node as u16;
             bound_count += usize::from(kind == BOUND);
         }
-        for node in &bounds[..bound_count] {
-            bad |= u64::from(!sees(parts, above, (*node).into()));
+        if names != nodes * (nodes + 1) / 2 {
+            return None;
         }
-        (names == nodes * (nodes + 1) / 2).then_some(bad != 0)
+        Some(bad != 0 || !all_see(parts, above, &bounds[..bound_count]))
     }
-}
-
-/// Whether a bound is in the body of a let that has its definiens.
-fn sees(parts: &Parts, above: &[Above], bound: usize) -> bool {
-    let definiens = word(parts.record(bound)) as usize;
-    // A definiens comes before the body.
-    if definiens == 0 || definiens >= bound {
-        return false;
-    }
-    let let_node = above[definiens].holder();
-    let mut scope = above[bound].scope();
-    let outer = |scope: usize| select(scope > let_node, above[scope].scope(), scope);
-    // Lets come before what is in them. Most are near, and how near is hard to foresee.
-    for _ in 0..3 {
-        scope = outer(scope);
-    }
-    while scope > let_node {
-        scope = outer(scope);
-    }
-    (scope == let_node) & (above[definiens].place & IN_LET != 0) & (next(parts.record(definiens)) != 0)
 }
 
 /// The lowest of the refusals 5 to 9, one of which applies: the lowest number, and within it the lowest node.
@@ -232,6 +218,7 @@ fn fault(parts: &Parts, known: &Survey) -> u32 {
     if parts.heads.iter().any(|head| head[0] > 8 || head[1] != 0) {
         return refusal(5, 0);
     }
+    let order = Order::of(parts, &known.above);
     let number = |(record, node): (&[u8; 10], usize)| {
         let (kind, extra, word, above) = (record[0], record[1], word(record), known.above[node]);
         let (rule, owner) = (rule(kind, extra), u32::from(above.owner()));
@@ -250,7 +237,7 @@ fn fault(parts: &Parts, known: &Survey) -> u32 {
         };
         let is_seen = match kind {
             PARAMETER => usize::from(extra) < parts.parameters(owner as usize),
-            BOUND => sees(parts, &known.above, node),
+            BOUND => order.sees(parts, &known.above, node),
             _ => true,
         };
         if kind == 0 || whole(record) & rule.zero != 0 {

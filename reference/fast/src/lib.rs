@@ -5,6 +5,7 @@ mod list;
 mod net;
 mod rules;
 mod run;
+mod scope;
 mod sets;
 mod state;
 mod step;

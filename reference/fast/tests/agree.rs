@@ -1,5 +1,6 @@
 //! The fast baseline gives the same answers as the reference.
 
+use design::asm::assemble;
 use design::circuit::{self, Answer, NodeState};
 use design::damage::damaged;
 use design::difference::shown;
@@ -31,6 +32,43 @@ fn the_checks_agree() {
         let bytes = accepted(&mut random);
         assert_eq!(fast::check(&bytes), 0, "{}", shown(&bytes));
     }
+}
+
+/// Lets one in the body of another, and below them as many bounds of the outermost as fit.
+fn far_scopes(lets: usize) -> Vec<u8> {
+    let mut text = "fun main() = let a = 0 in".to_string();
+    for _ in 1..lets {
+        text += " let b = 1 in";
+    }
+    let room = 512 - 2 * lets;
+    for _ in 0..room / 2 - 1 {
+        text += " beside(a,";
+    }
+    text += " a";
+    text += &")".repeat(room / 2 - 1);
+    assemble(&text).expect("a text in order")
+}
+
+#[test]
+fn checks_of_far_scopes_agree() {
+    let mut random = Random::new(18);
+    let mut refused = 0;
+    for round in 0..400 {
+        let mut bytes = far_scopes(random.within(1, 200));
+        assert_eq!(fast::check(&bytes), 0, "{}", shown(&bytes));
+        // Some bounds of another definiens, or of what is none.
+        for _ in 0..round % 3 {
+            let nodes = (bytes.len() - 8) / 10;
+            let record = 8 + 10 * random.below(nodes);
+            if bytes[record] == 7 {
+                bytes[record + 2..record + 4].copy_from_slice(&(random.below(nodes + 2) as u16).to_le_bytes());
+            }
+        }
+        let wanted = code(check(&bytes));
+        assert_eq!(fast::check(&bytes), wanted, "{}", shown(&bytes));
+        refused += usize::from(wanted != 0);
+    }
+    assert!((20..380).contains(&refused), "{refused}");
 }
 
 #[test]
