@@ -103,7 +103,7 @@ impl Above {
             LET => TAIL_LAST | IN_LET,
             _ => 0,
         };
-        kind | ENOUGH + (1 << 10) - ((fewest as u32) << 10) | TOO_MANY - ((most as u32) << 21)
+        kind | (ENOUGH + (1 << 10) - ((fewest as u32) << 10)) | (TOO_MANY - ((most as u32) << 21))
     }
 
     fn next(self) -> Above {
