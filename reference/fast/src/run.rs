@@ -186,16 +186,16 @@ impl<'a> Runner<'a> {
     #[inline(always)]
     fn step(&mut self, top: &mut usize) -> Option<usize> {
         loop {
-            *top = top.checked_sub(1)?;
-            let at = cell(self.stack[*top % MOST_NODES]);
-            self.modes[at] &= !QUEUED;
+            let at = cell(self.stack[top.checked_sub(1)? % MOST_NODES]);
             if self.take(top, at) {
                 return Some(at);
             }
+            self.drop_top(top, at);
         }
     }
 
-    /// Takes the step at a node that isn't on the stack; a call that has to wait is put where it will be woken.
+    /// Takes the step at the node on top of the stack, if it has one. A node that goes on stays where it is, below those
+    /// that it opens; a call that has to wait is put where it will be woken.
     #[inline(always)]
     fn take(&mut self, top: &mut usize, at: usize) -> bool {
         let Cell { word, first, operation, owner, .. } = self.net.cells[at];
@@ -204,7 +204,7 @@ impl<'a> Runner<'a> {
             OPEN_PARAMETER => self.finish(top, at, self.registers[word as usize % (8 * MOST_FUNCTIONS)]),
             OPEN_BOUND => self.finish(top, at, self.values[word as usize % MOST_NODES]),
             OPEN_PRIMITIVE | OPEN_CALL | OPEN_SELF_CALL => {
-                self.wait(top, at);
+                self.wait(at);
                 let mut child = first;
                 while child != NONE {
                     self.open(top, cell(child));
@@ -212,11 +212,11 @@ impl<'a> Runner<'a> {
                 }
             }
             OPEN_IF => {
-                self.wait(top, at);
+                self.wait(at);
                 self.open(top, cell(first));
             }
             OPEN_LET => {
-                self.wait(top, at);
+                self.wait(at);
                 let mut child = cell(first);
                 while self.net.cells[child].next != NONE {
                     self.open(top, child);
@@ -250,6 +250,7 @@ impl<'a> Runner<'a> {
                 if first != NONE && self.last_if_done(first).is_none() {
                     return false;
                 }
+                self.drop_top(top, at);
                 self.enter(owner.into(), first);
                 self.open(top, cell(self.net.roots[usize::from(owner) % MOST_FUNCTIONS]));
             }
@@ -272,7 +273,6 @@ impl<'a> Runner<'a> {
                 return false;
             }
             self.modes[at] |= SECOND;
-            self.push(top, at);
             self.open(top, last);
         }
         true
@@ -302,7 +302,6 @@ impl<'a> Runner<'a> {
             self.blocked.add(callee, at);
             return false;
         }
-        self.push(top, at);
         self.enter(callee, first);
         self.open(top, cell(self.net.roots[callee]));
         self.modes[at] |= SECOND;
@@ -333,11 +332,15 @@ impl<'a> Runner<'a> {
         self.modes[at] |= QUEUED;
     }
 
-    /// Makes an open node busy. It comes below its children on the stack, so that it is looked at after them.
     #[inline(always)]
-    fn wait(&mut self, top: &mut usize, at: usize) {
+    fn drop_top(&mut self, top: &mut usize, at: usize) {
+        *top -= 1;
+        self.modes[at] &= !QUEUED;
+    }
+
+    /// Makes an open node busy.
+    fn wait(&mut self, at: usize) {
         self.modes[at] ^= OPEN ^ BUSY;
-        self.push(top, at);
     }
 
     #[inline(always)]
@@ -348,6 +351,7 @@ impl<'a> Runner<'a> {
 
     #[inline(always)]
     fn finish(&mut self, top: &mut usize, at: usize, value: u32) {
+        *top -= 1;
         self.modes[at] = self.modes[at] & KIND | DONE;
         self.values[at] = value;
         let Cell { holder, owner, .. } = self.net.cells[at];
