@@ -8,7 +8,7 @@ use design::random::{accepted_of, Random};
 
 const SIZES: [usize; 4] = [64, 128, 256, 512];
 const TABLES: usize = 24;
-const BOUND: f64 = 2.0;
+const BOUND: f64 = 1.15;
 
 pub fn section(ratios: &mut Ratios) {
     let columns = [("proved ns", 0), ("fast ns", 0), ("ratio", 2)];

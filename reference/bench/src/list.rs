@@ -12,7 +12,7 @@ const SIZES: [usize; 4] = [64, 128, 256, 512];
 const TABLES: usize = 24;
 
 /// Against the bit sets; the words are a cleverer way, shown for what is possible.
-const BOUND: f64 = 1.5;
+const BOUND: f64 = 1.15;
 
 const COLUMNS: [(&str, usize); 6] = [
     ("set by set ns", 0),

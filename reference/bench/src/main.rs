@@ -1,10 +1,12 @@
-//! Times of the proved code beside the fast baseline, both in one run: the check, the list and the run on a budget.
+//! Times of the proved code beside the fast baseline, both in one run: the check, the list, the run on a
+//! budget, one step and one start.
 
 mod check;
 mod list;
 mod measure;
 mod ratios;
 mod run;
+mod step;
 
 fn main() {
     let mut ratios = ratios::Ratios::default();
@@ -13,6 +15,8 @@ fn main() {
     list::section(&mut ratios);
     println!();
     run::section(&mut ratios);
+    println!();
+    step::section(&mut ratios);
     println!();
     ratios.print();
 }

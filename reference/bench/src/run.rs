@@ -23,7 +23,7 @@ const BUDGET: u32 = 20_000;
 const CHECKED: u32 = 1_000;
 
 /// Time a step against the fast baseline's, and at the largest size against that at the smallest.
-const BOUND: f64 = 2.0;
+const BOUND: f64 = 1.2;
 const GROWTH_BOUND: f64 = 2.0;
 
 const MULT: &str = "fun mult(x, y, acc) =

@@ -3,13 +3,21 @@
 mod check;
 mod list;
 mod net;
+mod rules;
 mod run;
+mod scope;
 mod sets;
+mod state;
+mod step;
+mod tags;
 
 pub use check::check;
-pub use list::{check_tags, list};
-pub use run::{run, run_watched, start, Ending, State};
+pub use list::list;
+pub use run::{run, run_watched, Ending};
 pub use sets::list_by_sets;
+pub use state::{Lent, State};
+pub use step::{start, start_lent, step, step_lent};
+pub use tags::check_tags;
 
 /// Number and place of a refusal in one number; 0 stands for no refusal.
 pub(crate) const fn refusal(number: u32, place: u32) -> u32 {
@@ -30,39 +38,34 @@ pub(crate) const BOUND: u8 = 7;
 /// The two parts of a table whose length fits its F and N.
 #[derive(Clone, Copy)]
 pub(crate) struct Parts<'a> {
-    pub heads: &'a [u8],
-    pub records: &'a [u8],
+    pub heads: &'a [[u8; 4]],
+    pub records: &'a [[u8; 10]],
 }
 
 impl<'a> Parts<'a> {
     pub fn of(table: &'a [u8]) -> Parts<'a> {
         let (heads, records) = table[4..].split_at(4 * half(table, 0));
-        Parts { heads, records }
+        Parts { heads: heads.as_chunks().0, records: records.as_chunks().0 }
     }
 
     pub fn functions(&self) -> usize {
-        self.heads.len() / 4
+        self.heads.len()
     }
 
     pub fn nodes(&self) -> usize {
-        self.records.len() / 10
+        self.records.len()
     }
 
     pub fn parameters(&self, function: usize) -> usize {
-        self.heads[4 * (function - 1)].into()
+        self.heads[function - 1][0].into()
     }
 
     pub fn root(&self, function: usize) -> usize {
-        half(self.heads, 4 * (function - 1) + 2)
-    }
-
-    pub fn records(&self) -> impl Iterator<Item = &'a [u8; 10]> {
-        self.records.chunks_exact(10).map(|record| record.try_into().expect("ten bytes"))
+        half(&self.heads[function - 1], 2)
     }
 
     pub fn record(&self, node: usize) -> &'a [u8; 10] {
-        let at = 10 * (node - 1);
-        self.records[at..at + 10].try_into().expect("ten bytes")
+        &self.records[node - 1]
     }
 }
 
@@ -80,4 +83,21 @@ pub(crate) fn first(record: &[u8; 10]) -> usize {
 
 pub(crate) fn next(record: &[u8; 10]) -> usize {
     half(record, 8)
+}
+
+/// What a primitive makes of the values of its first and its last child.
+pub(crate) fn compute(operation: u8, [a, b]: [u32; 2]) -> u32 {
+    match operation {
+        0 => a.wrapping_add(b),
+        1 => a.wrapping_sub(b),
+        2 => a & b,
+        3 => a | b,
+        4 => a ^ b,
+        5 => a << 1,
+        6 => a >> 1,
+        7 => a & 1,
+        8 => u32::from(a == b),
+        9 => u32::from(a < b),
+        _ => b,
+    }
 }

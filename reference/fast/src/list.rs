@@ -1,25 +1,30 @@
-//! The arbiter list from sets of functions alone, which fit a word: first, from callees to callers and from the leaves
-//! up, what each part may call and what the parts held against each other share; then, the other way, which callees
-//! have to be listed in each part. A call is listed if its callee is among those of its own part.
+//! The arbiter list from sets of functions alone, which fit a word: from the leaves up, what each part may call and what
+//! the parts held against each other share; then, from the roots down, which callees have to be listed in each part. A
+//! call is listed if its callee is among those of its own part, or has to be listed wherever its function is called.
 
 use std::hint::select_unpredictable as select;
 
 use crate::check::{survey, Survey};
-use crate::{first, next, refusal, Parts, CALL, LET, MOST_FUNCTIONS, MOST_NODES, PRIMITIVE};
+use crate::{first, next, Parts, CALL, LET, MOST_FUNCTIONS, MOST_NODES, PRIMITIVE};
 
-/// What a node and the siblings after it may call, alone and of those held against each other once and twice.
-#[derive(Clone, Copy)]
+/// Functions, f at bit f - 1.
+type Functions = u32;
+
+/// Of a node and the siblings after it, and of the same without the last: what they may call, and what two of them may.
+#[derive(Clone, Copy, Default)]
 struct Row {
-    all: u32,
-    once: u32,
-    twice: u32,
+    all: Functions,
+    shared: Functions,
+    but_last: Functions,
+    shared_but_last: Functions,
 }
 
-/// What has to be listed at a node: for sure, and if it is held against its siblings.
-#[derive(Clone, Copy)]
+/// What has to be listed at a node: for sure, if it is not the last of its siblings, and if it is.
+#[derive(Clone, Copy, Default)]
 struct Want {
-    sure: u32,
-    shared: u32,
+    sure: Functions,
+    if_other: Functions,
+    if_last: Functions,
 }
 
 /// Fills the tags of the arbiter list; bits past N become 0. Returns what the check returns; a refusal keeps the tags.
@@ -29,8 +34,7 @@ pub fn list(table: &[u8], tags: &mut [u8; 64]) -> u32 {
     if refused != 0 {
         return refused;
     }
-    let parts = Parts::of(table);
-    let listed = listed(&parts, &known);
+    let listed = listed(&Parts::of(table), &known);
     for (bytes, word) in tags.chunks_exact_mut(8).zip(listed) {
         bytes.copy_from_slice(&word.to_le_bytes());
     }
@@ -38,80 +42,94 @@ pub fn list(table: &[u8], tags: &mut [u8; 64]) -> u32 {
 }
 
 fn listed(parts: &Parts, known: &Survey) -> [u64; MOST_NODES / 64] {
-    let mut rows = [Row { all: 0, once: 0, twice: 0 }; MOST_NODES + 1];
-    // A function and what its body may call; entry 0 stands for no call.
-    let mut bodies = [0; MOST_FUNCTIONS + 1];
-    let mut roots = [0; MOST_FUNCTIONS + 1];
-    let mut order = [0; MOST_NODES];
-    let mut count = 0;
-    for function in 1..=parts.functions() {
-        let mut node = usize::from(known.latest[function]);
-        while node != 0 {
-            order[count] = node as u16;
-            count += 1;
-            let record = parts.record(node);
-            let (below, after) = (rows[first(record)], rows[next(record)]);
-            let all = below.all | bodies[other_callee(record, function)];
-            let held = select(is_held(known, node, record), all, 0);
-            rows[node] =
-                Row { all: all | after.all, once: held | after.once, twice: after.twice | (held & after.once) };
-            node = known.earlier[node].into();
-        }
-        roots[function] = parts.root(function);
-        bodies[function] = rows[roots[function]].all | 1 << (function - 1);
+    let calls = Calls::of(parts, known);
+    let bodies = calls.bodies();
+    let mut rows = [Row::default(); MOST_NODES + 1];
+    for (record, node) in parts.records.iter().zip(1..MOST_NODES + 1).rev() {
+        let after = rows[next(record)];
+        let own = rows[first(record)].all | bodies[usize::from(calls.callees[node])];
+        rows[node] = Row {
+            all: own | after.all,
+            shared: after.shared | own & after.all,
+            but_last: select(next(record) == 0, 0, own | after.but_last),
+            shared_but_last: after.shared_but_last | own & after.but_last,
+        };
     }
-    let mut wants = [Want { sure: 0, shared: 0 }; MOST_NODES + 1];
-    let mut listed = [0; MOST_NODES / 64];
-    for node in order[..count].iter().rev() {
-        let node = usize::from(*node);
-        let record = parts.record(node);
+    let mut wants = [Want::default(); MOST_NODES + 1];
+    let mut needs = [0; MOST_FUNCTIONS + 1];
+    for (record, node) in parts.records.iter().zip(1..MOST_NODES + 1) {
         let own = wants[node];
-        let sure = own.sure | select(is_held(known, node, record), own.shared, 0);
+        let sure = own.sure | select(next(record) == 0, own.if_last, own.if_other);
+        let row = rows[first(record)];
+        let is_let = record[0] == LET;
+        let if_last = select((record[0] == PRIMITIVE) | (record[0] == CALL), row.shared, 0);
         // Written for an absent link too: nobody reads entry 0.
         wants[next(record)] = own;
-        wants[first(record)] = Want { sure, shared: rows[first(record)].twice };
-        let callee = other_callee(record, known.above[node].owner().into());
-        wants[roots[callee]].sure |= sure;
-        listed[(node - 1) / 64] |= (u64::from(sure) << 1 >> callee & u64::from(callee != 0)) << ((node - 1) % 64);
+        wants[first(record)] = Want { sure, if_other: select(is_let, row.shared_but_last, if_last), if_last };
+        wants[node].sure = sure;
+        needs[usize::from(calls.callees[node])] |= sure;
+    }
+    calls.hand_on(&mut needs);
+    let mut listed = [0; MOST_NODES / 64];
+    for node in &calls.nodes[..calls.count] {
+        let node = usize::from(*node);
+        let wanted = wants[node].sure | needs[usize::from(known.above[node].owner())];
+        let is_listed = u64::from(wanted >> (calls.callees[node] - 1) & 1);
+        listed[(node - 1) / 64] |= is_listed << ((node - 1) % 64);
     }
     listed
 }
 
-/// The callee of a call that is no self call, else 0.
-fn other_callee(record: &[u8; 10], function: usize) -> usize {
-    let callee = usize::from(record[2]);
-    select((record[0] == CALL) & (callee != function), callee, 0)
+/// The calls that are no self calls.
+struct Calls {
+    nodes: [u16; MOST_NODES],
+    count: usize,
+    /// By node, 0 for none.
+    callees: [u8; MOST_NODES + 1],
+    /// What a function's body calls itself.
+    direct: [Functions; MOST_FUNCTIONS + 1],
 }
 
-/// Whether a node is held against its siblings: a child of a primitive or call, or a definiens.
-fn is_held(known: &Survey, node: usize, record: &[u8; 10]) -> bool {
-    let under = known.above[node].under();
-    (under == PRIMITIVE) | (under == CALL) | (under == LET) & (next(record) != 0)
-}
-
-/// Refusal 10 for a tag list handed in with an accepted table.
-pub fn check_tags(table: &[u8], tags: &[u8]) -> u32 {
-    let parts = Parts::of(table);
-    let nodes = parts.nodes();
-    if tags.len() != nodes.div_ceil(8) || tags[tags.len() - 1] as usize >> ((nodes - 1) % 8 + 1) != 0 {
-        return refusal(10, 0);
-    }
-    if tags.iter().all(|byte| *byte == 0) {
-        return 0;
-    }
-    let mut owner = [0u8; MOST_NODES + 1];
-    for function in 1..=parts.functions() {
-        owner[parts.root(function)] = function as u8;
-    }
-    for node in 1..=nodes {
-        let record = parts.record(node);
-        let tagged = tags[(node - 1) / 8] >> ((node - 1) % 8) & 1 == 1;
-        if tagged && (record[0] != CALL || record[2] == owner[node]) {
-            return refusal(10, node as u32);
+impl Calls {
+    fn of(parts: &Parts, known: &Survey) -> Calls {
+        let mut direct = [0; MOST_FUNCTIONS + 1];
+        let (mut nodes, mut count) = ([0; MOST_NODES], 0);
+        let mut callees = [0; MOST_NODES + 1];
+        for (record, node) in parts.records.iter().zip(1..MOST_NODES + 1) {
+            let owner = known.above[node].owner();
+            let is_other = (record[0] == CALL) & (record[2] != owner);
+            let callee = select(is_other, record[2], 0);
+            callees[node] = callee;
+            nodes[count % MOST_NODES] = node as u16;
+            count += usize::from(is_other);
+            // The bit below the lowest function's falls off.
+            direct[usize::from(owner)] |= (1u64 << callee >> 1) as Functions;
         }
-        // Child and next come later in the table, so the owner is there when they are looked at.
-        owner[first(record)] = owner[node];
-        owner[next(record)] = owner[node];
+        Calls { nodes, count, callees, direct }
     }
-    0
+
+    /// Each function and what its body may call, bodies of callees included; none for 0.
+    fn bodies(&self) -> [Functions; MOST_FUNCTIONS + 1] {
+        let mut bodies = [0; MOST_FUNCTIONS + 1];
+        // A callee comes before its callers.
+        for function in 1..=MOST_FUNCTIONS {
+            bodies[function] = 1 << (function - 1);
+            for_each(self.direct[function], |callee| bodies[function] |= bodies[callee]);
+        }
+        bodies
+    }
+
+    /// What has to be listed in a function has to be in those it calls.
+    fn hand_on(&self, needs: &mut [Functions; MOST_FUNCTIONS + 1]) {
+        for function in (1..=MOST_FUNCTIONS).rev() {
+            for_each(self.direct[function], |callee| needs[callee] |= needs[function]);
+        }
+    }
+}
+
+fn for_each(mut functions: Functions, mut each: impl FnMut(usize)) {
+    while functions != 0 {
+        each(functions.trailing_zeros() as usize + 1);
+        functions &= functions - 1;
+    }
 }

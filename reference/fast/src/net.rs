@@ -1,84 +1,87 @@
-//! A design laid out for running: what a step needs of a node without looking around in the table.
+//! A design laid out for running: the nodes of a function lie side by side, and a cell has what a step needs of a node.
 
-use crate::{first, next, word, Parts, MOST_FUNCTIONS, MOST_NODES};
+use crate::check::Survey;
+use crate::{first, next, word, Parts, BOUND, CALL, MOST_FUNCTIONS, MOST_NODES, PARAMETER};
+
+/// No cell.
+pub const NONE: u16 = u16::MAX;
+
+/// A self call has a kind of its own.
+pub const SELF_CALL: u8 = 0;
+
+/// Brings the number of a cell into its range, which it is in anyway, so that it needs no test.
+pub const fn cell(number: u16) -> usize {
+    number as usize % MOST_NODES
+}
 
 #[derive(Clone, Copy)]
 pub struct Cell {
-    pub kind: u8,
-    pub extra: u8,
-    pub owner: u8,
-    /// The function whose root this is, or 0.
-    pub root_of: u8,
+    /// The value of a constant, the register of a parameter, the cell of a definiens, the callee from 0.
+    pub word: u32,
     pub first: u16,
     pub next: u16,
+    /// None for a root.
     pub holder: u16,
-    pub word: u32,
+    pub node: u16,
+    pub kind: u8,
+    pub operation: u8,
+    /// The node's function, from 0.
+    pub owner: u8,
 }
 
-const EMPTY: Cell = Cell { kind: 0, extra: 0, owner: 0, root_of: 0, first: 0, next: 0, holder: 0, word: 0 };
+const EMPTY: Cell = Cell { word: 0, first: NONE, next: NONE, holder: NONE, node: 0, kind: 0, operation: 0, owner: 0 };
 
 pub struct Net {
+    pub cells: [Cell; MOST_NODES],
+    /// By function from 0; its nodes are from `begin` on, up to the next function's.
+    pub roots: [u16; MOST_FUNCTIONS],
+    pub begin: [u16; MOST_FUNCTIONS + 1],
     pub nodes: usize,
-    pub functions: usize,
-    pub cells: [Cell; MOST_NODES + 1],
-    pub roots: [u16; MOST_FUNCTIONS + 1],
-    /// Nodes by function; those of function f are from `begin[f]` to `begin[f + 1]`.
-    members: [u16; MOST_NODES],
-    begin: [u16; MOST_FUNCTIONS + 2],
+    pub main: usize,
 }
 
 impl Net {
     /// Of an accepted table.
-    pub fn of(table: &[u8]) -> Net {
-        let parts = Parts::of(table);
-        let mut net = Net {
-            nodes: parts.nodes(),
-            functions: parts.functions(),
-            cells: [EMPTY; MOST_NODES + 1],
-            roots: [0; MOST_FUNCTIONS + 1],
-            members: [0; MOST_NODES],
-            begin: [0; MOST_FUNCTIONS + 2],
-        };
-        for function in 1..=net.functions {
-            let root = parts.root(function);
-            net.roots[function] = root as u16;
-            net.cells[root].root_of = function as u8;
-            net.cells[root].owner = function as u8;
+    pub fn of(parts: &Parts, known: &Survey) -> Net {
+        let (nodes, functions) = (parts.nodes(), parts.functions());
+        let mut begin = [0; MOST_FUNCTIONS + 1];
+        for node in 1..=nodes {
+            begin[usize::from(known.above[node].owner())] += 1;
         }
-        for node in 1..=net.nodes {
-            let record = parts.record(node);
-            let Cell { owner, root_of, holder, .. } = net.cells[node];
-            let (first, next) = (first(record) as u16, next(record) as u16);
-            let word = word(record);
-            net.cells[node] = Cell { kind: record[0], extra: record[1], owner, root_of, first, next, holder, word };
-            net.begin[usize::from(owner) + 1] += 1;
-            net.hang(first, owner, node as u16);
-            net.hang(next, owner, holder);
+        for function in 0..MOST_FUNCTIONS {
+            begin[function + 1] += begin[function];
         }
-        for function in 1..=net.functions {
-            net.begin[function + 1] += net.begin[function];
+        let mut free = begin;
+        let mut at = [NONE; MOST_NODES + 1];
+        for node in 1..=nodes {
+            let free = &mut free[usize::from(known.above[node].owner()) - 1];
+            at[node] = *free;
+            *free += 1;
         }
-        let mut at = net.begin;
-        for node in 1..=net.nodes {
-            let owner = usize::from(net.cells[node].owner);
-            net.members[usize::from(at[owner])] = node as u16;
-            at[owner] += 1;
+        let mut cells = [EMPTY; MOST_NODES];
+        for (record, node) in parts.records.iter().zip(1..) {
+            let above = known.above[node];
+            let (kind, word, owner) = (record[0], word(record), above.owner() - 1);
+            cells[cell(at[node])] = Cell {
+                word: match kind {
+                    PARAMETER => u32::from(owner) * 8 + u32::from(record[1]),
+                    BOUND => at[word as usize].into(),
+                    CALL => word - 1,
+                    _ => word,
+                },
+                first: at[first(record)],
+                next: at[next(record)],
+                holder: at[above.holder()],
+                node: node as u16,
+                kind: if kind == CALL && word - 1 == owner.into() { SELF_CALL } else { kind },
+                operation: record[1],
+                owner,
+            };
         }
-        net
-    }
-
-    fn hang(&mut self, node: u16, owner: u8, holder: u16) {
-        if node != 0 {
-            let cell = &mut self.cells[usize::from(node)];
-            (cell.owner, cell.holder) = (owner, holder);
+        let mut roots = [NONE; MOST_FUNCTIONS];
+        for (root, function) in roots.iter_mut().zip(1..=functions) {
+            *root = at[parts.root(function)];
         }
-    }
-
-    pub fn members(&self, function: usize) -> &[u16] {
-        &self.members[self.begin[function].into()..self.begin[function + 1].into()]
-    }
-
-    pub fn main_root(&self) -> usize {
-        self.roots[self.functions].into()
+        Net { cells, roots, begin, nodes, main: functions - 1 }
     }
 }

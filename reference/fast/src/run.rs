@@ -1,68 +1,21 @@
 //! The run on a budget. A step costs what its node needs: nodes that it may have made ready wait on a stack.
 
-use crate::net::Net;
-use crate::{check, check_tags, refusal, Parts};
+use crate::check::Survey;
+use crate::net::{cell, Cell, Net, NONE, SELF_CALL};
+use crate::state::{self, State};
+use crate::tags::checked;
+use crate::{compute, refusal};
 use crate::{BOUND, CALL, CONSTANT, IF, LET, MOST_FUNCTIONS, MOST_NODES, PARAMETER, PRIMITIVE};
 
-const OPEN: u8 = 1;
-const BUSY: u8 = 2;
-const DONE: u8 = 3;
-
-/// The state, node n and function f at n - 1 and f - 1.
-#[derive(Clone, PartialEq, Eq, Debug)]
-pub struct State {
-    pub status: [u8; MOST_NODES],
-    pub second: [bool; MOST_NODES],
-    pub value: [u32; MOST_NODES],
-    pub registers: [[u32; 8]; MOST_FUNCTIONS],
-    pub occupant: [u16; MOST_FUNCTIONS],
-}
-
-impl State {
-    pub fn zero() -> State {
-        State {
-            status: [0; MOST_NODES],
-            second: [false; MOST_NODES],
-            value: [0; MOST_NODES],
-            registers: [[0; 8]; MOST_FUNCTIONS],
-            occupant: [0; MOST_FUNCTIONS],
-        }
-    }
-
-    fn done(&self, node: usize) -> bool {
-        self.status[node - 1] == DONE
-    }
-}
-
+/// How a run ended.
 #[derive(Clone, Copy, PartialEq, Eq, Debug)]
 pub enum Ending {
+    /// Main's root is done, with this value.
     Answered(u32),
+    /// No step is possible.
     AtRest,
+    /// As many steps were taken as the budget has.
     Spent,
-}
-
-/// Puts the state at its start; returns 0, or a refusal and then keeps the state.
-pub fn start(table: &[u8], tags: &[u8], arguments: &[u32], state: &mut State) -> u32 {
-    let refused = check_both(table, tags);
-    if refused != 0 {
-        return refused;
-    }
-    let parts = Parts::of(table);
-    let main = parts.functions();
-    if arguments.len() != parts.parameters(main) {
-        return refusal(11, 0);
-    }
-    *state = State::zero();
-    state.registers[main - 1][..arguments.len()].copy_from_slice(arguments);
-    state.status[parts.root(main) - 1] = OPEN;
-    0
-}
-
-fn check_both(table: &[u8], tags: &[u8]) -> u32 {
-    match check(table) {
-        0 => check_tags(table, tags),
-        refused => refused,
-    }
 }
 
 /// Takes possible steps up to the budget; tells how many and why it ended, or a refusal.
@@ -76,304 +29,357 @@ pub fn run_watched(
     tags: &[u8],
     state: &mut State,
     budget: u32,
-    mut watch: impl FnMut(u16),
+    watch: impl FnMut(u16),
 ) -> Result<(u32, Ending), u32> {
-    let refused = check_both(table, tags);
-    if refused != 0 {
-        return Err(refused);
-    }
-    let net = Net::of(table);
-    let bad_status = state.status[..net.nodes].iter().any(|status| *status > DONE);
-    if bad_status || state.occupant[..net.functions].iter().any(|node| usize::from(*node) > net.nodes) {
+    let mut known = Survey::empty();
+    let parts = checked(table, tags, &mut known)?;
+    if !state.is_in_order(parts.nodes(), parts.functions()) {
         return Err(refusal(24, 0));
     }
-    let mut runner =
-        Runner { net: &net, state, ready: Stack::empty(), inside: Waiting::none(), blocked: Waiting::none() };
-    for node in (1..=net.nodes).rev() {
-        if [OPEN, BUSY].contains(&runner.state.status[node - 1]) {
-            runner.ready.push(node);
-        }
-    }
-    let mut taken = 0;
-    loop {
-        if runner.state.done(net.main_root()) {
-            return Ok((taken, Ending::Answered(runner.state.value[net.main_root() - 1])));
-        }
-        let (node, change) = loop {
-            let Some(node) = runner.ready.pop() else {
-                return Ok((taken, Ending::AtRest));
-            };
-            if let Some(change) = runner.decide(node) {
-                break (node, change);
-            }
-        };
-        if taken == budget {
-            return Ok((taken, Ending::Spent));
-        }
-        runner.apply(node, change);
-        watch(node as u16);
-        taken += 1;
-    }
+    let net = Net::of(&parts, &known);
+    let (mut runner, mut top) = Runner::of(&net, state);
+    let taken = runner.go(&mut top, budget, watch);
+    runner.put(state);
+    let ending = match runner.answer() {
+        Some(value) => Ending::Answered(value),
+        // Tried on the copy alone.
+        None if runner.step(&mut top).is_some() => Ending::Spent,
+        None => Ending::AtRest,
+    };
+    Ok((taken, ending))
 }
 
-enum Change {
-    Done(u32),
-    Busy,
-    SecondPhase(usize),
-    Enter,
-    Leave(u32),
-    Again,
-}
+/// How a node stands, in a byte: its kind, its status, its second phase, and whether it is on the stack.
+const KIND: u8 = 7;
+const STATUS: u8 = 3 << 3;
+const OPEN: u8 = state::OPEN << 3;
+const BUSY: u8 = state::BUSY << 3;
+const DONE: u8 = state::DONE << 3;
+const SECOND: u8 = 1 << 5;
+const QUEUED: u8 = 1 << 6;
 
-/// Nodes to look at next, each at most once.
-struct Stack {
-    nodes: [u16; MOST_NODES],
-    count: usize,
-    has: [bool; MOST_NODES + 1],
-}
+const OPEN_CONSTANT: u8 = OPEN | CONSTANT;
+const OPEN_PARAMETER: u8 = OPEN | PARAMETER;
+const OPEN_BOUND: u8 = OPEN | BOUND;
+const OPEN_PRIMITIVE: u8 = OPEN | PRIMITIVE;
+const OPEN_CALL: u8 = OPEN | CALL;
+const OPEN_SELF_CALL: u8 = OPEN | SELF_CALL;
+const OPEN_IF: u8 = OPEN | IF;
+const OPEN_LET: u8 = OPEN | LET;
+const BUSY_PRIMITIVE: u8 = BUSY | PRIMITIVE;
+const BUSY_CALL: u8 = BUSY | CALL;
+const BUSY_SELF_CALL: u8 = BUSY | SELF_CALL;
+const BUSY_IF: u8 = BUSY | IF;
+const BUSY_LET: u8 = BUSY | LET;
 
-impl Stack {
-    fn empty() -> Stack {
-        Stack { nodes: [0; MOST_NODES], count: 0, has: [false; MOST_NODES + 1] }
-    }
-
-    fn push(&mut self, node: usize) {
-        if !self.has[node] {
-            self.has[node] = true;
-            self.nodes[self.count] = node as u16;
-            self.count += 1;
-        }
-    }
-
-    fn pop(&mut self) -> Option<usize> {
-        self.count = self.count.checked_sub(1)?;
-        let node = usize::from(self.nodes[self.count]);
-        self.has[node] = false;
-        Some(node)
-    }
-}
-
-/// Calls that wait for a function, as one chain each. One that no longer waits may stay until the next waking.
-struct Waiting {
-    head: [u16; MOST_FUNCTIONS + 1],
-    next: [u16; MOST_NODES + 1],
-    has: [bool; MOST_NODES + 1],
-}
-
-impl Waiting {
-    fn none() -> Waiting {
-        Waiting { head: [0; MOST_FUNCTIONS + 1], next: [0; MOST_NODES + 1], has: [false; MOST_NODES + 1] }
-    }
-
-    fn add(&mut self, function: usize, node: usize) {
-        if !self.has[node] {
-            self.has[node] = true;
-            self.next[node] = self.head[function];
-            self.head[function] = node as u16;
-        }
-    }
-
-    fn wake(&mut self, function: usize, ready: &mut Stack) {
-        let mut node = usize::from(std::mem::take(&mut self.head[function]));
-        while node != 0 {
-            self.has[node] = false;
-            ready.push(node);
-            node = self.next[node].into();
-        }
-    }
-}
-
+/// A state in the order of the net, and the nodes to look at next.
 struct Runner<'a> {
     net: &'a Net,
-    state: &'a mut State,
-    /// Every node with a step is in here; others may be too.
-    ready: Stack,
+    modes: [u8; MOST_NODES],
+    values: [u32; MOST_NODES],
+    registers: [u32; 8 * MOST_FUNCTIONS],
+    occupant: [u16; MOST_FUNCTIONS],
+    /// Every node with a step is in here once; others may be too.
+    stack: [u16; MOST_NODES],
     /// Calls in second phase, waiting for their callee's root.
     inside: Waiting,
     /// Calls with their arguments done, waiting for their callee to be free.
     blocked: Waiting,
 }
 
-impl Runner<'_> {
-    fn children_done(&self, node: usize) -> bool {
-        let mut child = usize::from(self.net.cells[node].first);
-        while child != 0 {
-            if !self.state.done(child) {
-                return false;
+/// Calls that wait for a function, as one chain each. One that no longer waits may stay until the next waking.
+struct Waiting {
+    head: [u16; MOST_FUNCTIONS],
+    next: [u16; MOST_NODES],
+    has: [bool; MOST_NODES],
+}
+
+impl Waiting {
+    const NOBODY: Waiting =
+        Waiting { head: [NONE; MOST_FUNCTIONS], next: [NONE; MOST_NODES], has: [false; MOST_NODES] };
+
+    #[cold]
+    fn add(&mut self, function: usize, at: usize) {
+        if !self.has[at] {
+            self.has[at] = true;
+            self.next[at] = self.head[function];
+            self.head[function] = at as u16;
+        }
+    }
+
+    /// The latest that waits; all of them no longer do, once those after it are asked for one by one.
+    fn take(&mut self, function: usize) -> Option<usize> {
+        let latest = std::mem::replace(&mut self.head[function % MOST_FUNCTIONS], NONE);
+        self.woken(latest)
+    }
+
+    fn after(&mut self, at: usize) -> Option<usize> {
+        self.woken(self.next[at])
+    }
+
+    fn woken(&mut self, at: u16) -> Option<usize> {
+        (at != NONE).then(|| {
+            self.has[cell(at)] = false;
+            cell(at)
+        })
+    }
+}
+
+impl<'a> Runner<'a> {
+    fn of(net: &'a Net, state: &State) -> (Runner<'a>, usize) {
+        let mut runner = Runner {
+            net,
+            modes: [0; MOST_NODES],
+            values: [0; MOST_NODES],
+            registers: [0; 8 * MOST_FUNCTIONS],
+            occupant: state.occupant,
+            stack: [0; MOST_NODES],
+            inside: Waiting::NOBODY,
+            blocked: Waiting::NOBODY,
+        };
+        runner.registers.copy_from_slice(state.registers.as_flattened());
+        let mut top = 0;
+        for (at, cell) in net.cells[..net.nodes].iter().enumerate().rev() {
+            let node = usize::from(cell.node) - 1;
+            let status = state.status[node] << 3;
+            runner.modes[at] = cell.kind | status | if state.second[node] { SECOND } else { 0 };
+            runner.values[at] = state.value[node];
+            if status == OPEN || status == BUSY {
+                runner.push(&mut top, at);
             }
-            child = self.net.cells[child].next.into();
+        }
+        (runner, top)
+    }
+
+    fn put(&self, state: &mut State) {
+        for (at, cell) in self.net.cells[..self.net.nodes].iter().enumerate() {
+            let node = usize::from(cell.node) - 1;
+            state.status[node] = (self.modes[at] & STATUS) >> 3;
+            state.second[node] = self.modes[at] & SECOND != 0;
+            state.value[node] = self.values[at];
+        }
+        state.registers.as_flattened_mut().copy_from_slice(&self.registers);
+        state.occupant = self.occupant;
+    }
+
+    fn answer(&self) -> Option<u32> {
+        let root = cell(self.net.roots[self.net.main]);
+        self.is_done(root).then(|| self.values[root])
+    }
+
+    /// Takes steps up to the budget, the answer or rest; tells how many.
+    fn go(&mut self, top: &mut usize, budget: u32, mut watch: impl FnMut(u16)) -> u32 {
+        let root = cell(self.net.roots[self.net.main]);
+        let (mut taken, mut count) = (0, *top);
+        while taken < budget && !self.is_done(root) {
+            let Some(at) = self.step(&mut count) else {
+                break;
+            };
+            watch(self.net.cells[at].node);
+            taken += 1;
+        }
+        *top = count;
+        taken
+    }
+
+    /// Takes a possible step, if there is one.
+    #[inline(always)]
+    fn step(&mut self, top: &mut usize) -> Option<usize> {
+        loop {
+            let at = cell(self.stack[top.checked_sub(1)? % MOST_NODES]);
+            if self.take(top, at) {
+                return Some(at);
+            }
+            self.drop_top(top, at);
+        }
+    }
+
+    /// Takes the step at the node on top of the stack, if it has one. A node that goes on stays where it is, below those
+    /// that it opens; a call that has to wait is put where it will be woken.
+    #[inline(always)]
+    fn take(&mut self, top: &mut usize, at: usize) -> bool {
+        let Cell { word, first, operation, owner, .. } = self.net.cells[at];
+        match self.modes[at] & (STATUS | KIND) {
+            OPEN_CONSTANT => self.finish(top, at, word),
+            OPEN_PARAMETER => self.finish(top, at, self.registers[word as usize % (8 * MOST_FUNCTIONS)]),
+            OPEN_BOUND => self.finish(top, at, self.values[word as usize % MOST_NODES]),
+            OPEN_PRIMITIVE | OPEN_CALL | OPEN_SELF_CALL => {
+                self.wait(at);
+                let mut child = first;
+                while child != NONE {
+                    self.open(top, cell(child));
+                    child = self.net.cells[cell(child)].next;
+                }
+            }
+            OPEN_IF => {
+                self.wait(at);
+                self.open(top, cell(first));
+            }
+            OPEN_LET => {
+                self.wait(at);
+                let mut child = cell(first);
+                while self.net.cells[child].next != NONE {
+                    self.open(top, child);
+                    child = cell(self.net.cells[child].next);
+                }
+            }
+            BUSY_PRIMITIVE => {
+                let Some(last) = self.last_if_done(first) else {
+                    return false;
+                };
+                let values = [self.values[cell(first)], self.values[last]];
+                self.finish(top, at, compute(operation, values));
+            }
+            BUSY_IF => {
+                let condition = cell(first);
+                let mut branch = self.net.cells[condition].next;
+                if self.values[condition] == 0 {
+                    branch = self.net.cells[cell(branch)].next;
+                }
+                return self.last_part(top, at, cell(branch), self.is_done(condition));
+            }
+            BUSY_LET => {
+                let (mut child, mut is_ready) = (cell(first), true);
+                while self.net.cells[child].next != NONE {
+                    is_ready &= self.is_done(child);
+                    child = cell(self.net.cells[child].next);
+                }
+                return self.last_part(top, at, child, is_ready);
+            }
+            BUSY_SELF_CALL => {
+                if first != NONE && self.last_if_done(first).is_none() {
+                    return false;
+                }
+                self.drop_top(top, at);
+                self.enter(owner.into(), first);
+                self.open(top, cell(self.net.roots[usize::from(owner) % MOST_FUNCTIONS]));
+            }
+            BUSY_CALL => return self.take_call(top, at, word as usize % MOST_FUNCTIONS, first),
+            _ => return false,
         }
         true
     }
 
-    /// What a step would do here, if there is one; a call that has to wait is put where it will be woken.
-    fn decide(&mut self, node: usize) -> Option<Change> {
-        let cell = self.net.cells[node];
-        let status = self.state.status[node - 1];
-        if status == OPEN {
-            return Some(match cell.kind {
-                CONSTANT => Change::Done(cell.word),
-                PARAMETER => Change::Done(self.state.registers[usize::from(cell.owner) - 1][usize::from(cell.extra)]),
-                BOUND => Change::Done(self.state.value[cell.word as usize - 1]),
-                _ => Change::Busy,
-            });
-        }
-        if status != BUSY {
-            return None;
-        }
-        let second = self.state.second[node - 1];
-        match cell.kind {
-            PRIMITIVE if self.children_done(node) => Some(Change::Done(self.compute(node))),
-            IF => {
-                let condition = usize::from(cell.first);
-                if !second && !self.state.done(condition) {
-                    return None;
-                }
-                let mut branch = self.net.cells[condition].next;
-                if self.state.value[condition - 1] == 0 {
-                    branch = self.net.cells[usize::from(branch)].next;
-                }
-                self.last_part(second, branch.into())
+    /// The branch or body: opened once what comes before it is done, and then waited for.
+    #[inline(always)]
+    fn last_part(&mut self, top: &mut usize, at: usize, last: usize, is_ready: bool) -> bool {
+        if self.modes[at] & SECOND != 0 {
+            if !self.is_done(last) {
+                return false;
             }
-            LET => {
-                let mut child = usize::from(cell.first);
-                while self.net.cells[child].next != 0 {
-                    if !second && !self.state.done(child) {
-                        return None;
-                    }
-                    child = self.net.cells[child].next.into();
-                }
-                self.last_part(second, child)
-            }
-            CALL => self.decide_call(node, second),
-            _ => None,
-        }
-    }
-
-    fn last_part(&self, second: bool, last: usize) -> Option<Change> {
-        match second {
-            false => Some(Change::SecondPhase(last)),
-            true => self.state.done(last).then(|| Change::Done(self.state.value[last - 1])),
-        }
-    }
-
-    fn decide_call(&mut self, node: usize, second: bool) -> Option<Change> {
-        let callee = self.net.cells[node].word as usize;
-        if callee == usize::from(self.net.cells[node].owner) {
-            return self.children_done(node).then_some(Change::Again);
-        }
-        if second {
-            let root = usize::from(self.net.roots[callee]);
-            if self.state.done(root) {
-                return Some(Change::Leave(self.state.value[root - 1]));
-            }
-            self.inside.add(callee, node);
-            return None;
-        }
-        if !self.children_done(node) {
-            return None;
-        }
-        if self.state.occupant[callee - 1] != 0 {
-            self.blocked.add(callee, node);
-            return None;
-        }
-        Some(Change::Enter)
-    }
-
-    fn compute(&self, node: usize) -> u32 {
-        let cell = self.net.cells[node];
-        let one = usize::from(cell.first);
-        let mut last = one;
-        while self.net.cells[last].next != 0 {
-            last = self.net.cells[last].next.into();
-        }
-        let (a, b) = (self.state.value[one - 1], self.state.value[last - 1]);
-        match cell.extra {
-            0 => a.wrapping_add(b),
-            1 => a.wrapping_sub(b),
-            2 => a & b,
-            3 => a | b,
-            4 => a ^ b,
-            5 => a << 1,
-            6 => a >> 1,
-            7 => a & 1,
-            8 => u32::from(a == b),
-            9 => u32::from(a < b),
-            _ => b,
-        }
-    }
-
-    fn apply(&mut self, node: usize, change: Change) {
-        let cell = self.net.cells[node];
-        let callee = cell.word as usize;
-        match change {
-            Change::Done(value) => self.finish(node, value),
-            Change::Busy => {
-                self.state.status[node - 1] = BUSY;
-                // Below its children on the stack, so that it is looked at after them.
-                self.ready.push(node);
-                let mut child = usize::from(cell.first);
-                while child != 0 {
-                    let after = usize::from(self.net.cells[child].next);
-                    if cell.kind != LET || after != 0 {
-                        self.open(child);
-                    }
-                    child = if cell.kind == IF { 0 } else { after };
-                }
-            }
-            Change::SecondPhase(last) => {
-                self.state.second[node - 1] = true;
-                self.ready.push(node);
-                self.open(last);
-            }
-            Change::Enter => {
-                self.ready.push(node);
-                self.reset(node, callee);
-                self.state.second[node - 1] = true;
-                self.state.occupant[callee - 1] = node as u16;
-            }
-            Change::Leave(value) => {
-                self.finish(node, value);
-                self.state.occupant[callee - 1] = 0;
-                self.blocked.wake(callee, &mut self.ready);
-            }
-            Change::Again => self.reset(node, callee),
-        }
-    }
-
-    fn open(&mut self, node: usize) {
-        self.state.status[node - 1] = OPEN;
-        self.ready.push(node);
-    }
-
-    fn finish(&mut self, node: usize, value: u32) {
-        self.state.status[node - 1] = DONE;
-        self.state.second[node - 1] = false;
-        self.state.value[node - 1] = value;
-        let cell = self.net.cells[node];
-        if cell.root_of != 0 {
-            self.inside.wake(cell.root_of.into(), &mut self.ready);
+            self.finish(top, at, self.values[last]);
         } else {
-            self.ready.push(cell.holder.into());
+            if !is_ready {
+                return false;
+            }
+            self.modes[at] |= SECOND;
+            self.open(top, last);
+        }
+        true
+    }
+
+    #[inline(always)]
+    fn take_call(&mut self, top: &mut usize, at: usize, callee: usize, first: u16) -> bool {
+        if self.modes[at] & SECOND != 0 {
+            let root = cell(self.net.roots[callee]);
+            if !self.is_done(root) {
+                self.inside.add(callee, at);
+                return false;
+            }
+            self.finish(top, at, self.values[root]);
+            self.occupant[callee] = 0;
+            let mut waiting = self.blocked.take(callee);
+            while let Some(at) = waiting {
+                self.push(top, at);
+                waiting = self.blocked.after(at);
+            }
+            return true;
+        }
+        if first != NONE && self.last_if_done(first).is_none() {
+            return false;
+        }
+        if self.occupant[callee] != 0 {
+            self.blocked.add(callee, at);
+            return false;
+        }
+        self.enter(callee, first);
+        self.open(top, cell(self.net.roots[callee]));
+        self.modes[at] |= SECOND;
+        self.occupant[callee] = self.net.cells[at].node;
+        true
+    }
+
+    fn is_done(&self, at: usize) -> bool {
+        self.modes[at] & STATUS == DONE
+    }
+
+    /// The last of a chain of siblings, if all are done.
+    fn last_if_done(&self, first: u16) -> Option<usize> {
+        let mut child = cell(first);
+        while self.is_done(child) {
+            match self.net.cells[child].next {
+                NONE => return Some(child),
+                next => child = cell(next),
+            }
+        }
+        None
+    }
+
+    #[inline(always)]
+    fn push(&mut self, top: &mut usize, at: usize) {
+        self.stack[*top % MOST_NODES] = at as u16;
+        *top += usize::from(self.modes[at] & QUEUED == 0);
+        self.modes[at] |= QUEUED;
+    }
+
+    #[inline(always)]
+    fn drop_top(&mut self, top: &mut usize, at: usize) {
+        *top -= 1;
+        self.modes[at] &= !QUEUED;
+    }
+
+    /// Makes an open node busy.
+    fn wait(&mut self, at: usize) {
+        self.modes[at] ^= OPEN ^ BUSY;
+    }
+
+    #[inline(always)]
+    fn open(&mut self, top: &mut usize, at: usize) {
+        self.push(top, at);
+        self.modes[at] = self.modes[at] & !STATUS | OPEN;
+    }
+
+    #[inline(always)]
+    fn finish(&mut self, top: &mut usize, at: usize, value: u32) {
+        *top -= 1;
+        self.modes[at] = self.modes[at] & KIND | DONE;
+        self.values[at] = value;
+        let Cell { holder, owner, .. } = self.net.cells[at];
+        if holder != NONE {
+            self.push(top, cell(holder));
+        } else {
+            let mut caller = self.inside.take(owner.into());
+            while let Some(at) = caller {
+                self.push(top, at);
+                caller = self.inside.after(at);
+            }
         }
     }
 
-    fn reset(&mut self, call: usize, function: usize) {
+    /// Makes a function's body ready for these arguments; its root is to be opened.
+    fn enter(&mut self, function: usize, first: u16) {
         let mut arguments = [0; 8];
-        let mut child = usize::from(self.net.cells[call].first);
+        let mut child = first;
         for argument in &mut arguments {
-            if child != 0 {
-                *argument = self.state.value[child - 1];
-                child = self.net.cells[child].next.into();
+            if child == NONE {
+                break;
             }
+            *argument = self.values[cell(child)];
+            child = self.net.cells[cell(child)].next;
         }
-        self.state.registers[function - 1] = arguments;
-        for node in self.net.members(function) {
-            let at = usize::from(*node) - 1;
-            self.state.status[at] = 0;
-            self.state.second[at] = false;
-            self.state.value[at] = 0;
-        }
-        self.open(self.net.roots[function].into());
+        self.registers[8 * function..8 * function + 8].copy_from_slice(&arguments);
+        let body = self.net.begin[function].into()..self.net.begin[function + 1].into();
+        self.modes[body.clone()].iter_mut().for_each(|mode| *mode &= KIND | QUEUED);
+        self.values[body].fill(0);
     }
 }

@@ -2,7 +2,8 @@
 //! run side by side held against each other where they meet.
 
 use crate::check::{survey, Survey};
-use crate::{first, next, Parts, CALL, IF, LET, MOST_FUNCTIONS, MOST_NODES, PRIMITIVE};
+use crate::{first, next, Parts, MOST_FUNCTIONS, MOST_NODES};
+use crate::{BOUND, CALL, CONSTANT, IF, LET, PARAMETER, PRIMITIVE};
 
 /// Call nodes, node n at bit n - 1.
 type Calls = [u64; MOST_NODES / 64];
@@ -55,28 +56,41 @@ impl Walk<'_> {
         walk.listed
     }
 
-    /// Adds the calls that may happen at or below a node; returns their callees.
-    fn node(&mut self, node: usize, calls: &mut Calls) -> Functions {
-        let record = self.parts.record(node);
-        match record[0] {
-            PRIMITIVE => self.side_by_side(first(record), 0, calls),
-            IF => self.branches(first(record), calls),
-            LET => {
-                let body = self.last(first(record));
-                self.side_by_side(first(record), body, calls) | self.node(body, calls)
-            }
-            CALL => self.side_by_side(first(record), 0, calls) | self.call(node, record[2].into(), calls),
-            _ => 0,
-        }
-    }
-
-    fn branches(&mut self, mut child: usize, calls: &mut Calls) -> Functions {
+    /// Adds the calls that may happen at or below a node; returns their callees. What comes last in a node is walked in
+    /// the same round, and a lone child is held against nothing.
+    fn node(&mut self, mut node: usize, calls: &mut Calls) -> Functions {
         let mut callees = 0;
-        while child != 0 {
-            callees |= self.node(child, calls);
-            child = next(self.parts.record(child));
+        loop {
+            let record = self.parts.record(node);
+            let child = first(record);
+            let mut body = 0;
+            match record[0] {
+                PRIMITIVE => (),
+                CALL => callees |= self.call(node, record[2].into(), calls),
+                LET => body = self.last(child),
+                IF => {
+                    let then = next(self.parts.record(child));
+                    callees |= self.node(child, calls) | self.node(then, calls);
+                    node = next(self.parts.record(then));
+                    continue;
+                }
+                _ => return callees,
+            }
+            if child == 0 {
+                return callees;
+            }
+            if next(self.parts.record(child)) != body {
+                callees |= self.side_by_side(child, body, calls);
+            } else if body != 0 {
+                callees |= self.node(child, calls);
+            } else {
+                body = child;
+            }
+            if body == 0 {
+                return callees;
+            }
+            node = body;
         }
-        callees
     }
 
     fn last(&self, mut child: usize) -> usize {
@@ -88,18 +102,25 @@ impl Walk<'_> {
         }
     }
 
-    /// Siblings from this one up to, and without, an end: all of them may happen at once.
+    /// Siblings from this one up to, and without, an end: all of them may happen at once. It is part of the walk of a
+    /// node, so that each level returns once: a processor foresees but few returns.
+    #[inline(always)]
     fn side_by_side(&mut self, mut child: usize, end: usize, calls: &mut Calls) -> Functions {
         let mut own = NO_CALLS;
         let (mut callees, mut shared) = (0, 0);
         while child != end {
-            let more = self.node(child, &mut own);
-            shared |= callees & more;
-            callees |= more;
-            child = next(self.parts.record(child));
+            let record = self.parts.record(child);
+            if !is_leaf(record[0]) {
+                let more = self.node(child, &mut own);
+                shared |= callees & more;
+                callees |= more;
+            }
+            child = next(record);
         }
         if callees != 0 {
-            self.list(&own, shared);
+            if shared != 0 {
+                self.list(&own, shared);
+            }
             join(calls, &own);
         }
         callees
@@ -107,12 +128,13 @@ impl Walk<'_> {
 
     /// Lists those of the calls whose callee two of the parts share.
     fn list(&mut self, calls: &Calls, mut shared: Functions) {
+        let mut sites = NO_CALLS;
         while shared != 0 {
-            let function = shared.trailing_zeros() as usize + 1;
-            for ((listed, call), site) in self.listed.iter_mut().zip(calls).zip(&self.sites[function]) {
-                *listed |= call & site;
-            }
+            join(&mut sites, &self.sites[shared.trailing_zeros() as usize + 1]);
             shared &= shared - 1;
+        }
+        for ((listed, call), site) in self.listed.iter_mut().zip(calls).zip(&sites) {
+            *listed |= call & site;
         }
     }
 
@@ -120,13 +142,20 @@ impl Walk<'_> {
         if callee == self.function {
             return 0;
         }
-        let (word, bit) = ((node - 1) / 64, 1 << ((node - 1) % 64));
-        calls[word] |= bit;
-        self.sites[callee][word] |= bit;
+        let (at, bit) = ((node - 1) / 64, 1 << ((node - 1) % 64));
         let (below, callees) = &self.bodies[callee];
-        join(calls, below);
+        // All words in one way: reading them together right after one was written alone is slow.
+        for (word, (call, below)) in calls.iter_mut().zip(below).enumerate() {
+            *call |= below | if word == at { bit } else { 0 };
+        }
+        self.sites[callee][at] |= bit;
         callees | 1 << (callee - 1)
     }
+}
+
+/// Constants, parameters and bounds call nothing.
+fn is_leaf(kind: u8) -> bool {
+    (1 << CONSTANT | 1 << PARAMETER | 1 << BOUND) >> kind & 1 == 1
 }
 
 fn join(calls: &mut Calls, more: &Calls) {

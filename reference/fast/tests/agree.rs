@@ -1,5 +1,6 @@
 //! The fast baseline gives the same answers as the reference.
 
+use design::asm::assemble;
 use design::circuit::{self, Answer, NodeState};
 use design::damage::damaged;
 use design::difference::shown;
@@ -31,6 +32,43 @@ fn the_checks_agree() {
         let bytes = accepted(&mut random);
         assert_eq!(fast::check(&bytes), 0, "{}", shown(&bytes));
     }
+}
+
+/// Lets one in the body of another, and below them as many bounds of the outermost as fit.
+fn far_scopes(lets: usize) -> Vec<u8> {
+    let mut text = "fun main() = let a = 0 in".to_string();
+    for _ in 1..lets {
+        text += " let b = 1 in";
+    }
+    let room = 512 - 2 * lets;
+    for _ in 0..room / 2 - 1 {
+        text += " beside(a,";
+    }
+    text += " a";
+    text += &")".repeat(room / 2 - 1);
+    assemble(&text).expect("a text in order")
+}
+
+#[test]
+fn checks_of_far_scopes_agree() {
+    let mut random = Random::new(18);
+    let mut refused = 0;
+    for round in 0..400 {
+        let mut bytes = far_scopes(random.within(1, 200));
+        assert_eq!(fast::check(&bytes), 0, "{}", shown(&bytes));
+        // Some bounds of another definiens, or of what is none.
+        for _ in 0..round % 3 {
+            let nodes = (bytes.len() - 8) / 10;
+            let record = 8 + 10 * random.below(nodes);
+            if bytes[record] == 7 {
+                bytes[record + 2..record + 4].copy_from_slice(&(random.below(nodes + 2) as u16).to_le_bytes());
+            }
+        }
+        let wanted = code(check(&bytes));
+        assert_eq!(fast::check(&bytes), wanted, "{}", shown(&bytes));
+        refused += usize::from(wanted != 0);
+    }
+    assert!((20..380).contains(&refused), "{refused}");
 }
 
 #[test]
@@ -143,9 +181,11 @@ fn runs_from_a_start_agree() {
         let (tags, arguments) = (tags(&mut random, &tree), arguments(&mut random, &tree));
         let mut begun = circuit::State::zero();
         circuit::start(&bytes, &tags, &arguments, &mut begun).expect("a start");
-        let mut own = State::zero();
-        assert_eq!(fast::start(&bytes, &tags, &arguments, &mut own), 0);
-        assert!(own == to_fast(&begun));
+        for start in STARTS {
+            let mut own = to_fast(&any_state(&mut random, &tree));
+            assert_eq!(start(&bytes, &tags, &arguments, &mut own), 0);
+            assert!(own == to_fast(&begun));
+        }
         let budget = if round % 4 == 0 { random.below(200) as u32 } else { 800 };
         let found = replay(&bytes, &tags, &begun, budget);
         match read(&tree, &arguments, budget.into()) {
@@ -192,8 +232,63 @@ fn starts_are_refused_alike() {
         let count = random.below(4);
         let mut wanted = circuit::State::zero();
         let answer = circuit::start(&bytes, &tags, &vec![1; count], &mut wanted);
-        let mut found = State::zero();
-        assert_eq!(fast::start(&bytes, &tags, &vec![1; count], &mut found), code(answer));
-        assert!(found == to_fast(&wanted));
+        for start in STARTS {
+            let mut found = State::zero();
+            assert_eq!(start(&bytes, &tags, &vec![1; count], &mut found), code(answer));
+            assert!(found == to_fast(&wanted));
+        }
     }
+}
+
+type Start = fn(&[u8], &[u8], &[u32], &mut State) -> u32;
+type Step = fn(&[u8], &[u8], &mut State, u16) -> u64;
+
+/// In place, and on lent arrays.
+const STARTS: [Start; 2] = [fast::start, |t, g, arguments, s| fast::start_lent(t, g, arguments, &mut s.lend())];
+const STEPS: [Step; 2] = [fast::step, |t, g, s, node| fast::step_lent(t, g, &mut s.lend(), node)];
+
+fn answer_code(answer: Answer) -> u64 {
+    match answer {
+        Answer::Taken => 0,
+        Answer::Answered(value) => 1 << 32 | u64::from(value),
+        Answer::Refused(refusal) => 2 << 32 | u64::from(refusal.code()),
+    }
+}
+
+/// Asks the reference and both ways for the same step, of which it tells the answer.
+fn same_step(bytes: &[u8], tags: &[u8], begun: &circuit::State, node: u16) -> u64 {
+    let mut wanted = begun.clone();
+    let answer = answer_code(circuit::step(bytes, tags, &mut wanted, node));
+    for step in STEPS {
+        let mut found = to_fast(begun);
+        assert_eq!(step(bytes, tags, &mut found, node), answer, "{node}: {}", shown(bytes));
+        assert!(from_fast(&found) == wanted, "{node}: {}", shown(bytes));
+    }
+    answer
+}
+
+#[test]
+fn steps_from_any_state_agree() {
+    let mut random = Random::new(17);
+    let (mut taken, mut refused) = (0, [0; 25]);
+    let mut ask =
+        |bytes: &[u8], tags: &[u8], begun: &circuit::State, node: u16| match same_step(bytes, tags, begun, node) {
+            answer if answer >> 32 == 2 => refused[(answer >> 16 & 0xffff) as usize] += 1,
+            _ => taken += 1,
+        };
+    for _ in 0..1500 {
+        let nodes = random.within(1, 60);
+        let bytes = accepted_of(&mut random, nodes);
+        let tree = Tree::read(&bytes).expect("an accepted table");
+        let tags = tags(&mut random, &tree);
+        let mut begun = any_state(&mut random, &tree);
+        for node in 0..=nodes as u16 + 1 {
+            ask(&bytes, &tags, &begun, node);
+        }
+        ask(&bytes, &damaged_tags(&mut random, &tree), &begun, 1);
+        ask(&damaged(&mut random), &tags, &begun, 1);
+        damage_state(&mut random, &tree, &mut begun);
+        ask(&bytes, &tags, &begun, random.within(0, nodes + 1) as u16);
+    }
+    assert!(taken > 5000 && [10, 12, 20, 21, 22, 23, 24].iter().all(|number| refused[*number] > 100), "{refused:?}");
 }
