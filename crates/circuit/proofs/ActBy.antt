@@ -1,6 +1,6 @@
 -- the step of a node, read off its record, is the step of its expression; and where the numbers in a record lead
 use Prim.Native.Nat.{ℕ, zero, suc}
-use mathlib.Core.Bool.{false, _&&_}
+use mathlib.Core.Bool.{Bool, false, _&&_}
 use mathlib.Core.Path.{_≡_, refl, sym, ap, ap₂, _∙_}
 use mathlib.Core.List.{List, [], _∷_, _++_, map}
 use native.Mathlib.Omega.{arith}
@@ -19,15 +19,66 @@ use Rattle.table.proofs.View.{View as NodeView, view as node-view, id-at, is-co
 use Rattle.table.proofs.View.{is-bound}
 use Rattle.table.proofs.Children.{values-are, roots-kids, Final, final}
 use Rattle.table.proofs.Accepted.{id-body}
-use Rattle.rules.specs.State.{State512, View, view, entry}
+use Rattle.rules.specs.State.{State512, View, view, entry, register}
 use Rattle.rules.specs.Step.{Act, stuck, blocked, does, begins, turns, finishes, enters, leaves, restarts, all-done, branch, by-status}
 use Rattle.rules.specs.Step.{act}
 use Rattle.rules.specs.Operations.{operate}
 use Rattle.rules.specs.Circuit.{actOf}
-use Rattle.circuit.specs.Plan.{Fair, allDone, initial, lastFrom, given, opens, openBy, primBy, selfBy, callBy, branchBy, condBy}
-use Rattle.circuit.specs.Plan.{bindBy, busyBy, actBy}
+use Rattle.table.specs.Working.{Taken}
+use Rattle.circuit.specs.Plan.{allDone, initial, lastFrom, given, opens, passed}
 use Rattle.circuit.proofs.ChainLaws.{ok}
 use Rattle.rules.proofs.AnyState.{bound-node}
+
+-- the step of a node by the parts of its record
+-- an open node, by its kind
+unfoldable pub openBy : (t value registers : List ℕ) → ℕ → Act
+openBy t value registers n =
+    pick (eqb (kind t n) 1) (does (finishes (word t n)))
+    (pick (eqb (kind t n) 2) (does (finishes (register registers (owner t n) (extra t n))))
+    (pick (eqb (kind t n) 7) (does (finishes (entry value 0 (word t n))))
+    (does (begins (opens t n)))))
+
+unfoldable pub primBy : (t status value : List ℕ) → ℕ → Act
+primBy t status value n =
+    pick (allDone (entry status 0) (children t n)) (does (finishes (operate (extra t n) (given t value n)))) stuck
+
+unfoldable pub selfBy : (t status value : List ℕ) → ℕ → Act
+selfBy t status value n = pick (allDone (entry status 0) (children t n)) (does (restarts (owner t n) (given t value n))) stuck
+
+unfoldable pub callBy : (t status : List ℕ) → List Bool → (value occupant : List ℕ) → ℕ → Act
+callBy t status second value occupant n =
+    let g : ℕ = word t n in
+    pick (entry second false n)
+    (pick (eqb (entry status 0 (root t g)) 3) (does (leaves g (entry value 0 (root t g)))) stuck)
+    (pick (allDone (entry status 0) (children t n))
+    (pick (eqb (entry occupant 0 g) 0) (does (enters g (given t value n))) blocked) stuck)
+
+-- the branch that a condition's value takes
+unfoldable pub branchBy : (t value : List ℕ) → ℕ → ℕ
+branchBy t value n = pick (eqb (entry value 0 (first t n)) 0) (elseAt t n) (thenAt t n)
+
+unfoldable pub condBy : (t status : List ℕ) → List Bool → (value : List ℕ) → ℕ → Act
+condBy t status second value n =
+    pick (entry second false n) (passed status value (branchBy t value n))
+    (pick (eqb (entry status 0 (first t n)) 3) (does (turns (branchBy t value n))) stuck)
+
+unfoldable pub bindBy : (t status : List ℕ) → List Bool → (value : List ℕ) → ℕ → Act
+bindBy t status second value n =
+    pick (entry second false n) (passed status value (lastFrom 0 (children t n)))
+    (pick (allDone (entry status 0) (initial (children t n))) (does (turns (lastFrom 0 (children t n)))) stuck)
+
+-- a busy node, by its kind
+unfoldable pub busyBy : (t status : List ℕ) → List Bool → (value occupant : List ℕ) → ℕ → Act
+busyBy t status second value occupant n =
+    pick (eqb (kind t n) 3) (primBy t status value n)
+    (pick (eqb (kind t n) 4) (pick (eqb (word t n) (owner t n)) (selfBy t status value n) (callBy t status second value occupant n))
+    (pick (eqb (kind t n) 5) (condBy t status second value n)
+    (pick (eqb (kind t n) 6) (bindBy t status second value n)
+    stuck)))
+
+abbrev pub actBy : List ℕ → State512 → ℕ → Act
+actBy t s n = by-status (entry (s .status) 0 n) (openBy t (s .value) (s .registers) n)
+    (busyBy t (s .status) (s .second) (s .value) (s .occupant) n)
 
 all-done-is : (s : View) (es : Exprs) → all-done s es ≡ allDone (s .status) (roots es)
 unfolding allDone
@@ -49,7 +100,7 @@ branch-id : (v : ℕ) (b c : Expr) → id (branch v b c) ≡ pick (eqb v 0) (id 
 branch-id zero b c = refl
 branch-id (suc v) b c = sym (rw (ne-eqb (suc v) 0 (λ z. omega arith)) refl)
 
-module _ (t : List ℕ) (fair : Fair t) (n : ℕ) (i : IsNode t n) where
+module _ (t : List ℕ) (fair : Taken t) (n : ℕ) (i : IsNode t n) where
   abbrev p : Passed t
   p = ok t fair
 
@@ -218,3 +269,13 @@ module _ (t : List ℕ) (fair : Fair t) (n : ℕ) (i : IsNode t n) where
         go (is-cond k a b c z q) = as-cond k a b c q
         go (is-bind k a b c q) = as-bind k a q
         go (is-bound k z h q) = as-bound k q
+
+    -- at an open node, at a busy one, at any other
+    pub open-is : st n ≡ 1 → (x : Act) → x ≡ openBy t (s .value) (s .registers) n → x ≡ actOf t s n
+    open-is h x e = e ∙ sym (act-is ∙ rw h refl)
+
+    pub busy-is : st n ≡ 2 → (x : Act) → x ≡ busyBy t (s .status) (s .second) (s .value) (s .occupant) n → x ≡ actOf t s n
+    busy-is h x e = e ∙ sym (act-is ∙ rw h refl)
+
+    pub rest-is : (st n ≡ 1 → ⊥) → (st n ≡ 2 → ⊥) → stuck ≡ actOf t s n
+    rest-is p q = sym (act-is ∙ rw (ne-eqb (st n) 1 p, ne-eqb (st n) 2 q) refl)

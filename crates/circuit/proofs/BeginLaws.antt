@@ -13,7 +13,8 @@ use Rattle.list.specs.Tags.{after, checkWith}
 use Rattle.rules.specs.State.{write, fill, blank, circuitStart}
 use Rattle.rules.specs.Circuit.{started, turned, startOf, checkStart, startAfter}
 use Rattle.circuit.specs.Meaning.{stateAs}
-use Rattle.circuit.specs.Plan.{Fair, Agreed}
+use Rattle.table.specs.Working.{Taken}
+use Rattle.circuit.specs.Plan.{Agreed}
 use Rattle.circuit.proofs.TurnLaws.{main-root}
 use Rattle.table.specs.Check as TableCheck
 
@@ -21,7 +22,7 @@ pub blank-is : {A : Type 0} (k : ℕ) (a : A) → replicate k a ≡ blank k a
 unfolding blank
 blank-is k a = refl
 
-pub start-is : (t args : List ℕ) → Fair t → (a d : List ℕ) (r : ℕ) → r ≡ root t (functions t) → a ≡ write (replicate 512 0) r 1
+pub start-is : (t args : List ℕ) → Taken t → (a d : List ℕ) (r : ℕ) → r ≡ root t (functions t) → a ≡ write (replicate 512 0) r 1
     → d ≡ fill (functions t) args (blank 256 0)
     → stateAs a (replicate 512 false) (replicate 512 0) d (replicate 32 0) ≡ circuitStart (functions t) (bodyOf t) args
 unfolding circuitStart blank

@@ -1,13 +1,13 @@
 -- a chain of siblings, node by node: all done, the last one, opened one after the other
 use Prim.Native.Nat.{ℕ, _+_, _-_, _≤_, _<_}
-use mathlib.Core.Bool.{true, false, _&&_}
+use mathlib.Core.Bool.{Bool, true, false, _&&_}
 use mathlib.Core.Path.{_≡_, refl, sym, ap, _∙_}
 use mathlib.Core.List.{List, [], _∷_}
 use native.Mathlib.Omega.{arith}
 use native.Mathlib.Decide.{ℕ-discrete}
 use lib.Dec.{eqb}
 use lib.ListN.{getD}
-use borrow.Author.Tests.{eq-eqb, ne-eqb}
+use borrow.Author.Tests.{eq-eqb, ne-eqb, eqb-true, eqb-false}
 use Rattle.table.specs.Pick.{pick}
 use Rattle.table.specs.Bytes.{functions, nodes, first, next}
 use Rattle.table.specs.Naming.{chain}
@@ -18,13 +18,14 @@ use Rattle.table.proofs.Tree.{chain-none, chain-some, first-or, next-or}
 use mathlib.Core.Logic.{_⊎_, inl, inr}
 use Rattle.rules.specs.State.{write, opened}
 use Rattle.rules.specs.Operations.{lastValue, wrap, operate}
-use Rattle.circuit.specs.Plan.{Fair, allDone, initial, lastFrom, operateBy}
+use Rattle.table.specs.Working.{Taken}
+use Rattle.circuit.specs.Plan.{allDone, initial, leading, lastFrom, operateBy}
 
 -- what is left of a chain
 abbrev pub rest : List ℕ → ℕ → ℕ
 rest t at = pick (eqb at 0) 0 (nodes t + 1 - at)
 
-module _ (t : List ℕ) (fair : Fair t) where
+module _ (t : List ℕ) (fair : Taken t) where
   pub ok : Passed t
   ok = passed t (functions t) (nodes t) fair .0
 
@@ -61,70 +62,78 @@ module _ (t : List ℕ) (fair : Fair t) where
         go (yes z) = rw (eq-eqb on 0 z) (omega arith)
         go (no z) = rw (ne-eqb on 0 z) (omega (arith, further z, inside))
 
-    module _ (st : ℕ → ℕ) (x : ℕ) (ex : x ≡ st at) where
-      pub all-more : x ≡ 3 → allDone st (chain t at) ≡ allDone st (chain t on)
-      unfolding allDone
-      all-more h = ap (allDone st) chain-here ∙ ap (λ b. b && allDone st (chain t on)) (eq-eqb (st at) 3 (sym ex ∙ h))
-
-      pub all-stops : (x ≡ 3 → ⊥) → allDone st (chain t at) ≡ false
-      unfolding allDone
-      all-stops h = ap (allDone st) chain-here ∙ ap (λ b. b && allDone st (chain t on)) (ne-eqb (st at) 3 (λ q. h (ex ∙ q)))
-
     pub last-more : (d : ℕ) → lastFrom d (chain t at) ≡ lastFrom at (chain t on)
     unfolding lastFrom
     last-more d = ap (lastFrom d) chain-here
 
-    pub opened-more : (l : List ℕ) → opened l (chain t at) ≡ opened (write l at 1) (chain t on)
-    unfolding opened
-    opened-more l = ap (opened l) chain-here
-
   module _ (at : ℕ) (z : at ≡ 0) where
-    pub all-ends : (st : ℕ → ℕ) → allDone st (chain t at) ≡ true
-    unfolding allDone
-    all-ends st = ap (allDone st) (chain-end at z)
-
     pub last-ends : (d : ℕ) → lastFrom d (chain t at) ≡ d
     unfolding lastFrom
     last-ends d = ap (lastFrom d) (chain-end at z)
 
-    pub opened-ends : (l : List ℕ) → opened l (chain t at) ≡ l
-    unfolding opened
-    opened-ends l = ap (opened l) (chain-end at z)
+  -- all of a chain, or all but the last (defs)
+  leading-ends : (defs : Bool) (at : ℕ) → at ≡ 0 → leading defs (chain t at) ≡ []
+  unfolding initial
+  leading-ends defs at z = ap (leading defs) (chain-end at z) ∙ go defs
+    where
+      go : (b : Bool) → leading b [] ≡ []
+      go true = refl
+      go false = refl
 
-  -- without the last one
-  module _ (at : ℕ) (some : at ≡ 0 → ⊥) (inside : at ≤ nodes t) (on : ℕ) (e : on ≡ next t at) where
-    last-one : on ≡ 0 → initial (chain t at) ≡ []
+  module _ (defs : Bool) (at : ℕ) (some : at ≡ 0 → ⊥) (inside : at ≤ nodes t) (on : ℕ) (e : on ≡ next t at) where
+    leading-last : (defs && eqb on 0) ≡ true → leading defs (chain t at) ≡ []
     unfolding initial
-    last-one z = ap initial (chain-here at some inside on e ∙ ap (λ l. at ∷ l) (chain-end on z))
+    leading-last h =
+        let b = and-both defs (eqb on 0) h in
+        rw (b .0) (ap initial (chain-here at some inside on e ∙ ap (λ l. at ∷ l) (chain-end on (eqb-true on 0 (b .1)))))
+      where
+        and-both : (x y : Bool) → (x && y) ≡ true → (x ≡ true) × (y ≡ true)
+        and-both true y q = (refl, q)
+        and-both false y q = absurd (let z : _≡_ {A = ℕ} 0 1 = cc in omega arith)
 
-    first-one : (on ≡ 0 → ⊥) → initial (chain t at) ≡ at ∷ initial (chain t on)
+    leading-more : (defs && eqb on 0) ≡ false → leading defs (chain t at) ≡ at ∷ leading defs (chain t on)
     unfolding initial
-    first-one z =
-        let q = chain-here on z (next-in at some inside on e) (next t on) refl in
-        ap initial (chain-here at some inside on e ∙ ap (λ l. at ∷ l) q) ∙ ap (λ l. at ∷ initial l) (sym q)
+    leading-more h = go defs h
+      where
+        go : (d : Bool) → (d && eqb on 0) ≡ false → leading d (chain t at) ≡ at ∷ leading d (chain t on)
+        go true q =
+            let r = chain-here on (eqb-false on 0 q) (next-in at some inside on e) (next t on) refl in
+            ap initial (chain-here at some inside on e ∙ ap (λ l. at ∷ l) r) ∙ ap (λ l. at ∷ initial l) (sym r)
+        go false q = chain-here at some inside on e
 
     module _ (st : ℕ → ℕ) where
-      pub defs-end : on ≡ 0 → allDone st (initial (chain t at)) ≡ true
+      pub done-last : (defs && eqb on 0) ≡ true → allDone st (leading defs (chain t at)) ≡ true
       unfolding allDone
-      defs-end z = ap (allDone st) (last-one z)
+      done-last h = ap (allDone st) (leading-last h)
 
-      pub defs-more : (x : ℕ) → x ≡ st at → (on ≡ 0 → ⊥) → x ≡ 3 → allDone st (initial (chain t at)) ≡ allDone st (initial (chain t on))
+      pub done-more : (defs && eqb on 0) ≡ false → (x : ℕ) → x ≡ st at → x ≡ 3
+          → allDone st (leading defs (chain t at)) ≡ allDone st (leading defs (chain t on))
       unfolding allDone
-      defs-more x ex z h = ap (allDone st) (first-one z)
-          ∙ ap (λ b. b && allDone st (initial (chain t on))) (eq-eqb (st at) 3 (sym ex ∙ h))
+      done-more h x ex q = ap (allDone st) (leading-more h)
+          ∙ ap (λ b. b && allDone st (leading defs (chain t on))) (eq-eqb (st at) 3 (sym ex ∙ q))
 
-      pub defs-stop : (x : ℕ) → x ≡ st at → (on ≡ 0 → ⊥) → (x ≡ 3 → ⊥) → allDone st (initial (chain t at)) ≡ false
+      pub done-stops : (defs && eqb on 0) ≡ false → (x : ℕ) → x ≡ st at → (x ≡ 3 → ⊥)
+          → allDone st (leading defs (chain t at)) ≡ false
       unfolding allDone
-      defs-stop x ex z h = ap (allDone st) (first-one z)
-          ∙ ap (λ b. b && allDone st (initial (chain t on))) (ne-eqb (st at) 3 (λ q. h (ex ∙ q)))
+      done-stops h x ex q = ap (allDone st) (leading-more h)
+          ∙ ap (λ b. b && allDone st (leading defs (chain t on))) (ne-eqb (st at) 3 (λ z. q (ex ∙ z)))
 
-    pub open-end : (l : List ℕ) → on ≡ 0 → opened l (initial (chain t at)) ≡ l
+    pub open-last : (l : List ℕ) → (defs && eqb on 0) ≡ true → opened l (leading defs (chain t at)) ≡ l
     unfolding opened
-    open-end l z = ap (opened l) (last-one z)
+    open-last l h = ap (opened l) (leading-last h)
 
-    pub open-more : (l : List ℕ) → (on ≡ 0 → ⊥) → opened l (initial (chain t at)) ≡ opened (write l at 1) (initial (chain t on))
+    pub open-more : (l : List ℕ) → (defs && eqb on 0) ≡ false
+        → opened l (leading defs (chain t at)) ≡ opened (write l at 1) (leading defs (chain t on))
     unfolding opened
-    open-more l z = ap (opened l) (first-one z)
+    open-more l h = ap (opened l) (leading-more h)
+
+  pub done-ends : (defs : Bool) (at : ℕ) → at ≡ 0 → (st : ℕ → ℕ) → allDone st (leading defs (chain t at)) ≡ true
+  unfolding allDone
+  done-ends defs at z st = ap (allDone st) (leading-ends defs at z)
+
+  pub open-ends : (defs : Bool) (at : ℕ) → at ≡ 0 → (l : List ℕ) → opened l (leading defs (chain t at)) ≡ l
+  unfolding opened
+  open-ends defs at z l = ap (opened l) (leading-ends defs at z)
 
   -- an operation's values
   pub operate-by : (op : ℕ) (vs : List ℕ) → operate op vs ≡ operateBy op (getD vs 0 0) (getD vs 1 0) (lastValue vs)

@@ -21,7 +21,8 @@ use Rattle.rules.specs.Play.{IsTaken, noted}
 use Rattle.rules.specs.Circuit.{actOf, circuitOf, stepOf, playOf, Possible}
 use Rattle.rules.specs.Runs.{standing, MainDone, Ended, gave, atRest, spent, barred, Driven, Says, Picks, DrivesAfter, Drives, Found}
 use Rattle.rules.specs.Runs.{names, nothing, unasked, FindsAfter, Finds}
-use Rattle.circuit.specs.Plan.{Agreed, Stands, goes, FoundAt, Tried, FindsIn, EndsIn}
+use Rattle.circuit.specs.declared.changes.Effect.{Effect}
+use Rattle.circuit.specs.Plan.{Agreed, Stands, goes, FoundAt, Tried, FindsIn, EndsIn, movedOf}
 use Rattle.rules.proofs.AnyState.{done-none}
 use Rattle.rules.proofs.RunFacts.{play-state, play-nodes}
 use Rattle.circuit.proofs.StandsLaws.{kept}
@@ -161,9 +162,9 @@ module _ (t tags : List ℕ) (ag : Agreed t tags) (s₀ s : State512) (k : ℕ) 
   unfolding playOf
   play-to n = refl
 
-  pub drove-next : (top x : ℕ) → top ≡ root t (functions t) → x ≡ entry (s .status) 0 top → (x ≡ 3 → ⊥) → (n code : ℕ) (s′ : State512)
-      → Tried t s n code s′ → code ≡ 2 → DroveTo t tags s₀ s′ (k + 1)
-  drove-next top x et ex dn n code s′ tr c =
+  pub drove-next : (top x : ℕ) → top ≡ root t (functions t) → x ≡ entry (s .status) 0 top → (x ≡ 3 → ⊥) → (n : ℕ) (f : Effect) (s′ : State512)
+      → Tried t s n f s′ → movedOf f ≡ true → DroveTo t tags s₀ s′ (k + 1)
+  drove-next top x et ex dn n f s′ tr c =
       let h = tr .taken c in
       let m = h .1 .0 in
       let e = h .1 .1 in
@@ -181,13 +182,13 @@ module _ (t tags : List ℕ) (ag : Agreed t tags) (s₀ s : State512) (k : ℕ) 
         stands = subst (Stands t) (sym (h .1 .2)) (kept t s (d .stands) n (h .0 .1) m);
       }
 
-  pub drove-same : (n code : ℕ) (s′ : State512) → Tried t s n code s′ → (code ≡ 2 → ⊥) → DroveTo t tags s₀ s′ k
-  drove-same n code s′ tr c = subst (λ u. DroveTo t tags s₀ u k) (sym (tr .left c .0)) d
+  pub drove-same : (n : ℕ) (f : Effect) (s′ : State512) → Tried t s n f s′ → movedOf f ≡ false → DroveTo t tags s₀ s′ k
+  drove-same n f s′ tr c = subst (λ u. DroveTo t tags s₀ u k) (sym (tr .left c .0)) d
 
 -- nothing is possible once a look at all nodes found nothing
-pub rests : (t : List ℕ) (s : State512) (height n code : ℕ) (s′ : State512) → (height ≡ 0 → FoundAt t s n) → Tried t s n code s′
-    → (code ≡ 2 → ⊥) → eqb height 0 ≡ true → (m : ℕ) → IsNode t m → goes (actOf t s′ m) ≡ true → ⊥
-rests t s height n code s′ f tr c e m i g = go (ℕ-discrete n 0)
+pub rests : (t : List ℕ) (s : State512) (height n : ℕ) (x : Effect) (s′ : State512) → (height ≡ 0 → FoundAt t s n) → Tried t s n x s′
+    → movedOf x ≡ false → eqb height 0 ≡ true → (m : ℕ) → IsNode t m → goes (actOf t s′ m) ≡ true → ⊥
+rests t s height n x s′ f tr c e m i g = go (ℕ-discrete n 0)
   where
     found : FoundAt t s n
     found = f (eqb-true height 0 e)

@@ -1,41 +1,35 @@
--- the entries: occupants as numbers, the owners that a survey tells, 24, and the steps of a run
+-- the entries: occupants as numbers, 24, and the steps of a run
 use Prim.Native.Nat.{ℕ, suc, _+_, _≤_, _<_}
 use mathlib.Core.Bool.{Bool, true, false, _&&_, _||_, not}
 use mathlib.Core.Path.{_≡_, refl, subst, sym, ap, _∙_}
 use mathlib.Core.List.{List, [], _∷_, map}
 use native.Mathlib.Omega.{arith}
 use native.Mathlib.Numerals.{add-one}
-use lib.Dec.{eqb}
-use lib.ListN.{length, getD, drop, drop-of-length-le, List·getD-map}
+use lib.Dec.{T, eqb}
+use lib.ListN.{length, getD, drop, drop-of-length-le}
 use lib.Seq.{drop-cons}
 use Rattle.table.specs.Bytes.{functions, nodes}
-use Rattle.table.specs.Check.{accepted, stage, checkOf}
-use Rattle.table.specs.Survey.{ownersOf}
-use Rattle.table.specs.declared.Function.{Function}
+use Rattle.table.specs.Check.{accepted, refused, stage, checkOf}
 use Rattle.table.specs.declared.Node.{Node}
 use Rattle.table.proofs.Passed.{passes}
 use Rattle.list.specs.Tags.{after, tagLength, nonePast, tagsRefusal, checkWith}
-use Rattle.list.proofs.Owners.{owner-of}
 use Rattle.rules.specs.State.{State512}
 use Rattle.rules.specs.Step.{Reply, taken, answered, denied, Stepped, refusal, over}
 use Rattle.rules.specs.Circuit.{circuitOf, stepOf}
 use Rattle.rules.specs.Runs.{standing, Ran, whole, stopped, andThen, runFrom, runOf}
 use Rattle.circuit.specs.Meaning.{numbers, stateAs}
-use Rattle.circuit.specs.Plan.{Fair, Owners, Stands, Agreed, strayIn, ofFunction, asNode}
-use Rattle.circuit.proofs.ChainLaws.{ok}
+use Rattle.table.specs.Working.{Taken}
+use Rattle.circuit.specs.Plan.{Stands, Agreed, strayIn}
 use Rattle.circuit.proofs.TurnLaws.{fair-from, step-is, turn-stands, turn-stray, turn-stray′}
 use Rattle.rules.proofs.Demands.{after-both}
-use Rattle.table.specs.Check as TableCheck
+
+-- a number, said to be a node's
+abbrev pub asNode : ℕ → Node
+asNode n = record { 0 = n }
 
 pub numbered : (l : List ℕ) → numbers (map asNode l) ≡ l
 numbered [] = refl
 numbered (x ∷ l) = ap (λ r. x ∷ r) (numbered l)
-
-pub owners-told : (t : List ℕ) → Fair t → (raw : List Function) → raw ≡ ownersOf t → (own : List ℕ) → own ≡ map ofFunction raw → Owners
-    t own
-owners-told t fair raw e own f n i =
-    ap (λ l. getD l n 0) f ∙ List·getD-map ofFunction raw n (record { 0 = 0 })
-    ∙ owner-of t fair raw e n (record { 0 = 0 }) i (omega (arith, ok t fair .N-high))
 
 -- 24
 either-true : (a b : Bool) → (a || b) ≡ true → (a ≡ true → ⊥) → (a ≡ false) × (b ≡ true)
@@ -51,7 +45,7 @@ stands-from t s b e h =
     let x = neither (over 3 (nodes t) (s .status)) (over (nodes t) (functions t) (s .occupant)) (sym e ∙ h) in
     record { statuses = x .0; occupants = x .1 }
 
-pub step-stray : (t tags : List ℕ) → Fair t → (s : State512) (n : ℕ) → (n ≡ 0 → ⊥) → n ≤ nodes t → (b : Bool) → b ≡ strayIn t s → b ≡ true
+pub step-stray : (t tags : List ℕ) → Taken t → (s : State512) (n : ℕ) → (n ≡ 0 → ⊥) → n ≤ nodes t → (b : Bool) → b ≡ strayIn t s → b ≡ true
     → refusal s 24 0 ≡ circuitOf t tags s n
 step-stray t tags fair s n d i b e h = go (over 3 (nodes t) (s .status)) refl
   where
@@ -70,13 +64,13 @@ agreed-from t tags F N e = record { fair = fair-from t tags F N e; tagging = own
 
 -- 24 where query and runs look at it
 module _ (t tags : List ℕ) (ag : Agreed t tags) (s : State512) where
-  pub stray-standing : (b : Bool) → b ≡ strayIn t s → b ≡ true → standing t tags s ≡ TableCheck.refused 24 0
+  pub stray-standing : (b : Bool) → b ≡ strayIn t s → b ≡ true → standing t tags s ≡ refused 24 0
   unfolding standing after stage
   stray-standing b e h = rw (ag .tagging) (go (over 3 (nodes t) (s .status)) refl)
     where
       go : (x : Bool) → over 3 (nodes t) (s .status) ≡ x
           → stage 24 (not x) 0 (λ _. stage 24 (not (over (nodes t) (functions t) (s .occupant))) 0 (λ _. accepted (functions t) (nodes t)))
-          ≡ TableCheck.refused 24 0
+          ≡ refused 24 0
       go true q = refl
       go false q = rw (sym (ap (λ y. y || over (nodes t) (functions t) (s .occupant)) q) ∙ sym e ∙ h) refl
 
@@ -84,8 +78,21 @@ module _ (t tags : List ℕ) (ag : Agreed t tags) (s : State512) where
   unfolding standing after stage
   stand-standing st = rw (ag .tagging, st .statuses, st .occupants) refl
 
-pub refused-standing : (t tags : List ℕ) (s : State512) (k p : ℕ) → checkWith t tags ≡ TableCheck.refused k p → standing t tags s ≡
-    TableCheck.refused k p
+-- what passes both and 24
+pub admitted-from : (t tags : List ℕ) (s : State512) (F N : ℕ) → standing t tags s ≡ accepted F N → Agreed t tags × Stands t s
+unfolding standing
+admitted-from t tags s F N e =
+    let x = after-both (checkWith t tags) _ F N e in
+    let y = passes 24 (not (over 3 (nodes t) (s .status))) 0 _ F N (x .1) in
+    let z = passes 24 (not (over (nodes t) (functions t) (s .occupant))) 0 _ F N (y .2) in
+    (agreed-from t tags _ _ (x .0 .2), record { statuses = is-no _ (y .0); occupants = is-no _ (z .0) })
+  where
+    is-no : (b : Bool) → T (not b) → b ≡ false
+    is-no true h = absurd h
+    is-no false h = refl
+
+pub refused-standing : (t tags : List ℕ) (s : State512) (k p : ℕ) → checkWith t tags ≡ refused k p → standing t tags s ≡
+    refused k p
 unfolding standing after
 refused-standing t tags s k p e = rw e refl
 
@@ -93,7 +100,7 @@ refused-standing t tags s k p e = rw e refl
 abbrev pub plus : ℕ → Ran → Ran
 plus i r = record { steps = i + r .steps; halt = r .halt; state = r .state }
 
-pub run-turned : (t tags : List ℕ) (s : State512) (ns : List ℕ) (k p : ℕ) → standing t tags s ≡ TableCheck.refused k p
+pub run-turned : (t tags : List ℕ) (s : State512) (ns : List ℕ) (k p : ℕ) → standing t tags s ≡ refused k p
     → _≡_ {A = Ran} (record { steps = 0; halt = stopped k p; state = s }) (runOf t tags s ns)
 unfolding runOf
 run-turned t tags s ns k p e = sym (rw e refl)

@@ -14,7 +14,7 @@ use Rattle.table.specs.Pick.{pick}
 use Rattle.table.specs.Bytes.{nodes, next}
 use Rattle.table.specs.Naming.{chain}
 use Rattle.rules.specs.State.{entry, fill}
-use Rattle.circuit.specs.Plan.{Fair}
+use Rattle.table.specs.Working.{Taken}
 use Rattle.circuit.proofs.ChainLaws.{chain-end, chain-here, next-in}
 use Rattle.rules.proofs.StateLaws.{length-fill, getD-alter}
 
@@ -92,7 +92,7 @@ pub record GivenTo (t value vs l₀ l : List ℕ) (g i at : ℕ) : Type 0 where
   pub tail : drop i vs ≡ map (entry value 0) (chain t at)
   pub filled : FilledTo vs l₀ l g i
 
-module _ (t : List ℕ) (fair : Fair t) (value : List ℕ) (c : ℕ) (low : c ≤ nodes t) (l₀ : List ℕ) (g : ℕ) where
+module _ (t : List ℕ) (fair : Taken t) (value : List ℕ) (c : ℕ) (low : c ≤ nodes t) (l₀ : List ℕ) (g : ℕ) where
   abbrev vs : List ℕ
   vs = map (entry value 0) (chain t c)
 

@@ -11,22 +11,26 @@ use borrow.Author.Tests.{eq-eqb, ne-eqb}
 use Rattle.table.specs.Pick.{pick}
 use Rattle.table.specs.Bytes.{nodes, root, kind, extra, word, first, next}
 use Rattle.table.specs.Naming.{owner, chain, children}
-use Rattle.rules.specs.State.{State512, entry, register}
-use Rattle.rules.specs.Step.{Act, stuck, blocked, does, begins, turns, finishes, enters, leaves, restarts, by-status}
+use Rattle.rules.specs.State.{entry, register}
+use Rattle.rules.specs.Step.{Act, stuck, blocked, does, begins, turns, finishes, enters, leaves, restarts}
 use Rattle.rules.specs.Operations.{lastValue, operate}
-use Rattle.circuit.specs.Plan.{Fair, allDone, initial, lastFrom, given, opens, openBy, passBy, primBy, selfBy, callBy, branchBy}
-use Rattle.circuit.specs.Plan.{condBy, bindBy, busyBy, operateBy}
+use Rattle.table.specs.Working.{Taken}
+use Rattle.table.specs.Working.{IsNode}
+use Rattle.rules.specs.Circuit.{actOf}
+use Rattle.circuit.specs.Meaning.{stateAs}
+use Rattle.circuit.specs.Plan.{allDone, initial, leading, lastFrom, given, opens, passed, operateBy}
+use Rattle.circuit.proofs.ActBy.{open-is, busy-is, openBy, primBy, selfBy, callBy, branchBy, condBy, bindBy, busyBy}
 use Rattle.circuit.proofs.ChainLaws.{chain-end, chain-here, next-in, operate-by}
 
 module _ (status value : List ℕ) (r x : ℕ) (ex : x ≡ entry status 0 r) where
-  pub pass-yes : (v : ℕ) → v ≡ entry value 0 r → x ≡ 3 → does (finishes v) ≡ passBy status value r
+  pub pass-yes : (v : ℕ) → v ≡ entry value 0 r → x ≡ 3 → does (finishes v) ≡ passed status value r
   pass-yes v ev h = ap (λ a. does (finishes a)) ev ∙ sym (rw (eq-eqb (entry status 0 r) 3 (sym ex ∙ h)) refl)
 
-  pub pass-no : (x ≡ 3 → ⊥) → stuck ≡ passBy status value r
+  pub pass-no : (x ≡ 3 → ⊥) → stuck ≡ passed status value r
   pass-no h = sym (rw (ne-eqb (entry status 0 r) 3 (λ z. h (ex ∙ z))) refl)
 
 -- a self call, and a primitive
-module _ (t status : List ℕ) (n c : ℕ) (ec : c ≡ first t n) (a : Bool) (ea : a ≡ allDone (entry status 0) (chain t c)) where
+module _ (t status : List ℕ) (n c : ℕ) (ec : c ≡ first t n) (a : Bool) (ea : a ≡ allDone (entry status 0) (leading false (chain t c))) where
   kids : chain t c ≡ children t n
   unfolding children
   kids = ap (chain t) ec
@@ -68,7 +72,7 @@ module _ (t status : List ℕ) (second : List Bool) (value occupant : List ℕ) 
     leave-yes d v ev = ap₂ (λ f y. does (leaves f y)) eg (ev ∙ ap (entry value 0) there)
         ∙ sym (rw (sym eb ∙ h, eq-eqb (entry status 0 (root t (word t n))) 3 (sym (ap (entry status 0) there) ∙ sym ex ∙ d)) refl)
 
-  module _ (h : b ≡ false) (c : ℕ) (ec : c ≡ first t n) (a : Bool) (ea : a ≡ allDone (entry status 0) (chain t c)) where
+  module _ (h : b ≡ false) (c : ℕ) (ec : c ≡ first t n) (a : Bool) (ea : a ≡ allDone (entry status 0) (leading false (chain t c))) where
     pub enter-not : a ≡ false → stuck ≡ callBy t status second value occupant n
     unfolding callBy
     enter-not d = sym (rw (sym eb ∙ h, sym (all-kids t status n c ec a ea) ∙ d) refl)
@@ -109,9 +113,9 @@ module _ (t status : List ℕ) (second : List Bool) (value : List ℕ) (n a : �
   unfolding branchBy
   taken-branch = er ∙ ap (λ m. pick (eqb (entry value 0 m) 0) (next t (next t m)) (next t m)) ea
 
-  pub cond-pass : (d : Act) → b ≡ true → d ≡ passBy status value r → d ≡ condBy t status second value n
+  pub cond-pass : (d : Act) → b ≡ true → d ≡ passed status value r → d ≡ condBy t status second value n
   unfolding condBy
-  cond-pass d h ed = ed ∙ ap (passBy status value) taken-branch ∙ sym (rw (sym eb ∙ h) refl)
+  cond-pass d h ed = ed ∙ ap (passed status value) taken-branch ∙ sym (rw (sym eb ∙ h) refl)
 
   module _ (h : b ≡ false) (x : ℕ) (ex : x ≡ entry status 0 a) where
     pub cond-turn : x ≡ 3 → does (turns r) ≡ condBy t status second value n
@@ -134,11 +138,11 @@ module _ (t status : List ℕ) (second : List Bool) (value : List ℕ) (n c : �
   unfolding children
   defs-are = ap (λ m. initial (chain t m)) ec
 
-  pub bind-pass : (d : Act) → b ≡ true → d ≡ passBy status value r → d ≡ bindBy t status second value n
+  pub bind-pass : (d : Act) → b ≡ true → d ≡ passed status value r → d ≡ bindBy t status second value n
   unfolding bindBy
-  bind-pass d h ed = ed ∙ ap (passBy status value) body-is ∙ sym (rw (sym eb ∙ h) refl)
+  bind-pass d h ed = ed ∙ ap (passed status value) body-is ∙ sym (rw (sym eb ∙ h) refl)
 
-  module _ (h : b ≡ false) (a : Bool) (ea : a ≡ allDone (entry status 0) (initial (chain t c))) where
+  module _ (h : b ≡ false) (a : Bool) (ea : a ≡ allDone (entry status 0) (leading true (chain t c))) where
     pub bind-turn : a ≡ true → does (turns r) ≡ bindBy t status second value n
     unfolding bindBy
     bind-turn d = ap (λ m. does (turns m)) body-is
@@ -171,46 +175,39 @@ module _ (t value registers : List ℕ) (n k : ℕ) (ek : k ≡ kind t n) where
     ne-eqb (kind t n) 7 (λ z. c (ek ∙ z)),
   ) refl)
 
--- a busy node
-module _ (t status : List ℕ) (second : List Bool) (value occupant : List ℕ) (n k : ℕ) (ek : k ≡ kind t n) (d : Act) where
-  pub busy-prim : k ≡ 3 → d ≡ primBy t status value n → d ≡ busyBy t status second value occupant n
-  unfolding busyBy
-  busy-prim h e = e ∙ sym (rw (sym ek ∙ h) refl)
+-- so a node acts, by its status and kind
+module _ (t : List ℕ) (fair : Taken t) (n : ℕ) (i : IsNode t n) (a : List ℕ) (b : List Bool) (c d e : List ℕ) (x : Act) where
+  pub acts-open : entry a 0 n ≡ 1 → x ≡ openBy t c d n → x ≡ actOf t (stateAs a b c d e) n
+  acts-open h q = open-is t fair n i (stateAs a b c d e) h x q
 
-  pub busy-call : k ≡ 4
-      → d ≡ pick (eqb (word t n) (owner t n)) (selfBy t status value n) (callBy t status second value occupant n)
-      → d ≡ busyBy t status second value occupant n
-  unfolding busyBy
-  busy-call h e = e ∙ sym (rw (sym ek ∙ h) refl)
+  module _ (busy : entry a 0 n ≡ 2) where
+    by : x ≡ busyBy t a b c e n → x ≡ actOf t (stateAs a b c d e) n
+    by q = busy-is t fair n i (stateAs a b c d e) busy x q
 
-  pub busy-if : k ≡ 5 → d ≡ condBy t status second value n → d ≡ busyBy t status second value occupant n
-  unfolding busyBy
-  busy-if h e = e ∙ sym (rw (sym ek ∙ h) refl)
+    pub acts-prim : kind t n ≡ 3 → x ≡ primBy t a c n → x ≡ actOf t (stateAs a b c d e) n
+    unfolding busyBy
+    acts-prim k q = by (q ∙ sym (rw k refl))
 
-  pub busy-let : k ≡ 6 → d ≡ bindBy t status second value n → d ≡ busyBy t status second value occupant n
-  unfolding busyBy
-  busy-let h e = e ∙ sym (rw (sym ek ∙ h) refl)
+    pub acts-self : kind t n ≡ 4 → word t n ≡ owner t n → x ≡ selfBy t a c n → x ≡ actOf t (stateAs a b c d e) n
+    unfolding busyBy
+    acts-self k w q = by (q ∙ sym (rw (k, eq-eqb (word t n) (owner t n) w) refl))
 
-pub busy-other : (t status : List ℕ) (second : List Bool) (value occupant : List ℕ) (n k : ℕ) → k ≡ kind t n
-    → (k ≡ 3 → ⊥) → (k ≡ 4 → ⊥) → (k ≡ 5 → ⊥) → (k ≡ 6 → ⊥) → stuck ≡ busyBy t status second value occupant n
-unfolding busyBy
-busy-other t status second value occupant n k ek a b c d = sym (rw (
-  ne-eqb (kind t n) 3 (λ z. a (ek ∙ z)),
-  ne-eqb (kind t n) 4 (λ z. b (ek ∙ z)),
-  ne-eqb (kind t n) 5 (λ z. c (ek ∙ z)),
-  ne-eqb (kind t n) 6 (λ z. d (ek ∙ z)),
-) refl)
+    pub acts-call : kind t n ≡ 4 → (word t n ≡ owner t n → ⊥) → x ≡ callBy t a b c e n → x ≡ actOf t (stateAs a b c d e) n
+    unfolding busyBy
+    acts-call k w q = by (q ∙ sym (rw (k, ne-eqb (word t n) (owner t n) w) refl))
 
--- by status
-module _ (s : State512) (n x : ℕ) (ex : x ≡ entry (s .status) 0 n) (o b : Act) where
-  pub at-open : x ≡ 1 → o ≡ by-status (entry (s .status) 0 n) o b
-  at-open h = sym (rw (sym ex ∙ h) refl)
+    pub acts-cond : kind t n ≡ 5 → x ≡ condBy t a b c n → x ≡ actOf t (stateAs a b c d e) n
+    unfolding busyBy
+    acts-cond k q = by (q ∙ sym (rw k refl))
 
-  pub at-busy : x ≡ 2 → b ≡ by-status (entry (s .status) 0 n) o b
-  at-busy h = sym (rw (sym ex ∙ h) refl)
+    pub acts-bind : kind t n ≡ 6 → x ≡ bindBy t a b c n → x ≡ actOf t (stateAs a b c d e) n
+    unfolding busyBy
+    acts-bind k q = by (q ∙ sym (rw k refl))
 
-  pub at-rest : (x ≡ 1 → ⊥) → (x ≡ 2 → ⊥) → stuck ≡ by-status (entry (s .status) 0 n) o b
-  at-rest p q = sym (rw (ne-eqb (entry (s .status) 0 n) 1 (λ z. p (ex ∙ z)), ne-eqb (entry (s .status) 0 n) 2 (λ z. q (ex ∙ z))) refl)
+    pub acts-leaf : (kind t n ≡ 3 → ⊥) → (kind t n ≡ 4 → ⊥) → (kind t n ≡ 5 → ⊥) → (kind t n ≡ 6 → ⊥) → x ≡ stuck
+        → x ≡ actOf t (stateAs a b c d e) n
+    unfolding busyBy
+    acts-leaf p q r u z = by (z ∙ sym (rw (ne-eqb (kind t n) 3 p, ne-eqb (kind t n) 4 q, ne-eqb (kind t n) 5 r, ne-eqb (kind t n) 6 u) refl))
 
 -- beside gives the last value, and no other operation looks at it
 op-last : (op x y z : ℕ) → 9 < op → operateBy op x y z ≡ z
@@ -258,7 +255,7 @@ of-other op x y z n0 n1 n2 n3 n4 n5 n6 n7 n8 n9 = sym (op-last op x y z (high op
     high k l a b c d e = omega arith
 
 -- an operation on a chain's values
-module _ (t : List ℕ) (fair : Fair t) (value : List ℕ) (op c : ℕ) where
+module _ (t : List ℕ) (fair : Taken t) (value : List ℕ) (op c : ℕ) where
   abbrev vs : List ℕ
   vs = map (entry value 0) (chain t c)
 

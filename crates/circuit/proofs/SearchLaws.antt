@@ -10,7 +10,9 @@ use Rattle.table.specs.Working.{IsNode}
 use Rattle.rules.specs.State.{State512}
 use Rattle.rules.specs.Step.{Act, stuck, blocked, does}
 use Rattle.rules.specs.Circuit.{actOf}
-use Rattle.circuit.specs.Plan.{goes, Took, FoundAt, Tried}
+use Rattle.circuit.specs.Plan.{goes, Took, FoundAt, Tried, movedOf}
+use Rattle.circuit.specs.declared.changes.Effect.{Effect}
+use Rattle.circuit.specs.declared.changes.Effect.the-variants as Effect
 
 -- no node up to n has a move
 abbrev pub NoneTo : (t : List ℕ) → State512 → ℕ → Type 0
@@ -37,13 +39,22 @@ module _ (t : List ℕ) (s : State512) where
   found-here n i b e f = record { none = λ z m p q. omega (arith, i .0, z); some = λ z. (i, sym e ∙ f) }
 
   -- a number that is no node
-  pub tried-none : (n : ℕ) → (IsNode t n → ⊥) → Tried t s n 0 s
-  tried-none n d = record { taken = λ e. absurd (omega arith); left = λ e. (refl, λ i. absurd (d i)) }
+  pub tried-none : (n : ℕ) → (IsNode t n → ⊥) → Tried t s n Effect.Stuck s
+  tried-none n d = record { taken = λ e. absurd (let z : _≡_ {A = ℕ} 0 1 = cc in omega arith); left = λ e. (refl, λ i. absurd (d i)) }
 
-  pub tried-node : (n code : ℕ) (s′ : State512) → IsNode t n → Took t s n (actOf t s n) code s′ → Tried t s n code s′
-  tried-node n code s′ i h = go (actOf t s n) refl h
+  pub tried-node : (n : ℕ) (e : Effect) (s′ : State512) → IsNode t n → Took t s n (actOf t s n) e s′ → Tried t s n e s′
+  tried-node n e s′ i h = go (actOf t s n) refl h
     where
-      go : (a : Act) → actOf t s n ≡ a → Took t s n a code s′ → Tried t s n code s′
-      go stuck e k = record { taken = λ z. absurd (omega (arith, k .0, z)); left = λ z. (k .1, λ j. ap goes e) }
-      go blocked e k = record { taken = λ z. absurd (omega (arith, k .0, z)); left = λ z. (k .1, λ j. ap goes e) }
-      go (does m) e k = record { taken = λ z. (i, (m, e, k .1)); left = λ z. absurd (z (k .0)) }
+      go : (a : Act) → actOf t s n ≡ a → Took t s n a e s′ → Tried t s n e s′
+      go stuck q k = record {
+        taken = λ z. absurd (let w : movedOf e ≡ false = ap movedOf (k .0) in let z : _≡_ {A = ℕ} 0 1 = cc in omega arith);
+        left = λ z. (k .1, λ j. ap goes q);
+      }
+      go blocked q k = record {
+        taken = λ z. absurd (let w : movedOf e ≡ false = ap movedOf (k .0) in let z : _≡_ {A = ℕ} 0 1 = cc in omega arith);
+        left = λ z. (k .1, λ j. ap goes q);
+      }
+      go (does m) q k = record {
+        taken = λ z. (i, (m, q, k .1));
+        left = λ z. absurd (let w : movedOf e ≡ true = ap movedOf (k .0) in let z : _≡_ {A = ℕ} 0 1 = cc in omega arith);
+      }

@@ -16,7 +16,10 @@ use Rattle.rules.specs.Step.{Act, does, Move, begins, turns, finishes, enters, 
 use Rattle.rules.specs.Operations.{operate}
 use Rattle.rules.specs.Circuit.{actOf}
 use Rattle.circuit.specs.Meaning.{stateAs}
-use Rattle.circuit.specs.Plan.{Fair, initial, given, opens, Took}
+use Rattle.table.specs.Working.{Taken}
+use Rattle.circuit.specs.declared.changes.Effect.{Effect}
+use Rattle.circuit.specs.declared.changes.Effect.the-variants as Effect
+use Rattle.circuit.specs.Plan.{initial, leading, given, opens, Took}
 use Rattle.rules.proofs.Demands.{lay}
 use Rattle.rules.proofs.Performed.{FairAct}
 use Rattle.rules.proofs.StepTaken.{act-fair}
@@ -28,16 +31,16 @@ module _ (t : List ℕ) (n k : ℕ) (ek : k ≡ kind t n) (c : ℕ) (ec : c ≡ 
   unfolding opens opened
   begin-if h l′ e′ = e′ ∙ (λ i. write (e i) (ec i) 1) ∙ sym (rw (sym ek ∙ h) refl)
 
-  pub begin-let : k ≡ 6 → (l′ : List ℕ) → l′ ≡ opened l (initial (chain t c)) → l′ ≡ opened (write l₀ n 2) (opens t n)
+  pub begin-let : k ≡ 6 → (l′ : List ℕ) → l′ ≡ opened l (leading true (chain t c)) → l′ ≡ opened (write l₀ n 2) (opens t n)
   unfolding opens children
   begin-let h l′ e′ = e′ ∙ (λ i. opened (e i) (initial (chain t (ec i)))) ∙ sym (rw (sym ek ∙ h) refl)
 
-  pub begin-all : (k ≡ 5 → ⊥) → (k ≡ 6 → ⊥) → (l′ : List ℕ) → l′ ≡ opened l (chain t c) → l′ ≡ opened (write l₀ n 2) (opens t n)
+  pub begin-all : (k ≡ 5 → ⊥) → (k ≡ 6 → ⊥) → (l′ : List ℕ) → l′ ≡ opened l (leading false (chain t c)) → l′ ≡ opened (write l₀ n 2) (opens t n)
   unfolding opens children
   begin-all p q l′ e′ = e′ ∙ (λ i. opened (e i) (chain t (ec i)))
       ∙ sym (rw (ne-eqb (kind t n) 5 (λ z. p (ek ∙ z)), ne-eqb (kind t n) 6 (λ z. q (ek ∙ z))) refl)
 
-module _ (t : List ℕ) (fair : Fair t) (n : ℕ) (i : IsNode t n) (a : List ℕ) (b : List Bool) (c d e : List ℕ) where
+module _ (t : List ℕ) (fair : Taken t) (n : ℕ) (i : IsNode t n) (a : List ℕ) (b : List Bool) (c d e : List ℕ) where
   abbrev s : State512
   s = stateAs a b c d e
 
@@ -59,13 +62,13 @@ module _ (t : List ℕ) (fair : Fair t) (n : ℕ) (i : IsNode t n) (a : List ℕ
   leave-in g v q = there (leaves g v) q
 
   abbrev After : List ℕ → List Bool → List ℕ → List ℕ → List ℕ → Type 0
-  After a′ b′ c′ d′ e′ = Took t s n (actOf t s n) 2 (stateAs a′ b′ c′ d′ e′)
+  After a′ b′ c′ d′ e′ = Took t s n (actOf t s n) Effect.Moved (stateAs a′ b′ c′ d′ e′)
 
   made : (m : Move) → does m ≡ actOf t s n → (a′ : List ℕ) (b′ : List Bool) (c′ d′ e′ : List ℕ)
       → stateAs a′ b′ c′ d′ e′ ≡ perform (nodes t) (owner t) (bodyOf t) s n m → After a′ b′ c′ d′ e′
-  made m q a′ b′ c′ d′ e′ r = subst (λ x. Took t s n x 2 (stateAs a′ b′ c′ d′ e′)) q (refl, r)
+  made m q a′ b′ c′ d′ e′ r = subst (λ x. Took t s n x Effect.Moved (stateAs a′ b′ c′ d′ e′)) q (refl, r)
 
-  pub rested : (x : Act) (k : ℕ) → x ≡ actOf t s n → Took t s n x k s → Took t s n (actOf t s n) k s
+  pub rested : (x : Act) (k : Effect) → x ≡ actOf t s n → Took t s n x k s → Took t s n (actOf t s n) k s
   rested x k q h = subst (λ y. Took t s n y k s) q h
 
   pub begun : does (begins (opens t n)) ≡ actOf t s n → (a′ : List ℕ) → a′ ≡ opened (write a n 2) (opens t n) → After a′ b c d e

@@ -25,14 +25,17 @@ use Rattle.rules.specs.Step.{circuitStep, over}
 use Rattle.rules.specs.Operations.{operate}
 use Rattle.rules.specs.Play.{IsTaken}
 use Rattle.rules.specs.Circuit.{actOf, circuitOf, stepAfter, stepOf}
-use Rattle.circuit.specs.Plan.{Fair, Took, Stands, goes}
+use Rattle.table.specs.Working.{Taken}
+use Rattle.circuit.specs.declared.changes.Effect.{Effect}
+use Rattle.circuit.specs.declared.changes.Effect.the-variants as Effect
+use Rattle.circuit.specs.Plan.{Took, Stands, goes, movedOf}
 use Rattle.rules.proofs.Demands.{after-both}
 use Rattle.circuit.proofs.StandsLaws.{kept}
 use Rattle.circuit.proofs.ChainLaws.{ok}
 use Rattle.table.specs.Check as TableCheck
 
 -- a table whose tags are taken is taken
-pub fair-from : (t tags : List ℕ) (F N : ℕ) → checkWith t tags ≡ accepted F N → Fair t
+pub fair-from : (t tags : List ℕ) (F N : ℕ) → checkWith t tags ≡ accepted F N → Taken t
 unfolding checkWith
 fair-from t tags F N e =
     let x = after-both (checkOf t) _ F N e in
@@ -50,10 +53,10 @@ pub step-turned : (t tags : List ℕ) (k p : ℕ) → checkWith t tags ≡ Table
 unfolding stepOf stepAfter
 step-turned t tags k p e s n = sym (rw e refl)
 
-pub main-root : (t : List ℕ) → Fair t → id (bodyOf t (functions t)) ≡ root t (functions t)
+pub main-root : (t : List ℕ) → Taken t → id (bodyOf t (functions t)) ≡ root t (functions t)
 main-root t fair = id-body t (ok t fair) (functions t) (ok t fair .F-low, omega arith)
 
-module _ (t tags : List ℕ) (fair : Fair t) (s : State512) (n : ℕ) where
+module _ (t tags : List ℕ) (fair : Taken t) (s : State512) (n : ℕ) where
   pub turn-zero : n ≡ 0 → refusal s 12 0 ≡ circuitOf t tags s n
   unfolding circuitOf circuitStep
   turn-zero e = sym (rw (eq-eqb n 0 e) refl)
@@ -97,24 +100,28 @@ module _ (t tags : List ℕ) (fair : Fair t) (s : State512) (n : ℕ) where
   abbrev pub Out : Act → Stepped
   Out a = outcome operate (functions t) (nodes t) (bodyOf t) (exprAt t) (owner t) (tagged tags) s n a
 
-  module _ (s′ : State512) (code : ℕ) where
-    pub out-stuck : (a : Act) → Took t s n a code s′ → code ≡ 0 → _≡_ {A = Stepped} (record { answer = denied 21 n; state = s′ }) (Out a)
+  module _ (s′ : State512) (f : Effect) where
+    -- two effects at once
+    clash : (x y : Effect) → f ≡ x → f ≡ y → movedOf x ≡ true → movedOf y ≡ false → ⊥
+    clash x y p q u v = let e : x ≡ y = sym p ∙ q in let w = ap movedOf e in let z : _≡_ {A = ℕ} 0 1 = cc in omega arith
+
+    pub out-stuck : (a : Act) → Took t s n a f s′ → f ≡ Effect.Stuck → _≡_ {A = Stepped} (record { answer = denied 21 n; state = s′ }) (Out a)
     out-stuck stuck h e = λ i. record { answer = denied 21 n; state = h .1 i }
-    out-stuck blocked h e = absurd (omega (arith, h .0))
-    out-stuck (does m) h e = absurd (omega (arith, h .0))
+    out-stuck blocked h e = absurd (let q = sym e ∙ h .0 in let z : _≡_ {A = ℕ} 0 1 = cc in omega arith)
+    out-stuck (does m) h e = absurd (clash Effect.Moved Effect.Stuck (h .0) e refl refl)
 
-    pub out-held : (a : Act) → Took t s n a code s′ → code ≡ 1 → (k : ℕ) → k ≡ pick (tagged tags n) 22 23
+    pub out-held : (a : Act) → Took t s n a f s′ → f ≡ Effect.Blocked → (k : ℕ) → k ≡ pick (tagged tags n) 22 23
         → _≡_ {A = Stepped} (record { answer = denied k n; state = s′ }) (Out a)
-    out-held stuck h e k ek = absurd (omega (arith, h .0))
+    out-held stuck h e k ek = absurd (let q = sym e ∙ h .0 in let z : _≡_ {A = ℕ} 0 1 = cc in omega arith)
     out-held blocked h e k ek = λ i. record { answer = denied (ek i) n; state = h .1 i }
-    out-held (does m) h e k ek = absurd (omega (arith, h .0))
+    out-held (does m) h e k ek = absurd (clash Effect.Moved Effect.Blocked (h .0) e refl refl)
 
-    pub out-moved : (a : Act) → Took t s n a code s′ → (code ≡ 0 → ⊥) → (code ≡ 1 → ⊥) → (top : ℕ) → top ≡ root t (functions t)
+    pub out-moved : (a : Act) → Took t s n a f s′ → f ≡ Effect.Moved → (top : ℕ) → top ≡ root t (functions t)
         → (r : Reply) → r ≡ pick (eqb (entry (s′ .status) 0 top) 3) (answered (entry (s′ .value) 0 top)) taken
         → _≡_ {A = Stepped} (record { answer = r; state = s′ }) (Out a)
-    out-moved stuck h p q top et r er = absurd (p (h .0))
-    out-moved blocked h p q top et r er = absurd (q (h .0))
-    out-moved (does m) h p q top et r er =
+    out-moved stuck h p top et r er = absurd (clash Effect.Moved Effect.Stuck p (h .0) refl refl)
+    out-moved blocked h p top et r er = absurd (clash Effect.Moved Effect.Blocked p (h .0) refl refl)
+    out-moved (does m) h p top et r er =
         let e : top ≡ id (bodyOf t (functions t)) = et ∙ sym (main-root t fair) in
         let f : r ≡ told (id (bodyOf t (functions t))) (view s′) =
         er ∙ ap (λ x. pick (eqb (entry (s′ .status) 0 x) 3) (answered (entry (s′ .value) 0 x)) taken) e in
@@ -139,7 +146,7 @@ module _ (t tags : List ℕ) (fair : Fair t) (s : State512) (n : ℕ) where
   out-stands h st (does m) = kept t s st n h m
 
 -- a step that isn't refused keeps 24's tests passed; in any state
-module _ (t tags : List ℕ) (fair : Fair t) (s : State512) (st : Stands t s) where
+module _ (t tags : List ℕ) (fair : Taken t) (s : State512) (st : Stands t s) where
   pub by-number : (P : Stepped → Type 0) (n : ℕ) → P (refusal s 12 0) → (IsNode t n → P (refusal s 20 n)) →
       (IsNode t n → P (Out t tags fair s n (actOf t s n)))
       → P (circuitOf t tags s n)

@@ -1,9 +1,7 @@
-// Occupants as plain numbers, to be lent, and back; the owners of a checked table.
-use crate::groups;
+// Occupants as plain numbers, to be lent, and back.
 use table::Node;
 ghost use mathlib.Core.Path.{_≡_};
 ghost use Rattle.circuit.specs.Meaning.{numbers};
-ghost use Rattle.circuit.specs.Plan.{Fair, Owners};
 
 pub fn plain(raw: [Node; 32]) -> [u16; 32]
     ensures { λ r. ⌜ r ≡ numbers raw ⌝ }
@@ -28,14 +26,4 @@ pub fn named(raw: [u16; 32]) -> [Node; 32]
         i += 1;
     }
     r
-}
-
-// Each node's function.
-pub(crate) fn owners(table: &[u8]) -> [u16; 513]
-    requires { ⌜ Fair (now table) ⌝ }
-    ensures { λ r. ⌜ Owners (now (table .entry)) r ⌝ }
-{
-    let found = table::survey(table);
-    let raw = found.owner;
-    groups::owners(raw)
 }

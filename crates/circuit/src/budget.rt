@@ -1,35 +1,36 @@
 // The query and the run with a budget, of a table and tags that were checked and a state that passed 24.
+use crate::arrays;
+use crate::candidates;
+use crate::groups;
+use crate::search;
+use crate::store;
+use crate::turn;
 use crate::types::Driven;
 use crate::types::Ended;
 use crate::types::Found;
 use crate::types::State;
-use crate::arrays;
-use crate::candidates;
-use crate::store;
-use crate::groups;
-use crate::search;
-use crate::turn;
 use table::Node;
+use table::decoded::Cells;
 ghost use mathlib.Core.Path.{_≡_};
 ghost use Prim.Native.Nat.{_≤_};
 ghost use Rattle.table.specs.Bytes.{functions, root};
 ghost use Rattle.rules.specs.Runs.{Picks};
 ghost use Rattle.circuit.specs.Meaning.{listsOf, drivenOf, foundOf, endedOf, stateAs};
-ghost use Rattle.circuit.specs.Plan.{Owners, Agreed, Stands, FindsIn, EndsIn};
+ghost use Rattle.circuit.specs.Plan.{Agreed, Stands, FindsIn, EndsIn};
+ghost use Rattle.table.specs.Working.{Read};
 
 // None once main's root is done, else the first node that has a move.
 pub(crate) fn query(table: &[u8], cells: &Cells, tags: &[u8], s: State) -> Found
-    requires { ⌜ Agreed (now table) (now tags) × Stands (now table) (listsOf s) ⌝ }
+    requires { ⌜ Read (now table) (now cells) × Agreed (now table) (now tags) × Stands (now table) (listsOf s) ⌝ }
     ensures { λ r. ⌜ FindsIn (now (table .entry)) (now (tags .entry)) (listsOf s) (foundOf r) ⌝ }
 {
-    let own = arrays::owners(table);
     let status = s.status;
     let second = s.second;
     let value = s.value;
     let registers = s.registers;
     let raw = s.occupant;
     let plain = arrays::plain(raw);
-    let top = turn::top(table);
+    let top = turn::top(table, cells);
     if store::status_at(&status, top) == 3 {
         return Found::Nothing;
     }
@@ -52,7 +53,7 @@ fn end_of(
     occupant: &[u16; 32],
     top: Node,
 ) -> Ended
-    requires { ⌜ Agreed (now table) (now tags) × Owners (now table) (now own) × (top .0 ≡ root (now table) (functions (now table)))
+    requires { ⌜ Read (now table) (now cells) × Agreed (now table) (now tags) × (top .0 ≡ root (now table) (functions (now table)))
         × (top .0 ≤ 512)
         × Stands (now table) (stateAs (now status) (now second) (now value) (now registers) (now occupant)) ⌝ }
     ensures { λ r. ⌜ EndsIn (now (table .entry)) (now (tags .entry)) (stateAs (now (status .entry)) (now (second .entry))
@@ -71,14 +72,13 @@ fn end_of(
 
 // Possible steps, as many as the budget at most.
 pub(crate) fn drive(table: &[u8], cells: &Cells, tags: &[u8], s: State, budget: u32) -> Driven
-    requires { ⌜ Agreed (now table) (now tags) × Stands (now table) (listsOf s) ⌝ }
+    requires { ⌜ Read (now table) (now cells) × Agreed (now table) (now tags) × Stands (now table) (listsOf s) ⌝ }
     ensures { λ r. ⌜ Picks (now (table .entry)) (now (tags .entry)) (listsOf s) budget (drivenOf r) ⌝ }
 {
-    let own = arrays::owners(table);
-    let g = groups::group(table, cells, &own);
+    let g = groups::group(table, cells);
     let heads = g.heads;
     let links = g.links;
-    let top = turn::top(table);
+    let top = turn::top(table, cells);
     let mut status = s.status;
     let mut second = s.second;
     let mut value = s.value;
@@ -101,7 +101,7 @@ pub(crate) fn drive(table: &[u8], cells: &Cells, tags: &[u8], s: State, budget: 
             &stack,
             height,
         );
-        let code = candidates::attempt(
+        let effect = candidates::attempt(
             table,
             cells,
             &heads,
@@ -113,7 +113,7 @@ pub(crate) fn drive(table: &[u8], cells: &Cells, tags: &[u8], s: State, budget: 
             &mut plain,
             n,
         );
-        if code == 2 {
+        if candidates::moved(effect) {
             taken += 1;
             height = candidates::follow(table, cells, &status, &mut stack, height, n);
         } else {
@@ -125,7 +125,6 @@ pub(crate) fn drive(table: &[u8], cells: &Cells, tags: &[u8], s: State, budget: 
         table,
         cells,
         tags,
-        &own,
         &status,
         &second,
         &value,

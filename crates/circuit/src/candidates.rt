@@ -1,8 +1,9 @@
 // A run that picks its own steps. The next one is looked for where the last one was: below a node that began, turned or entered, then at
 // that node itself. Where this finds none, all nodes are looked through; what the run says rests on that alone.
-use crate::store;
 use crate::changes;
+use crate::changes::Effect;
 use crate::search;
+use crate::store;
 use table::Function;
 use table::Node;
 use table::decoded;
@@ -12,10 +13,10 @@ ghost use mathlib.Core.Bool.{not, _&&_};
 ghost use lib.Dec.{eqb, ltb};
 ghost use Prim.Native.Nat.{_-_, _≤_};
 ghost use Rattle.table.specs.Bytes.{nodes};
-ghost use Rattle.table.specs.Working.{IsNode};
+ghost use Rattle.table.specs.Working.{IsNode, Read};
 ghost use Rattle.rules.specs.State.{entry};
 ghost use Rattle.circuit.specs.Meaning.{stateAs};
-ghost use Rattle.circuit.specs.Plan.{Fair, Owners, Grouped, FoundAt, Tried};
+ghost use Rattle.circuit.specs.Plan.{Grouped, FoundAt, Tried, movedOf};
 
 // One candidate less.
 pub(crate) fn less(height: usize) -> usize
@@ -70,10 +71,7 @@ fn push_chain(
 
 // Whether a candidate is a node of function f.
 fn owned(cells: &Cells, n: Node, f: Function) -> bool {
-    if 512 < n.0 {
-        return false;
-    }
-    own[n.0 as usize] == f.0
+    decoded::owner(cells, n).0 == f.0
 }
 
 // Without the candidates on top that are nodes of f: a self call starts these anew.
@@ -84,7 +82,7 @@ fn drop_own(cells: &Cells, stack: &[u16; 1024], height: usize, f: Function) -> u
     let mut h = height;
     while 0 < h {
         let n = stack[h - 1];
-        if !owned(own, Node(n), f) {
+        if !owned(cells, Node(n), f) {
             return h;
         }
         h -= 1;
@@ -115,9 +113,9 @@ pub(crate) fn follow(
         let below = push_chain(table, cells, status, stack, above, c);
         return push_callee(table, cells, status, stack, below, n);
     }
-    let f = own[n.0 as usize];
-    let kept = drop_own(own, stack, h, Function(f));
-    let r = decoded::root(cells, Function(f));
+    let f = decoded::owner(cells, n);
+    let kept = drop_own(cells, stack, h, f);
+    let r = decoded::root(cells, f);
     push(stack, kept, r)
 }
 
@@ -136,8 +134,7 @@ fn push_callee(
     if decoded::kind(cells, n) != 4 {
         return height;
     }
-    let g = decoded::word(cells, n);
-    let r = decoded::root(cells, Function(g as u16));
+    let r = decoded::root(cells, decoded::callee(cells, n));
     push_open(status, stack, height, r)
 }
 
@@ -164,7 +161,7 @@ pub(crate) fn candidate(
     search::find(table, cells, status, second, value, registers, occupant)
 }
 
-// Takes the step of a candidate, if it is a node and has one: 2 if so.
+// Takes the step of a candidate, if it is a node and has one.
 pub(crate) fn attempt(
     table: &[u8],
     cells: &Cells,
@@ -176,24 +173,22 @@ pub(crate) fn attempt(
     registers: &mut [u32; 256],
     occupant: &mut [u16; 32],
     n: Node,
-) -> u8
+) -> Effect
     requires { ⌜ Read (now table) (now cells) × Grouped (now table) (now heads) (now links) ⌝ }
     ensures { λ r. ⌜ Tried (now (table .entry)) (stateAs (now (status .entry)) (now (second .entry)) (now (value .entry))
         (now (registers .entry)) (now (occupant .entry))) (n .0) r
         (stateAs (now (status .exit)) (now (second .exit)) (now (value .exit)) (now (registers .exit)) (now (occupant .exit))) ⌝ }
 {
     if n.0 == 0 {
-        return 0;
+        return Effect::Stuck;
     }
     let last = decoded::last(cells);
     if last.0 < n.0 {
-        return 0;
+        return Effect::Stuck;
     }
-    let f = own[n.0 as usize];
     changes::take(
         table,
         cells,
-        Function(f),
         heads,
         links,
         status,
@@ -203,6 +198,17 @@ pub(crate) fn attempt(
         occupant,
         n,
     )
+}
+
+// Whether a step was taken.
+pub(crate) fn moved(effect: Effect) -> bool
+    ensures { λ r. ⌜ r ≡ movedOf effect ⌝ }
+{
+    match effect {
+        Effect::Stuck => false,
+        Effect::Blocked => false,
+        Effect::Moved => true,
+    }
 }
 
 // Whether the run goes on: main's root isn't done, a step may be possible, and the budget isn't spent.

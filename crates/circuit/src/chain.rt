@@ -1,6 +1,6 @@
 // What a step reads and opens along a chain of siblings.
-use crate::store;
 use crate::operations;
+use crate::store;
 use table::Node;
 use table::decoded;
 use table::decoded::Cells;
@@ -11,39 +11,35 @@ ghost use Rattle.table.specs.Bytes.{nodes};
 ghost use Rattle.table.specs.Naming.{chain};
 ghost use Rattle.rules.specs.State.{entry, opened};
 ghost use Rattle.rules.specs.Operations.{operate};
-ghost use Rattle.circuit.specs.Plan.{Fair, allDone, initial, lastFrom};
+ghost use mathlib.Core.Bool.{_&&_};
+ghost use lib.Dec.{eqb};
+ghost use Rattle.table.specs.Working.{Read};
+ghost use Rattle.circuit.specs.Plan.{allDone, leading, lastFrom};
 
-// Whether the node at c and all that follow it are done.
-pub(crate) fn all_done(table: &[u8], cells: &Cells, status: &[u8; 512], c: Node) -> bool
+// Whether the node at c and all that follow it are done; of a let (defs) all but the last.
+pub(crate) fn all_done(table: &[u8], cells: &Cells, status: &[u8; 512], c: Node, defs: bool) -> bool
     requires { ⌜ Read (now table) (now cells) × (c .0 ≤ nodes (now table)) ⌝ }
-    ensures { λ r. ⌜ r ≡ allDone (entry (now (status .entry)) 0) (chain (now (table .entry)) (c .0)) ⌝ }
+    ensures { λ r. ⌜ r ≡ allDone (entry (now (status .entry)) 0) (leading defs (chain (now (table .entry)) (c .0))) ⌝ }
 {
     let mut at = c.0;
     while at != 0 {
-        if store::status_at(status, Node(at)) != 3 {
-            return false;
+        let on = decoded::next(cells, Node(at)).0;
+        if ends(on, defs) {
+            return true;
         }
-        let on = decoded::next(cells, Node(at));
-        at = on.0;
-    }
-    true
-}
-
-// The same without the last one.
-pub(crate) fn defs_done(table: &[u8], cells: &Cells, status: &[u8; 512], c: Node) -> bool
-    requires { ⌜ Read (now table) (now cells) × (1 ≤ c .0) × (c .0 ≤ nodes (now table)) ⌝ }
-    ensures { λ r. ⌜ r ≡ allDone (entry (now (status .entry)) 0) (initial (chain (now (table .entry)) (c .0))) ⌝ }
-{
-    let mut at = c.0;
-    let mut on = decoded::next(cells, c).0;
-    while on != 0 {
         if store::status_at(status, Node(at)) != 3 {
             return false;
         }
         at = on;
-        on = decoded::next(cells, Node(at)).0;
     }
     true
+}
+
+// Whether a node of a let, before `on`, is its body.
+fn ends(on: u16, defs: bool) -> bool
+    ensures { λ r. ⌜ r ≡ (defs && eqb on 0) ⌝ }
+{
+    if defs { on == 0 } else { false }
 }
 
 // The last node of a chain, 0 of an empty one.
@@ -61,7 +57,7 @@ pub(crate) fn last_of(table: &[u8], cells: &Cells, c: Node) -> Node
 }
 
 // An operation on the values of the children from c on.
-pub(crate) fn operation(table: &[u8], cells: &Cells, value: &[u32; 512], op: u8, c: Node) -> u32
+pub(crate) fn operation(table: &[u8], cells: &Cells, value: &[u32; 512], op: u16, c: Node) -> u32
     requires { ⌜ Read (now table) (now cells) × (c .0 ≤ nodes (now table)) ⌝ }
     ensures { λ r. ⌜ r ≡ operate op (map (entry (now (value .entry)) 0) (chain (now (table .entry)) (c .0))) ⌝ }
 {
@@ -78,29 +74,18 @@ pub(crate) fn operation(table: &[u8], cells: &Cells, value: &[u32; 512], op: u8,
     operations::of_two(op, x, y, 0)
 }
 
-// Opens the node at c and all that follow it.
-pub(crate) fn open_all(table: &[u8], cells: &Cells, status: &mut [u8; 512], c: Node)
+// Opens the node at c and all that follow it; of a let (defs) all but the last.
+pub(crate) fn open_all(table: &[u8], cells: &Cells, status: &mut [u8; 512], c: Node, defs: bool)
     requires { ⌜ Read (now table) (now cells) × (c .0 ≤ nodes (now table)) ⌝ }
-    ensures { λ _. ⌜ now (status .exit) ≡ opened (now (status .entry)) (chain (now (table .entry)) (c .0)) ⌝ }
+    ensures { λ _. ⌜ now (status .exit) ≡ opened (now (status .entry)) (leading defs (chain (now (table .entry)) (c .0))) ⌝ }
 {
     let mut at = c.0;
     while at != 0 {
-        store::set_status(status, Node(at), 1);
-        let on = decoded::next(cells, Node(at));
-        at = on.0;
-    }
-}
-
-// The same without the last one.
-pub(crate) fn open_defs(table: &[u8], cells: &Cells, status: &mut [u8; 512], c: Node)
-    requires { ⌜ Read (now table) (now cells) × (1 ≤ c .0) × (c .0 ≤ nodes (now table)) ⌝ }
-    ensures { λ _. ⌜ now (status .exit) ≡ opened (now (status .entry)) (initial (chain (now (table .entry)) (c .0))) ⌝ }
-{
-    let mut at = c.0;
-    let mut on = decoded::next(cells, c).0;
-    while on != 0 {
+        let on = decoded::next(cells, Node(at)).0;
+        if ends(on, defs) {
+            return;
+        }
         store::set_status(status, Node(at), 1);
         at = on;
-        on = decoded::next(cells, Node(at)).0;
     }
 }

@@ -1,9 +1,9 @@
 // What a step changes.
-use crate::store;
 use crate::chain;
 use crate::groups;
 use crate::plan;
 use crate::plan::Plan;
+use crate::store;
 use table::Function;
 use table::Node;
 use table::decoded;
@@ -11,42 +11,56 @@ use table::decoded::Cells;
 ghost use mathlib.Core.Path.{_≡_};
 ghost use mathlib.Core.Bool.{false};
 ghost use mathlib.Core.List.{map};
-ghost use lib.Dec.{eqb};
 ghost use Prim.Native.Nat.{_≤_};
-ghost use Rattle.table.specs.Pick.{pick};
-ghost use Rattle.table.specs.Bytes.{nodes, root, next};
+ghost use Rattle.table.specs.Bytes.{nodes, root};
 ghost use Rattle.table.specs.Naming.{owner, chain};
-ghost use Rattle.table.specs.Working.{IsNode, IsFunction};
+ghost use Rattle.table.specs.Working.{IsNode, IsFunction, Read};
 ghost use Rattle.rules.specs.State.{entry, write, opened, clear, fill};
 ghost use Rattle.rules.specs.Step.{mine};
 ghost use Rattle.rules.specs.Circuit.{actOf};
 ghost use Rattle.circuit.specs.Meaning.{stateAs};
-ghost use Rattle.circuit.specs.Plan.{Fair, Grouped, opens, Took};
+ghost use Rattle.circuit.specs.Plan.{Grouped, after, opens, Took};
 
-// The next sibling; of none, none.
-fn following(table: &[u8], cells: &Cells, n: Node) -> Node
-    ensures { λ r. ⌜ r .0 ≡ pick (eqb (n .0) 0) 0 (next (now (table .entry)) (n .0)) ⌝ }
+// What a register gets from the argument at `at`, and the argument after it; past the last argument, zero.
+pub struct Handed {
+    pub value: u32,
+    pub rest: Node,
+}
+
+fn hand(table: &[u8], cells: &Cells, value: &[u32; 512], at: Node) -> Handed
+    requires { ⌜ Read (now table) (now cells) × (at .0 ≤ nodes (now table)) ⌝ }
+    ensures { λ r. ⌜ (r .value ≡ entry (now (value .entry)) 0 (at .0)) × (r .rest .0 ≡ after (now (table .entry)) (at .0)) ⌝ }
 {
-    if n.0 == 0 {
-        return n;
+    if at.0 == 0 {
+        return Handed { value: 0, rest: at };
     }
-    decoded::next(cells, n)
+    Handed {
+        value: store::value_at(value, at),
+        rest: decoded::next(cells, at),
+    }
 }
 
 // The registers of g: the values of the nodes from c on, then zeros.
-fn give(table: &[u8], cells: &Cells, value: &[u32; 512], registers: &mut [u32; 256], g: Function, c: Node)
+fn give(
+    table: &[u8],
+    cells: &Cells,
+    value: &[u32; 512],
+    registers: &mut [u32; 256],
+    g: Function,
+    c: Node,
+)
     requires { ⌜ Read (now table) (now cells) × IsFunction (now table) (g .0) × (c .0 ≤ nodes (now table)) ⌝ }
     ensures { λ _. ⌜ now (registers .exit)
         ≡ fill (g .0) (map (entry (now (value .entry)) 0) (chain (now (table .entry)) (c .0))) (now (registers .entry)) ⌝ }
 {
     let f = g.0 as usize;
     let base = 8 * (f - 1);
-    let mut at = c.0;
+    let mut at = c;
     let mut i: usize = 0;
     while i < 8 {
-        registers[base + i] = store::value_at(value, Node(at));
-        let on = following(table, cells, Node(at));
-        at = on.0;
+        let h = hand(table, cells, value, at);
+        registers[base + i] = h.value;
+        at = h.rest;
         i += 1;
     }
 }
@@ -64,10 +78,10 @@ fn begin(table: &[u8], cells: &Cells, status: &mut [u8; 512], n: Node)
         return;
     }
     if kind == 6 {
-        chain::open_defs(table, cells, status, c);
+        chain::open_all(table, cells, status, c, true);
         return;
     }
-    chain::open_all(table, cells, status, c);
+    chain::open_all(table, cells, status, c, false);
 }
 
 // Done with a value.
@@ -110,11 +124,17 @@ fn reset(
     store::set_status(status, r, 1);
 }
 
-// Takes the step of node n, whose function is `own`, if it has one: 0 where it has none, 1 where its resource is occupied, 2 taken.
+// What came of a step that was tried: none, for a cause of its own or since the resource is occupied, or the move is made.
+pub enum Effect {
+    Stuck,
+    Blocked,
+    Moved,
+}
+
+// Takes the step of node n, if it has one.
 pub(crate) fn take(
     table: &[u8],
     cells: &Cells,
-    own: Function,
     heads: &[u16; 33],
     links: &[u16; 513],
     status: &mut [u8; 512],
@@ -123,8 +143,8 @@ pub(crate) fn take(
     registers: &mut [u32; 256],
     occupant: &mut [u16; 32],
     n: Node,
-) -> u8
-    requires { ⌜ Read (now table) (now cells) × IsNode (now table) (n .0) × (own .0 ≡ owner (now table) (n .0))
+) -> Effect
+    requires { ⌜ Read (now table) (now cells) × IsNode (now table) (n .0)
         × Grouped (now table) (now heads) (now links) ⌝ }
     ensures { λ r. ⌜ Took (now (table .entry))
         (stateAs (now (status .entry)) (now (second .entry)) (now (value .entry)) (now (registers .entry)) (now (occupant .entry)))
@@ -135,34 +155,22 @@ pub(crate) fn take(
 {
     let p = plan::plan_at(table, cells, status, second, value, registers, occupant, n);
     match p {
-        Plan::Stuck => 0,
-        Plan::Blocked => 1,
+        Plan::Stuck => Effect::Stuck,
+        Plan::Blocked => Effect::Blocked,
         Plan::Begins => {
             begin(table, cells, status, n);
-            2
+            Effect::Moved
         }
         Plan::Turns(m) => {
             store::set_status(status, m, 1);
             store::set_second(second, n, true);
-            2
+            Effect::Moved
         }
         Plan::Finishes(v) => {
             finish(status, second, value, n, v);
-            2
+            Effect::Moved
         }
         Plan::Enters(g) => {
-            let c = decoded::first(cells, n);
-            reset(table, cells, heads, links, status, second, value, registers, g, c);
-            store::set_second(second, n, true);
-            store::set_occupant(occupant, g, n);
-            2
-        }
-        Plan::Leaves(g, v) => {
-            finish(status, second, value, n, v);
-            store::set_occupant(occupant, g, Node(0));
-            2
-        }
-        Plan::Restarts => {
             let c = decoded::first(cells, n);
             reset(
                 table,
@@ -173,10 +181,34 @@ pub(crate) fn take(
                 second,
                 value,
                 registers,
-                own,
+                g,
                 c,
             );
-            2
+            store::set_second(second, n, true);
+            store::set_occupant(occupant, g, n);
+            Effect::Moved
+        }
+        Plan::Leaves(g, v) => {
+            finish(status, second, value, n, v);
+            store::set_occupant(occupant, g, Node(0));
+            Effect::Moved
+        }
+        Plan::Restarts => {
+            let f = decoded::owner(cells, n);
+            let c = decoded::first(cells, n);
+            reset(
+                table,
+                cells,
+                heads,
+                links,
+                status,
+                second,
+                value,
+                registers,
+                f,
+                c,
+            );
+            Effect::Moved
         }
     }
 }

@@ -1,13 +1,15 @@
 // The entries' work on a table and tags that were checked.
+use crate::arrays;
+use crate::groups;
+use crate::standing;
+use crate::turn;
 use crate::types::Answer;
 use crate::types::Halt;
 use crate::types::Ran;
 use crate::types::State;
 use crate::types::Stepped;
-use crate::arrays;
-use crate::groups;
-use crate::standing;
-use crate::turn;
+use table::Checked;
+use table::Findings;
 use table::Node;
 use table::decoded;
 use table::decoded::Cells;
@@ -17,7 +19,8 @@ ghost use Rattle.rules.specs.Step.{refusal};
 ghost use Rattle.rules.specs.Circuit.{circuitOf};
 ghost use Rattle.rules.specs.Runs.{runFrom, stopped, Ran as RanAs};
 ghost use Rattle.circuit.specs.Meaning.{listsOf, steppedOf, ranOf};
-ghost use Rattle.circuit.specs.Plan.{Fair, Stands, Agreed, strayIn};
+ghost use Rattle.circuit.specs.Plan.{Stands, Agreed, Admitted, strayIn};
+ghost use Rattle.table.specs.Working.{Read};
 
 // A refusal leaves the state as it is.
 pub(crate) fn refused(s: State, number: u8, place: Node) -> Stepped
@@ -29,8 +32,35 @@ pub(crate) fn refused(s: State, number: u8, place: Node) -> Stepped
     }
 }
 
+// What is checked before a query and before a run: the table, its tags, 24; with the table decoded.
+pub(crate) fn admit(table: &[u8], tags: &[u8], s: State) -> Findings
+    ensures { λ r. ⌜ Admitted (now (table .entry)) (now (tags .entry)) (listsOf s) r ⌝ }
+{
+    let found = list::survey_tags(table, tags);
+    let checked = found.checked;
+    let cells = found.cells;
+    match checked {
+        Checked::Refused(number, place) => Findings {
+            checked: Checked::Refused(number, place),
+            cells,
+        },
+        Checked::Accepted(main, last) => {
+            if strays(table, &cells, s) {
+                return Findings {
+                    checked: Checked::Refused(24, Node(0)),
+                    cells,
+                };
+            }
+            Findings {
+                checked: Checked::Accepted(main, last),
+                cells,
+            }
+        }
+    }
+}
+
 // 24.
-pub(crate) fn strays(table: &[u8], cells: &Cells, s: State) -> bool
+fn strays(table: &[u8], cells: &Cells, s: State) -> bool
     requires { ⌜ Read (now table) (now cells) ⌝ }
     ensures { λ r. ⌜ r ≡ strayIn (now (table .entry)) (listsOf s) ⌝ }
 {
@@ -62,8 +92,7 @@ fn step_standing(table: &[u8], cells: &Cells, tags: &[u8], s: State, n: Node) ->
     requires { ⌜ Read (now table) (now cells) × Stands (now table) (listsOf s) ⌝ }
     ensures { λ r. ⌜ steppedOf r ≡ circuitOf (now (table .entry)) (now (tags .entry)) (listsOf s) (n .0) ⌝ }
 {
-    let own = arrays::owners(table);
-    let g = groups::group(table, cells, &own);
+    let g = groups::group(table, cells);
     let heads = g.heads;
     let links = g.links;
     let mut status = s.status;
@@ -76,7 +105,6 @@ fn step_standing(table: &[u8], cells: &Cells, tags: &[u8], s: State, n: Node) ->
         table,
         cells,
         tags,
-        &own,
         &heads,
         &links,
         &mut status,
@@ -97,7 +125,7 @@ fn step_standing(table: &[u8], cells: &Cells, tags: &[u8], s: State, n: Node) ->
     Stepped { answer, state }
 }
 
-pub(crate) fn stop(s: State, number: u8, place: Node) -> Ran
+pub(crate) fn run_refused(s: State, number: u8, place: Node) -> Ran
     ensures { λ r. ⌜ _≡_ {A = RanAs} (ranOf r) (record { steps = 0; halt = stopped number (place .0); state = listsOf s }) ⌝ }
 {
     Ran {
@@ -109,11 +137,10 @@ pub(crate) fn stop(s: State, number: u8, place: Node) -> Ran
 
 // Steps one after the other, up to the first refusal.
 pub(crate) fn run(table: &[u8], cells: &Cells, tags: &[u8], s: State, nodes: &[u16]) -> Ran
-    requires { ⌜ Agreed (now table) (now tags) × Stands (now table) (listsOf s) ⌝ }
+    requires { ⌜ Read (now table) (now cells) × Agreed (now table) (now tags) × Stands (now table) (listsOf s) ⌝ }
     ensures { λ r. ⌜ ranOf r ≡ runFrom (now (table .entry)) (now (tags .entry)) (listsOf s) (now (nodes .entry)) ⌝ }
 {
-    let own = arrays::owners(table);
-    let g = groups::group(table, cells, &own);
+    let g = groups::group(table, cells);
     let heads = g.heads;
     let links = g.links;
     let mut status = s.status;
@@ -129,7 +156,6 @@ pub(crate) fn run(table: &[u8], cells: &Cells, tags: &[u8], s: State, nodes: &[u
             table,
             cells,
             tags,
-            &own,
             &heads,
             &links,
             &mut status,

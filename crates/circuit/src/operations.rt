@@ -4,7 +4,7 @@ ghost use Rattle.table.specs.Pick.{pick};
 ghost use Rattle.circuit.specs.Plan.{operateBy};
 
 // Of two values; `last` is what beside gives.
-pub(crate) fn of_two(op: u8, x: u32, y: u32, last: u32) -> u32
+pub(crate) fn of_two(op: u16, x: u32, y: u32, last: u32) -> u32
     ensures { λ r. ⌜ r ≡ operateBy op x y last ⌝ }
 {
     match op {

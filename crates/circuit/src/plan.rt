@@ -1,11 +1,12 @@
 // The step that a node has, read off its record and the state; nothing is changed here.
-use crate::store;
 use crate::chain;
+use crate::store;
 use table::Function;
 use table::Node;
 use table::decoded;
 use table::decoded::Cells;
 ghost use mathlib.Core.Path.{_≡_};
+ghost use mathlib.Core.Bool.{Bool};
 ghost use mathlib.Core.List.{List};
 ghost use Prim.Native.Nat.{ℕ, _≤_};
 ghost use lib.Dec.{eqb};
@@ -13,10 +14,10 @@ ghost use Rattle.table.specs.Pick.{pick};
 ghost use Rattle.table.specs.Bytes.{kind, word, next};
 ghost use Rattle.rules.specs.State.{entry};
 ghost use Rattle.table.specs.Naming.{owner};
-ghost use Rattle.table.specs.Working.{IsNode};
+ghost use Rattle.table.specs.Working.{IsNode, Read};
 ghost use Rattle.rules.specs.Circuit.{actOf};
 ghost use Rattle.circuit.specs.Meaning.{stateAs};
-ghost use Rattle.circuit.specs.Plan.{Fair, planned, openBy, busyBy, primBy, selfBy, callBy, condBy, bindBy, passBy};
+ghost use Rattle.circuit.specs.Plan.{planned, passed};
 
 // What a node would do: no step (21), none while the resource is occupied (22 or 23), or a move. The nodes that it opens and the
 // arguments that it hands over are read off the table when it moves.
@@ -31,11 +32,10 @@ pub enum Plan {
     Restarts,
 }
 
-// The step of node n, whose function is `own`.
+// The step of node n.
 pub(crate) fn plan_at(
     table: &[u8],
     cells: &Cells,
-    own: Function,
     status: &[u8; 512],
     second: &[bool; 512],
     value: &[u32; 512],
@@ -43,7 +43,7 @@ pub(crate) fn plan_at(
     occupant: &[u16; 32],
     n: Node,
 ) -> Plan
-    requires { ⌜ Read (now table) (now cells) × IsNode (now table) (n .0) × (own .0 ≡ owner (now table) (n .0)) ⌝ }
+    requires { ⌜ Read (now table) (now cells) × IsNode (now table) (n .0) ⌝ }
     ensures { λ r. ⌜ planned (now (table .entry)) (now (value .entry)) (n .0) r ≡ actOf (now (table .entry))
         (stateAs (now (status .entry)) (now (second .entry)) (now (value .entry)) (now (registers .entry))
         (now (occupant .entry))) (n .0) ⌝ }
@@ -59,16 +59,21 @@ pub(crate) fn plan_at(
 }
 
 // An open node: a constant, a parameter or a bound is done, any other opens children.
-fn opening(table: &[u8], cells: &Cells, own: Function, value: &[u32; 512], registers: &[u32; 256], n: Node) -> Plan
-    requires { ⌜ Read (now table) (now cells) × IsNode (now table) (n .0) × (own .0 ≡ owner (now table) (n .0)) ⌝ }
-    ensures { λ r. ⌜ planned (now (table .entry)) (now (value .entry)) (n .0) r
-        ≡ openBy (now (table .entry)) (now (value .entry)) (now (registers .entry)) (n .0) ⌝ }
+fn opening(table: &[u8], cells: &Cells, value: &[u32; 512], registers: &[u32; 256], n: Node) -> Plan
+    requires { ⌜ Read (now table) (now cells) × IsNode (now table) (n .0) ⌝ }
+    ensures { λ r. ⌜ ((a : List ℕ) (b : List Bool) (e : List ℕ) → entry a 0 (n .0) ≡ 1
+        → planned (now (table .entry)) (now (value .entry)) (n .0) r
+        ≡ actOf (now (table .entry)) (stateAs a b (now (value .entry)) (now (registers .entry)) e) (n .0)) ⌝ }
 {
     let kind = decoded::kind(cells, n);
     match kind {
         1 => Plan::Finishes(decoded::word(cells, n)),
-        2 => Plan::Finishes(store::register_at(registers, own, decoded::extra(cells, n))),
-        7 => Plan::Finishes(store::value_of(value, decoded::word(cells, n))),
+        2 => Plan::Finishes(store::register_at(
+            registers,
+            decoded::owner(cells, n),
+            decoded::extra(cells, n),
+        )),
+        7 => Plan::Finishes(store::value_at(value, decoded::definiens(cells, n))),
         _ => Plan::Begins,
     }
 }
@@ -77,16 +82,16 @@ fn opening(table: &[u8], cells: &Cells, own: Function, value: &[u32; 512], regis
 fn busy(
     table: &[u8],
     cells: &Cells,
-    own: Function,
     status: &[u8; 512],
     second: &[bool; 512],
     value: &[u32; 512],
     occupant: &[u16; 32],
     n: Node,
 ) -> Plan
-    requires { ⌜ Read (now table) (now cells) × IsNode (now table) (n .0) × (own .0 ≡ owner (now table) (n .0)) ⌝ }
-    ensures { λ r. ⌜ planned (now (table .entry)) (now (value .entry)) (n .0) r ≡ busyBy (now (table .entry)) (now (status .entry))
-        (now (second .entry)) (now (value .entry)) (now (occupant .entry)) (n .0) ⌝ }
+    requires { ⌜ Read (now table) (now cells) × IsNode (now table) (n .0) × (entry (now status) 0 (n .0) ≡ 2) ⌝ }
+    ensures { λ r. ⌜ ((d : List ℕ) → planned (now (table .entry)) (now (value .entry)) (n .0) r
+        ≡ actOf (now (table .entry)) (stateAs (now (status .entry)) (now (second .entry)) (now (value .entry)) d
+        (now (occupant .entry))) (n .0)) ⌝ }
 {
     let kind = decoded::kind(cells, n);
     match kind {
@@ -99,13 +104,19 @@ fn busy(
 }
 
 // Done once all children are.
-fn busy_primitive(table: &[u8], cells: &Cells, status: &[u8; 512], value: &[u32; 512], n: Node) -> Plan
-    requires { ⌜ Read (now table) (now cells) × IsNode (now table) (n .0) ⌝ }
-    ensures { λ r. ⌜ planned (now (table .entry)) (now (value .entry)) (n .0) r
-        ≡ primBy (now (table .entry)) (now (status .entry)) (now (value .entry)) (n .0) ⌝ }
+fn busy_primitive(
+    table: &[u8],
+    cells: &Cells,
+    status: &[u8; 512],
+    value: &[u32; 512],
+    n: Node,
+) -> Plan
+    requires { ⌜ Read (now table) (now cells) × IsNode (now table) (n .0) × (entry (now status) 0 (n .0) ≡ 2) × (kind (now table) (n .0) ≡ 3) ⌝ }
+    ensures { λ r. ⌜ ((b : List Bool) (d e : List ℕ) → planned (now (table .entry)) (now (value .entry)) (n .0) r
+        ≡ actOf (now (table .entry)) (stateAs (now (status .entry)) b (now (value .entry)) d e) (n .0)) ⌝ }
 {
     let c = decoded::first(cells, n);
-    if !chain::all_done(table, cells, status, c) {
+    if !chain::all_done(table, cells, status, c, false) {
         return Plan::Stuck;
     }
     Plan::Finishes(chain::operation(table, cells, value, decoded::extra(cells, n), c))
@@ -115,43 +126,33 @@ fn busy_primitive(table: &[u8], cells: &Cells, status: &[u8; 512], value: &[u32;
 fn busy_call(
     table: &[u8],
     cells: &Cells,
-    own: Function,
     status: &[u8; 512],
     second: &[bool; 512],
     value: &[u32; 512],
     occupant: &[u16; 32],
     n: Node,
 ) -> Plan
-    requires { ⌜ Read (now table) (now cells) × IsNode (now table) (n .0) × (own .0 ≡ owner (now table) (n .0)) × (kind (now table) (n .0) ≡ 4) ⌝ }
-    ensures { λ r. ⌜ planned (now (table .entry)) (now (value .entry)) (n .0) r
-        ≡ pick (eqb (word (now (table .entry)) (n .0)) (owner (now (table .entry)) (n .0)))
-        (selfBy (now (table .entry)) (now (status .entry)) (now (value .entry)) (n .0))
-        (callBy (now (table .entry)) (now (status .entry)) (now (second .entry)) (now (value .entry)) (now (occupant .entry)) (n .0)) ⌝ }
+    requires { ⌜ Read (now table) (now cells) × IsNode (now table) (n .0) × (entry (now status) 0 (n .0) ≡ 2) × (kind (now table) (n .0) ≡ 4) ⌝ }
+    ensures { λ r. ⌜ ((d : List ℕ) → planned (now (table .entry)) (now (value .entry)) (n .0) r
+        ≡ actOf (now (table .entry)) (stateAs (now (status .entry)) (now (second .entry)) (now (value .entry)) d
+        (now (occupant .entry))) (n .0)) ⌝ }
 {
-    let callee = decoded::word(cells, n);
-    if callee == (own.0 as u32) {
+    let callee = decoded::callee(cells, n);
+    if callee.0 == decoded::owner(cells, n).0 {
         return again(table, cells, status, n);
     }
-    across(
-        table,
-        cells,
-        status,
-        second,
-        value,
-        occupant,
-        Function(callee as u16),
-        n,
-    )
+    across(table, cells, status, second, value, occupant, callee, n)
 }
 
 // A self call: its function starts again once the arguments are done.
 fn again(table: &[u8], cells: &Cells, status: &[u8; 512], n: Node) -> Plan
-    requires { ⌜ Read (now table) (now cells) × IsNode (now table) (n .0) ⌝ }
-    ensures { λ r. ⌜ ((value : List ℕ) → planned (now (table .entry)) value (n .0) r
-        ≡ selfBy (now (table .entry)) (now (status .entry)) value (n .0)) ⌝ }
+    requires { ⌜ Read (now table) (now cells) × IsNode (now table) (n .0) × (entry (now status) 0 (n .0) ≡ 2) × (kind (now table) (n .0) ≡ 4)
+        × (word (now table) (n .0) ≡ owner (now table) (n .0)) ⌝ }
+    ensures { λ r. ⌜ ((b : List Bool) (value d e : List ℕ) → planned (now (table .entry)) value (n .0) r
+        ≡ actOf (now (table .entry)) (stateAs (now (status .entry)) b value d e) (n .0)) ⌝ }
 {
     let c = decoded::first(cells, n);
-    if chain::all_done(table, cells, status, c) {
+    if chain::all_done(table, cells, status, c, false) {
         Plan::Restarts
     } else {
         Plan::Stuck
@@ -169,9 +170,11 @@ fn across(
     g: Function,
     n: Node,
 ) -> Plan
-    requires { ⌜ Read (now table) (now cells) × IsNode (now table) (n .0) × (kind (now table) (n .0) ≡ 4) × (g .0 ≡ word (now table) (n .0)) ⌝ }
-    ensures { λ r. ⌜ planned (now (table .entry)) (now (value .entry)) (n .0) r ≡ callBy (now (table .entry)) (now (status .entry))
-        (now (second .entry)) (now (value .entry)) (now (occupant .entry)) (n .0) ⌝ }
+    requires { ⌜ Read (now table) (now cells) × IsNode (now table) (n .0) × (entry (now status) 0 (n .0) ≡ 2) × (kind (now table) (n .0) ≡ 4)
+        × (g .0 ≡ word (now table) (n .0)) × (word (now table) (n .0) ≡ owner (now table) (n .0) → ⊥) ⌝ }
+    ensures { λ r. ⌜ ((d : List ℕ) → planned (now (table .entry)) (now (value .entry)) (n .0) r
+        ≡ actOf (now (table .entry)) (stateAs (now (status .entry)) (now (second .entry)) (now (value .entry)) d
+        (now (occupant .entry))) (n .0)) ⌝ }
 {
     if store::second_at(second, n) {
         let r = decoded::root(cells, g);
@@ -181,7 +184,7 @@ fn across(
         return Plan::Leaves(g, store::value_at(value, r));
     }
     let c = decoded::first(cells, n);
-    if !chain::all_done(table, cells, status, c) {
+    if !chain::all_done(table, cells, status, c, false) {
         return Plan::Stuck;
     }
     if store::occupant_at(occupant, g).0 != 0 {
@@ -192,7 +195,7 @@ fn across(
 
 // The branch of an if that the condition's value takes.
 fn branch(table: &[u8], cells: &Cells, value: &[u32; 512], a: Node) -> Node
-    requires { ⌜ a .0 ≤ 512 ⌝ }
+    requires { ⌜ Read (now table) (now cells) × IsNode (now table) (a .0) × IsNode (now table) (next (now table) (a .0)) ⌝ }
     ensures { λ r. ⌜ r .0 ≡ pick (eqb (entry (now (value .entry)) 0 (a .0)) 0)
         (next (now (table .entry)) (next (now (table .entry)) (a .0))) (next (now (table .entry)) (a .0)) ⌝ }
 {
@@ -212,9 +215,9 @@ fn busy_if(
     value: &[u32; 512],
     n: Node,
 ) -> Plan
-    requires { ⌜ Read (now table) (now cells) × IsNode (now table) (n .0) × (kind (now table) (n .0) ≡ 5) ⌝ }
-    ensures { λ r. ⌜ planned (now (table .entry)) (now (value .entry)) (n .0) r ≡ condBy (now (table .entry)) (now (status .entry))
-        (now (second .entry)) (now (value .entry)) (n .0) ⌝ }
+    requires { ⌜ Read (now table) (now cells) × IsNode (now table) (n .0) × (entry (now status) 0 (n .0) ≡ 2) × (kind (now table) (n .0) ≡ 5) ⌝ }
+    ensures { λ r. ⌜ ((d e : List ℕ) → planned (now (table .entry)) (now (value .entry)) (n .0) r
+        ≡ actOf (now (table .entry)) (stateAs (now (status .entry)) (now (second .entry)) (now (value .entry)) d e) (n .0)) ⌝ }
 {
     let a = decoded::first(cells, n);
     let r = branch(table, cells, value, a);
@@ -236,16 +239,16 @@ fn busy_let(
     value: &[u32; 512],
     n: Node,
 ) -> Plan
-    requires { ⌜ Read (now table) (now cells) × IsNode (now table) (n .0) × (kind (now table) (n .0) ≡ 6) ⌝ }
-    ensures { λ r. ⌜ planned (now (table .entry)) (now (value .entry)) (n .0) r ≡ bindBy (now (table .entry)) (now (status .entry))
-        (now (second .entry)) (now (value .entry)) (n .0) ⌝ }
+    requires { ⌜ Read (now table) (now cells) × IsNode (now table) (n .0) × (entry (now status) 0 (n .0) ≡ 2) × (kind (now table) (n .0) ≡ 6) ⌝ }
+    ensures { λ r. ⌜ ((d e : List ℕ) → planned (now (table .entry)) (now (value .entry)) (n .0) r
+        ≡ actOf (now (table .entry)) (stateAs (now (status .entry)) (now (second .entry)) (now (value .entry)) d e) (n .0)) ⌝ }
 {
     let c = decoded::first(cells, n);
     let body = chain::last_of(table, cells, c);
     if store::second_at(second, n) {
         return pass(status, value, body);
     }
-    if chain::defs_done(table, cells, status, c) {
+    if chain::all_done(table, cells, status, c, true) {
         return Plan::Turns(body);
     }
     Plan::Stuck
@@ -255,7 +258,7 @@ fn busy_let(
 fn pass(status: &[u8; 512], value: &[u32; 512], r: Node) -> Plan
     requires { ⌜ r .0 ≤ 512 ⌝ }
     ensures { λ p. ⌜ ((t : List ℕ) (n : ℕ) → planned t (now (value .entry)) n p
-        ≡ passBy (now (status .entry)) (now (value .entry)) (r .0)) ⌝ }
+        ≡ passed (now (status .entry)) (now (value .entry)) (r .0)) ⌝ }
 {
     if store::status_at(status, r) == 3 {
         return Plan::Finishes(store::value_at(value, r));

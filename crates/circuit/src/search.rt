@@ -1,15 +1,15 @@
 // A possible step, looked for from the first node on.
 use crate::plan;
 use crate::plan::Plan;
-use table::Function;
 use table::Node;
 use table::decoded;
 use table::decoded::Cells;
 ghost use mathlib.Core.Path.{_≡_};
 ghost use mathlib.Core.List.{List};
 ghost use Prim.Native.Nat.{ℕ};
+ghost use Rattle.table.specs.Working.{Read};
 ghost use Rattle.circuit.specs.Meaning.{stateAs};
-ghost use Rattle.circuit.specs.Plan.{Fair, Owners, planned, goes, FoundAt};
+ghost use Rattle.circuit.specs.Plan.{planned, goes, FoundAt};
 
 // Whether a plan is a move.
 fn moves(p: Plan) -> bool
@@ -46,11 +46,9 @@ pub(crate) fn find(
     let mut n: u16 = 0;
     while n < end {
         n += 1;
-        let f = own[n as usize];
         let p = plan::plan_at(
             table,
             cells,
-            Function(f),
             status,
             second,
             value,

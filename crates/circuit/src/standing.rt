@@ -8,7 +8,7 @@ ghost use mathlib.Core.Path.{_≡_};
 ghost use mathlib.Core.Bool.{_||_};
 ghost use Rattle.table.specs.Bytes.{functions, nodes};
 ghost use Rattle.rules.specs.Step.{over};
-ghost use Rattle.circuit.specs.Plan.{Fair};
+ghost use Rattle.table.specs.Working.{Read};
 
 // A status over 3.
 fn odd_status(table: &[u8], cells: &Cells, status: &[u8; 512]) -> bool

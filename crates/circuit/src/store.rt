@@ -32,15 +32,7 @@ pub(crate) fn value_at(value: &[u32; 512], n: Node) -> u32
     requires { ⌜ n .0 ≤ 512 ⌝ }
     ensures { λ r. ⌜ r ≡ entry (now (value .entry)) 0 (n .0) ⌝ }
 {
-    value_of(value, n.0 as u32)
-}
-
-// The value of the node whose number a word holds.
-pub(crate) fn value_of(value: &[u32; 512], word: u32) -> u32
-    requires { ⌜ word ≤ 512 ⌝ }
-    ensures { λ r. ⌜ r ≡ entry (now (value .entry)) 0 word ⌝ }
-{
-    let k = word as usize;
+    let k = n.0 as usize;
     if k == 0 {
         return 0;
     }
@@ -60,7 +52,7 @@ pub(crate) fn occupant_at(occupant: &[u16; 32], f: Function) -> Node
 }
 
 // Register i of a function, i from 0.
-pub(crate) fn register_at(registers: &[u32; 256], f: Function, i: u8) -> u32
+pub(crate) fn register_at(registers: &[u32; 256], f: Function, i: u16) -> u32
     requires { ⌜ f .0 ≤ 32 ⌝ }
     ensures { λ r. ⌜ r ≡ register (now (registers .entry)) (f .0) i ⌝ }
 {

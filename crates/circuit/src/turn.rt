@@ -1,8 +1,8 @@
 // A step asked at a number, of a table and tags that were checked and a state that passed 24: 12, 20, then 21 to 23.
-use crate::types::Answer;
-use crate::store;
 use crate::changes;
-use table::Function;
+use crate::changes::Effect;
+use crate::store;
+use crate::types::Answer;
 use table::Node;
 use table::decoded;
 use table::decoded::Cells;
@@ -11,39 +11,23 @@ ghost use lib.Dec.{eqb};
 ghost use Prim.Native.Nat.{_≤_};
 ghost use Rattle.table.specs.Pick.{pick};
 ghost use Rattle.table.specs.Bytes.{functions, root};
+ghost use Rattle.table.specs.Working.{Read};
 ghost use Rattle.list.specs.Tags.{tagged};
 ghost use Rattle.rules.specs.State.{entry};
 ghost use Rattle.rules.specs.Step.{Stepped, answered, taken};
 ghost use Rattle.rules.specs.Circuit.{circuitOf};
 ghost use Rattle.circuit.specs.Meaning.{replyOf, stateAs};
-ghost use Rattle.circuit.specs.Plan.{Fair, Owners, Grouped, Stands};
-
-// Whether node n is tagged.
-fn marked(tags: &[u8], n: Node) -> bool
-    requires { ⌜ 1 ≤ n .0 ⌝ }
-    ensures { λ r. ⌜ r ≡ tagged (now (tags .entry)) (n .0) ⌝ }
-{
-    let i = n.0 as usize;
-    let at = (i - 1) / 8;
-    let k = (i - 1) % 8;
-    if at < tags.len() {
-        let x = tags[at];
-        let y = x >> k;
-        return y & 1 == 1;
-    }
-    false
-}
+ghost use Rattle.circuit.specs.Plan.{Grouped, Stands};
 
 // 22 for a tagged call, 23 for one that isn't.
 fn held(tags: &[u8], n: Node) -> u8
-    requires { ⌜ 1 ≤ n .0 ⌝ }
     ensures { λ r. ⌜ r ≡ pick (tagged (now (tags .entry)) (n .0)) 22 23 ⌝ }
 {
-    if marked(tags, n) { 22 } else { 23 }
+    if list::marks(tags, n) { 22 } else { 23 }
 }
 
 // Main's root.
-pub(crate) fn top(table: &[u8]) -> Node
+pub(crate) fn top(table: &[u8], cells: &Cells) -> Node
     requires { ⌜ Read (now table) (now cells) ⌝ }
     ensures { λ r. ⌜ (r .0 ≡ root (now (table .entry)) (functions (now (table .entry)))) × (r .0 ≤ 512) ⌝ }
 {
@@ -93,15 +77,13 @@ pub(crate) fn turn(
     if last.0 < n.0 {
         return Answer::Refused(12, Node(0));
     }
-    let root = top(table);
+    let root = top(table, cells);
     if store::status_at(status, root) == 3 {
         return Answer::Refused(20, n);
     }
-    let f = own[n.0 as usize];
-    let code = changes::take(
+    let effect = changes::take(
         table,
         cells,
-        Function(f),
         heads,
         links,
         status,
@@ -111,11 +93,9 @@ pub(crate) fn turn(
         occupant,
         n,
     );
-    if code == 0 {
-        return Answer::Refused(21, n);
+    match effect {
+        Effect::Stuck => Answer::Refused(21, n),
+        Effect::Blocked => Answer::Refused(held(tags, n), n),
+        Effect::Moved => told(status, value, root),
     }
-    if code == 1 {
-        return Answer::Refused(held(tags, n), n);
-    }
-    told(status, value, root)
 }

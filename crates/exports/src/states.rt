@@ -1,6 +1,6 @@
 // A circuit's state as five arrays, which a caller in C or Rust can lend, and back.
-use circuit::types::State;
 use circuit::arrays;
+use circuit::types::State;
 ghost use mathlib.Core.Path.{_≡_};
 ghost use Rattle.circuit.specs.Meaning.{listsOf, stateAs};
 

@@ -13,22 +13,6 @@ ghost use Rattle.table.specs.Survey.{verdictOf};
 ghost use Rattle.table.specs.Working.{Read};
 ghost use Rattle.list.specs.Tags.{tagged, tagFits, tagsRefusal};
 
-// Whether a tag list marks node n; past its end it marks nothing.
-pub(crate) fn marks(tags: &[u8], n: Node) -> bool
-    requires { ⌜ 1 ≤ n .0 ⌝ }
-    ensures { λ r. ⌜ r ≡ tagged (now (tags .entry)) (n .0) ⌝ }
-{
-    let i = n.0 as usize;
-    let at = (i - 1) / 8;
-    let k = (i - 1) % 8;
-    if at < tags.len() {
-        let x = tags[at];
-        let y = x >> k;
-        return y & 1 == 1;
-    }
-    false
-}
-
 // Whether no bit past the last node is set.
 fn none_past(tags: &[u8], last: Node) -> bool
     requires { ⌜ (last .0 ≤ 512) × (length (now tags) ≤ 64) ⌝ }
@@ -40,7 +24,7 @@ fn none_past(tags: &[u8], last: Node) -> bool
     while count + i < end {
         i += 1;
         let n = (count + i) as u16;
-        if marks(tags, Node(n)) {
+        if crate::marks(tags, Node(n)) {
             return false;
         }
     }
@@ -56,7 +40,7 @@ fn lowest_unfit(table: &[u8], cells: &Cells, tags: &[u8]) -> Node
     let mut n: u16 = 0;
     while n < last.0 {
         n += 1;
-        if marks(tags, Node(n)) {
+        if crate::marks(tags, Node(n)) {
             if decoded::kind(cells, Node(n)) != 4 {
                 return Node(n);
             }

@@ -9,6 +9,7 @@ pub mod NameLoops
 pub mod KinLoops
 pub mod FaultLaws
 pub mod SurveyLaws
+pub mod Reading
 pub mod Passed
 pub mod Links
 pub mod Family

@@ -1,47 +1,57 @@
-use borrow.Author.Needs.{needs}
+-- `run` meets its contract: what is checked before the first step, then the steps.
 use mathlib.Core.Path.{sym, ap, _∙_}
 use Rattle.table.specs.Survey.{verdictOf}
+use Rattle.table.proofs.SurveyLaws.{cells-read}
 use Rattle.circuit.specs.Meaning.{listsOf}
-use Rattle.circuit.proofs.EntryLaws.{agreed-from, refused-standing, run-turned}
+use Rattle.circuit.proofs.EntryLaws.{admitted-from, run-turned, run-goes}
+use borrow.Author.Needs.{needs}
 use Rattle.circuit.proofs.run.Statement.{statement}
 use Rattle.circuit.proofs.run.Tie as tie
 
-check-tags-requires : tie.Need-check-tags-requires
-check-tags-requires c κs = search needs
+admit-requires : tie.Need-admit-requires
+admit-requires c κs = search needs
 
 enum-known-checked : tie.Need-enum-known-checked
 enum-known-checked c = search needs
 
-stop-requires : tie.Need-stop-requires
-stop-requires c κs = search needs
+run-refused-requires : tie.Need-run-refused-requires
+run-refused-requires c κs = search needs
 
 enum-told : tie.Need-enum-told
 enum-told c = search needs
 
-run-fair-requires : tie.Need-run-fair-requires
-run-fair-requires c κs =
-    let after-check-tags : tie.After-check-tags = search in
-    agreed-from _ _ _ _ (sym (after-check-tags .check-tags .ensures) ∙ ap verdictOf (c .enum-told .given .1))
+run-requires : tie.Need-run-requires
+run-requires c κs =
+    let is : tie.After-enum-told = search in
+    let found : tie.After-admit = search in
+    let f = found .admit .ensures in
+    let a = admitted-from _ _ _ _ _ (sym (f .told) ∙ ap verdictOf (is .enum-told .given .1)) in
+    (cells-read _ _ (a .0 .fair) (f .cells), a .0, a .1)
 
 returns : tie.Need-returns
 returns c =
-    let after-checked : tie.After-checked = search in
-    let after-check-tags : tie.After-check-tags = search in
-    let start : tie.Start = search in
-    c .stop .ensures ∙ run-turned _ _ (listsOf (start .args .s)) (start .args .nodes .now) _ _ (refused-standing _ _ (listsOf
-    (start .args .s)) _ _ (sym (after-check-tags .check-tags .ensures) ∙ ap verdictOf (after-checked .checked .given .1)))
+    let is : tie.After-checked = search in
+    let found : tie.After-admit = search in
+    let s : tie.Start = search in
+    c .run-refused .ensures ∙ run-turned _ _ (listsOf (s .args .s)) (s .args .nodes .now) _ _ (sym (found .admit .ensures .told)
+    ∙ ap verdictOf (is .checked .given .1))
 
 returns-2 : tie.Need-returns-2
-returns-2 c = c .run-fair .ensures
+returns-2 c =
+    let is : tie.After-enum-told = search in
+    let found : tie.After-admit = search in
+    let s : tie.Start = search in
+    c .run .ensures ∙ run-goes _ _ (listsOf (s .args .s)) (s .args .nodes .now) _ _ (sym (found .admit .ensures .told)
+    ∙ ap verdictOf (is .enum-told .given .1))
 
 pub run-spec : {M : Type 1} → statement M
 run-spec =
     tie.close
     (tie.spec
-    check-tags-requires
+    admit-requires
     enum-known-checked
-    stop-requires
+    run-refused-requires
     enum-told
-    run-fair-requires
+    run-requires
     returns
     returns-2)

@@ -7,8 +7,7 @@ use mathlib.Core.List.{map, _++_}
 use lib.ListN.{take, drop, replicate, length-replicate, length-map, length-set, List·getD-map}
 use Rattle.table.proofs.Copied.{copied-more, copied-all}
 use Rattle.circuit.specs.Meaning.{numbers}
-use Rattle.circuit.specs.Plan.{asNode}
-use Rattle.circuit.proofs.EntryLaws.{numbered}
+use Rattle.circuit.proofs.EntryLaws.{asNode, numbered}
 use Rattle.circuit.proofs.arrays.named.Statement.{statement}
 use Rattle.circuit.proofs.arrays.named.Tie as tie
 

@@ -1,58 +1,63 @@
+-- `begin::opened` meets its contract.
 use native.Mathlib.Omega.{arith}
-use borrow.Author.Needs.{needs}
-use mathlib.Core.Path.{ap, _∙_}
+use mathlib.Core.Path.{_≡_, sym, ap, subst, _∙_}
 use Rattle.table.specs.Bytes.{functions, root}
+use Rattle.table.specs.Working.{IsFunction}
+use Rattle.table.proofs.Reading.{told-main, told-root}
 use Rattle.rules.specs.State.{fill, blank}
 use Rattle.rules.specs.Circuit.{started}
 use Rattle.circuit.proofs.ChainLaws.{ok}
 use Rattle.circuit.proofs.BeginLaws.{start-is}
+use borrow.Author.Needs.{needs}
 use Rattle.circuit.proofs.begin.opened.Statement.{statement}
 use Rattle.circuit.proofs.begin.opened.Tie as tie
 
-functions-requires : tie.Need-functions-requires
-functions-requires c κs = search needs
+abbrev begin : tie.After-main → tie.Start
+begin c = search
+
+main-is : (c : tie.After-main) → c .main .result .0 ≡ functions (begin c .args .table .now)
+main-is c = told-main _ _ (begin c .pre) _ (c .main .ensures)
+
+main-in : (c : tie.After-main) → IsFunction (begin c .args .table .now) (functions (begin c .args .table .now))
+main-in c = (ok _ (begin c .pre .taken) .F-low, omega arith)
+
+abbrev main-read : tie.After-root → tie.After-main
+main-read c = search
+
+top : (c : tie.After-root) → let t = begin (main-read c) .args .table .now in c .root .result .0 ≡ root t (functions t)
+top c =
+    let m = main-read c in
+    told-root _ _ (begin m .pre) _ (subst (IsFunction _) (sym (main-is m)) (main-in m)) _ (c .root .ensures) ∙ ap (root _) (main-is m)
+
+main-requires : tie.Need-main-requires
+main-requires c κs = search needs
 
 root-requires : tie.Need-root-requires
 root-requires c κs = search needs
 
 set-status-requires : tie.Need-set-status-requires
 set-status-requires c κs =
-    let after-root : tie.After-root = search in
-    let after-functions : tie.After-functions = search in
-    let start : tie.Start = search in
-    omega (
-      arith,
-      after-root .root .ensures ∙ ap (root _) (after-functions .functions .ensures),
-      ok _ (start .pre) .linking .roots
-          (functions _) (ok _ (start .pre) .F-low, omega arith) .1,
-      ok _ (start .pre) .N-high,
-    )
+    let r : tie.After-root = search in
+    let s = begin (main-read r) in
+    let p = ok _ (s .pre .taken) in
+    omega (arith, top r, p .linking .roots _ (main-in (main-read r)) .1, p .N-high)
 
 registers-requires : tie.Need-registers-requires
 registers-requires c κs =
-    let after-functions : tie.After-functions = search in
-    let start : tie.Start = search in (
-      omega (arith, after-functions .functions .ensures, ok _ (start .pre) .F-low),
-      omega (
-        arith,
-        after-functions .functions .ensures,
-        ok _
-            (start .pre) .F-high,
-      ),
-    )
+    let m : tie.After-main = search in
+    let p = ok _ (begin m .pre .taken) in
+    (omega (arith, main-is m, p .F-low), omega (arith, main-is m, p .F-high))
 
 returns : tie.Need-returns
 returns c =
-    let after-set-status : tie.After-set-status = search in
-    let after-root : tie.After-root = search in
-    let after-functions : tie.After-functions = search in
-    let start : tie.Start = search in
-    let e = start-is _ _ (start .pre) _ _ _ (after-root .root .ensures ∙ ap (root _) (after-functions .functions .ensures))
-    (after-set-status .set-status .ensures) (c .registers .ensures ∙ ap (λ f. fill f (start .args .args .now) (blank 256 0))
-    (after-functions .functions .ensures)) in
+    let status : tie.After-set-status = search in
+    let r : tie.After-root = search in
+    let m = main-read r in
+    let s = begin m in
+    let e = start-is _ _ (s .pre .taken) _ _ _ (top r) (status .set-status .ensures)
+    (c .registers .ensures ∙ ap (λ f. fill f (s .args .args .now) (blank 256 0)) (main-is m)) in
     λ old. record { answer = ap started e; state = e }
 
 pub opened-spec : {M : Type 1} → statement M
 opened-spec =
-    tie.close
-    (tie.spec functions-requires root-requires set-status-requires registers-requires returns)
+    tie.close (tie.spec main-requires root-requires set-status-requires registers-requires returns)

@@ -3,7 +3,7 @@ mod Loop
 mod Turns
 use native.Mathlib.Omega.{arith}
 use borrow.Author.Needs.{needs}
-use mathlib.Core.Path.{refl}
+use mathlib.Core.Path.{refl, sym, _∙_}
 use Rattle.circuit.specs.Meaning.{listsOf, endedOf, stateAs}
 use Rattle.circuit.proofs.EntryLaws.{named-state}
 use Rattle.circuit.proofs.DriveLaws.{says-from, picks-from}
@@ -13,28 +13,19 @@ use Rattle.circuit.proofs.budget.drive.Proof.Loop.{Inv-loop, μ-loop, l
 use Rattle.circuit.proofs.budget.drive.Proof.Loop.{start, top, plain, head, turn, first, state, going}
 use Rattle.circuit.proofs.budget.drive.Proof.Turns.{loop-less, loop-again, loop-less-2, loop-again-2}
 
--- the owners and the groups, read before the loop
+-- the groups, read before the loop
 abbrev grouped : Top → tie.After-group Inv-loop μ-loop
 grouped c = search
 
-abbrev owned : Top → tie.After-owners Inv-loop μ-loop
-owned c = search
-
-owners-requires : tie.Need-owners-requires Inv-loop μ-loop
-owners-requires c κs =
-    let s : Start = search in
-    s .pre .0 .fair
-
 group-requires : tie.Need-group-requires Inv-loop μ-loop
 group-requires c κs =
-    let own : tie.After-owners Inv-loop μ-loop = search in
     let s : Start = search in
-    (s .pre .0 .fair, own .owners .ensures)
+    s .pre .0
 
 top-requires : tie.Need-top-requires Inv-loop μ-loop
 top-requires c κs =
     let s : Start = search in
-    s .pre .0 .fair
+    s .pre .0
 
 plain-requires : tie.Need-plain-requires Inv-loop μ-loop
 plain-requires c κs = search needs
@@ -48,13 +39,16 @@ candidate-requires : tie.Need-candidate-requires Inv-loop μ-loop
 candidate-requires c κs =
     let h : Head = search in
     let t = top (plain h) in
-    (start t .pre .0 .fair, owned t .owners .ensures, h .loop .inv .0)
+    (start t .pre .0, h .loop .inv .0)
 
 attempt-requires : tie.Need-attempt-requires Inv-loop μ-loop
 attempt-requires c κs =
     let p : Pick = search in
     let t = top (plain (head (turn p))) in
-    (start t .pre .0 .fair, owned t .owners .ensures, grouped t .group .ensures)
+    (start t .pre .0, grouped t .group .ensures)
+
+moved-requires : tie.Need-moved-requires Inv-loop μ-loop
+moved-requires c κs = search needs
 
 add-taken : tie.Need-add-taken Inv-loop μ-loop
 add-taken c =
@@ -65,11 +59,12 @@ add-taken c =
 follow-requires : tie.Need-follow-requires Inv-loop μ-loop
 follow-requires c κs =
     let done : tie.Then2 Inv-loop μ-loop = search in
+    let asked : tie.After-moved Inv-loop μ-loop = search in
     let tried : tie.After-attempt Inv-loop μ-loop = search in
     let p : Pick = search in
     let h = head (turn p) in
     let t = top (plain h) in
-    (start t .pre .0 .fair, owned t .owners .ensures, tried .attempt .ensures .taken (done .if2 .taken) .0, h .loop .inv .0)
+    (start t .pre .0, tried .attempt .ensures .taken (sym (asked .moved .ensures) ∙ done .if2 .taken) .0, h .loop .inv .0)
 
 less-requires : tie.Need-less-requires Inv-loop μ-loop
 less-requires c κs = search needs
@@ -78,7 +73,7 @@ end-of-requires : tie.Need-end-of-requires Inv-loop μ-loop
 end-of-requires c κs =
     let h : Head = search in
     let t = top (plain h) in
-    (start t .pre .0, owned t .owners .ensures, t .top .ensures .0, t .top .ensures .1, h .loop .inv .2 .stands)
+    (start t .pre .0, start t .pre .1, t .top .ensures .0, t .top .ensures .1, h .loop .inv .2 .stands)
 
 named-requires : tie.Need-named-requires Inv-loop μ-loop
 named-requires c κs = search needs
@@ -92,7 +87,7 @@ returns c =
     let s = first h in
     let a = s .args .s in
     let l = h .loop in
-    let says = says-from _ _ (s .pre .0) (state h) (l .inv .2 .stands) _ _ (top (plain h) .top .ensures .0) refl _ _ _ _
+    let says = says-from _ _ (s .pre .1) (state h) (l .inv .2 .stands) _ _ (top (plain h) .top .ensures .0) refl _ _ _ _
     (asked .going .ensures) (over .if1 .left) (l .inv .3) (l .inv .1) (endedOf (ended .end-of .result)) (ended .end-of .ensures) in
     picks-from _ _ _ (listsOf a) (state h) _ _ _ _ (λ i. stateAs (a .status) (a .second) (a .value) (a .registers)
     (plain h .plain .ensures i)) (l .inv .2) (l .inv .1) says (named-state _ _ _ _ (c .named .result) _ (c .named .ensures))
@@ -103,7 +98,6 @@ drive-spec =
     (tie.spec
     Inv-loop
     μ-loop
-    owners-requires
     group-requires
     top-requires
     plain-requires
@@ -111,6 +105,7 @@ drive-spec =
     going-requires
     candidate-requires
     attempt-requires
+    moved-requires
     add-taken
     follow-requires
     loop-less

@@ -1,3 +1,4 @@
+-- `candidates::candidate` meets its contract.
 use native.Mathlib.Omega.{arith}
 use borrow.Author.Needs.{needs}
 use Rattle.circuit.proofs.candidates.candidate.Statement.{statement}
@@ -14,18 +15,17 @@ element-copy-out-n c = search needs
 
 returns : tie.Need-returns
 returns c =
-    let then1 : tie.Then1 = search in
-    λ z. absurd (omega (arith, then1 .if1 .taken))
+    let some : tie.Then1 = search in
+    λ z. absurd (omega (arith, some .if1 .taken))
 
 find-requires : tie.Need-find-requires
 find-requires c κs =
-    let start : tie.Start = search in
-    (start .pre .0, start .pre .1)
+    let s : tie.Start = search in
+    s .pre .0
 
 returns-2 : tie.Need-returns-2
 returns-2 c = search needs
 
 pub candidate-spec : {M : Type 1} → statement M
 candidate-spec =
-    tie.close
-    (tie.spec sub-n mul-n element-copy-out-n returns find-requires returns-2)
+    tie.close (tie.spec sub-n mul-n element-copy-out-n returns find-requires returns-2)

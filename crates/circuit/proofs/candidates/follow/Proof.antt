@@ -1,6 +1,8 @@
+-- `candidates::follow` meets its contract: the height stays within the stack.
 use native.Mathlib.Omega.{arith}
-use borrow.Author.Needs.{needs}
+use Rattle.table.proofs.Reading.{told}
 use Rattle.circuit.proofs.ChainLaws.{ok, first-in}
+use borrow.Author.Needs.{needs}
 use Rattle.circuit.proofs.candidates.follow.Statement.{statement}
 use Rattle.circuit.proofs.candidates.follow.Tie as tie
 
@@ -9,14 +11,14 @@ less-requires c κs = search needs
 
 status-at-requires : tie.Need-status-at-requires
 status-at-requires c κs =
-    let start : tie.Start = search in
-    omega (arith, start .pre .2 .1, ok _ (start .pre .0) .N-high)
+    let s : tie.Start = search in
+    omega (arith, s .pre .1 .1, ok _ (s .pre .0 .taken) .N-high)
 
 returns : tie.Need-returns
 returns c =
-    let after-less : tie.After-less = search in
-    let start : tie.Start = search in
-    omega (arith, after-less .less .ensures, start .pre .3)
+    let less : tie.After-less = search in
+    let s : tie.Start = search in
+    omega (arith, less .less .ensures, s .pre .2)
 
 push-requires : tie.Need-push-requires
 push-requires c κs = search needs
@@ -26,36 +28,31 @@ first-requires c κs = search needs
 
 push-chain-requires : tie.Need-push-chain-requires
 push-chain-requires c κs =
-    let after-first : tie.After-first = search in
-    let after-push : tie.After-push = search in
-    let start : tie.Start = search in
-    (start .pre .0, first-in _ (start .pre .0) _ (start .pre .2) _ (after-first .first .ensures), after-push .push .ensures)
+    let f : tie.After-first = search in
+    let pushed : tie.After-push = search in
+    let s : tie.Start = search in (
+      s .pre .0,
+      first-in _ (s .pre .0 .taken) _ (s .pre .1) _ (told _ _ (s .pre .0) _ (s .pre .1) 4 _ (omega arith) (f .first .ensures)),
+      pushed .push .ensures,
+    )
 
 push-callee-requires : tie.Need-push-callee-requires
 push-callee-requires c κs =
-    let after-push-chain : tie.After-push-chain = search in
-    let start : tie.Start = search in
-    (start .pre .0, start .pre .2, after-push-chain .push-chain .ensures)
+    let pushed : tie.After-push-chain = search in
+    let s : tie.Start = search in
+    (s .pre .0, s .pre .1, pushed .push-chain .ensures)
 
 returns-2 : tie.Need-returns-2
 returns-2 c = search needs
 
-cast-f : tie.Need-cast-f
-cast-f c = search needs
-
-mul-f : tie.Need-mul-f
-mul-f c = search needs
-
-element-copy-out-f : tie.Need-element-copy-out-f
-element-copy-out-f c =
-    let start : tie.Start = search in
-    omega (arith, start .pre .2 .1, ok _ (start .pre .0) .N-high)
+owner-requires : tie.Need-owner-requires
+owner-requires c κs = search needs
 
 drop-own-requires : tie.Need-drop-own-requires
 drop-own-requires c κs =
-    let after-less : tie.After-less = search in
-    let start : tie.Start = search in
-    omega (arith, after-less .less .ensures, start .pre .3)
+    let less : tie.After-less = search in
+    let s : tie.Start = search in
+    omega (arith, less .less .ensures, s .pre .2)
 
 root-requires : tie.Need-root-requires
 root-requires c κs = search needs
@@ -78,9 +75,7 @@ follow-spec =
     push-chain-requires
     push-callee-requires
     returns-2
-    cast-f
-    mul-f
-    element-copy-out-f
+    owner-requires
     drop-own-requires
     root-requires
     push-requires-2

@@ -1,11 +1,26 @@
+-- `changes::begin` meets its contract, by kind.
 use native.Mathlib.Omega.{arith}
-use mathlib.Core.Path.{sym, _∙_}
+use mathlib.Core.Path.{_≡_}
+use Rattle.table.specs.Bytes.{kind, first}
+use Rattle.table.proofs.Reading.{told}
 use Rattle.circuit.proofs.ChainLaws.{ok, first-in}
-use Rattle.circuit.proofs.ActBy.{let-in}
 use Rattle.circuit.proofs.TakeLaws.{begin-if, begin-let, begin-all}
 use borrow.Author.Needs.{needs}
 use Rattle.circuit.proofs.changes.begin.Statement.{statement}
 use Rattle.circuit.proofs.changes.begin.Tie as tie
+
+abbrev start : tie.After-first → tie.Start
+start c = search
+
+abbrev kind-read : tie.After-first → tie.After-kind
+kind-read c = search
+
+-- what was read is the node's kind and first child
+kinds : (c : tie.After-first) → kind-read c .kind .result ≡ kind (start c .args .table .now) (start c .args .n .0)
+kinds c = told _ _ (start c .pre .0) _ (start c .pre .1) 0 _ (omega arith) (kind-read c .kind .ensures)
+
+firsts : (c : tie.After-first) → c .first .result .0 ≡ first (start c .args .table .now) (start c .args .n .0)
+firsts c = told _ _ (start c .pre .0) _ (start c .pre .1) 4 _ (omega arith) (c .first .ensures)
 
 kind-requires : tie.Need-kind-requires
 kind-requires c κs = search needs
@@ -15,57 +30,48 @@ first-requires c κs = search needs
 
 set-status-requires : tie.Need-set-status-requires
 set-status-requires c κs =
-    let start : tie.Start = search in
-    omega (arith, start .pre .1 .1, ok _ (start .pre .0) .N-high)
+    let s : tie.Start = search in
+    omega (arith, s .pre .1 .1, ok _ (s .pre .0 .taken) .N-high)
 
 set-status-requires-2 : tie.Need-set-status-requires-2
 set-status-requires-2 c κs =
-    let after-first : tie.After-first = search in
-    let start : tie.Start = search in
-    omega (arith, first-in _ (start .pre .0) _ (start .pre .1) _ (after-first .first .ensures), ok _ (start .pre .0) .N-high)
+    let f : tie.After-first = search in
+    let s = start f in
+    omega (arith, first-in _ (s .pre .0 .taken) _ (s .pre .1) _ (firsts f), ok _ (s .pre .0 .taken) .N-high)
 
 returns : tie.Need-returns
 returns c =
-    let then1 : tie.Then1 = search in
-    let after-set-status : tie.After-set-status = search in
-    let after-first : tie.After-first = search in
-    let after-kind : tie.After-kind = search in
-    begin-if _ _ _ (after-kind .kind .ensures) _ (after-first .first .ensures) _ _ (after-set-status .set-status .ensures)
-    (then1 .if1 .taken) _ (c .set-status2 .ensures)
-
-open-defs-requires : tie.Need-open-defs-requires
-open-defs-requires c κs =
-    let then2 : tie.Then2 = search in
-    let after-first : tie.After-first = search in
-    let after-kind : tie.After-kind = search in
-    let start : tie.Start = search in
-    let i = let-in _ (start .pre .0) _ (start .pre .1) (sym (after-kind .kind .ensures) ∙ then2 .if2 .taken) in
-    (start .pre .0, omega (arith, after-first .first .ensures, i .0), omega (arith, after-first .first .ensures, i .1))
-
-returns-2 : tie.Need-returns-2
-returns-2 c =
-    let then2 : tie.Then2 = search in
-    let after-set-status : tie.After-set-status = search in
-    let after-first : tie.After-first = search in
-    let after-kind : tie.After-kind = search in
-    begin-let _ _ _ (after-kind .kind .ensures) _ (after-first .first .ensures) _ _ (after-set-status .set-status .ensures)
-    (then2 .if2 .taken) _ (c .open-defs .ensures)
+    let an-if : tie.Then1 = search in
+    let busy : tie.After-set-status = search in
+    let f : tie.After-first = search in
+    begin-if _ _ _ (kinds f) _ (firsts f) _ _ (busy .set-status .ensures) (an-if .if1 .taken) _ (c .set-status2 .ensures)
 
 open-all-requires : tie.Need-open-all-requires
 open-all-requires c κs =
-    let after-first : tie.After-first = search in
-    let start : tie.Start = search in
-    (start .pre .0, first-in _ (start .pre .0) _ (start .pre .1) _ (after-first .first .ensures))
+    let f : tie.After-first = search in
+    let s = start f in
+    (s .pre .0, first-in _ (s .pre .0 .taken) _ (s .pre .1) _ (firsts f))
+
+returns-2 : tie.Need-returns-2
+returns-2 c =
+    let a-let : tie.Then2 = search in
+    let busy : tie.After-set-status = search in
+    let f : tie.After-first = search in
+    begin-let _ _ _ (kinds f) _ (firsts f) _ _ (busy .set-status .ensures) (a-let .if2 .taken) _ (c .open-all .ensures)
+
+open-all-requires-2 : tie.Need-open-all-requires-2
+open-all-requires-2 c κs =
+    let f : tie.After-first = search in
+    let s = start f in
+    (s .pre .0, first-in _ (s .pre .0 .taken) _ (s .pre .1) _ (firsts f))
 
 returns-3 : tie.Need-returns-3
 returns-3 c =
-    let else2 : tie.Else2 = search in
-    let else1 : tie.Else1 = search in
-    let after-set-status : tie.After-set-status = search in
-    let after-first : tie.After-first = search in
-    let after-kind : tie.After-kind = search in
-    begin-all _ _ _ (after-kind .kind .ensures) _ (after-first .first .ensures) _ _ (after-set-status .set-status .ensures)
-    (else1 .if1 .left) (else2 .if2 .left) _ (c .open-all .ensures)
+    let no-let : tie.Else2 = search in
+    let no-if : tie.Else1 = search in
+    let busy : tie.After-set-status = search in
+    let f : tie.After-first = search in
+    begin-all _ _ _ (kinds f) _ (firsts f) _ _ (busy .set-status .ensures) (no-if .if1 .left) (no-let .if2 .left) _ (c .open-all2 .ensures)
 
 pub begin-spec : {M : Type 1} → statement M
 begin-spec =
@@ -76,7 +82,7 @@ begin-spec =
     set-status-requires
     set-status-requires-2
     returns
-    open-defs-requires
-    returns-2
     open-all-requires
+    returns-2
+    open-all-requires-2
     returns-3)

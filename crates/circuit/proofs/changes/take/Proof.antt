@@ -7,18 +7,18 @@ use Rattle.circuit.proofs.TakeLaws.{turn-in, leave-in}
 use borrow.Author.Needs.{needs}
 use Rattle.circuit.proofs.changes.take.Statement.{statement}
 use Rattle.circuit.proofs.changes.take.Tie as tie
-use Rattle.circuit.proofs.changes.take.Proof.Returns.{start, own-there, act, entered-in}
+use Rattle.circuit.proofs.changes.take.Proof.Returns.{start, start-first2, firsts, firsts2, own-there, act, entered-in}
 use Rattle.circuit.proofs.changes.take.Proof.Returns.{returns, returns-2, returns-3, returns-4, returns-5, returns-6, returns-7}
 use Rattle.circuit.proofs.changes.take.Proof.Returns.{returns-8}
 
 -- n is at most 512
 n-high : (s : tie.Start) → s .args .n .0 ≤ 512
-n-high s = omega (arith, s .pre .1 .1, ok _ (s .pre .0) .N-high)
+n-high s = omega (arith, s .pre .1 .1, ok _ (s .pre .0 .taken) .N-high)
 
 plan-at-requires : tie.Need-plan-at-requires
 plan-at-requires c κs =
     let s : tie.Start = search in
-    (s .pre .0, s .pre .1, s .pre .2)
+    (s .pre .0, s .pre .1)
 
 enum-told : tie.Need-enum-told
 enum-told c = search needs
@@ -42,7 +42,7 @@ set-status-requires c κs =
     let turns : tie.After-p = search in
     let p : tie.After-plan-at = search in
     let s = start p in
-    turn-in _ (s .pre .0) _ (s .pre .1) _ _ _ _ _ _ (act p (turns .p .given .1))
+    turn-in _ (s .pre .0 .taken) _ (s .pre .1) _ _ _ _ _ _ (act p (turns .p .given .1))
 
 set-second-requires : tie.Need-set-second-requires
 set-second-requires c κs = n-high (search)
@@ -63,7 +63,7 @@ reset-requires : tie.Need-reset-requires
 reset-requires c κs =
     let first : tie.After-first = search in
     let s : tie.Start = search in
-    (s .pre .0, s .pre .3, entered-in (search), first-in _ (s .pre .0) _ (s .pre .1) _ (first .first .ensures))
+    (s .pre .0, s .pre .2, entered-in (search), first-in _ (s .pre .0 .taken) _ (s .pre .1) _ (firsts first))
 
 set-second-requires-2 : tie.Need-set-second-requires-2
 set-second-requires-2 c κs = n-high (search)
@@ -72,7 +72,7 @@ set-occupant-requires : tie.Need-set-occupant-requires
 set-occupant-requires c κs =
     let enters : tie.After-p3 = search in
     let p : tie.After-plan-at = search in
-    omega (arith, entered-in enters .1, ok _ (start p .pre .0) .F-high)
+    omega (arith, entered-in enters .1, ok _ (start p .pre .0 .taken) .F-high)
 
 enum-known-p-4 : tie.Need-enum-known-p-4
 enum-known-p-4 c = search needs
@@ -85,10 +85,13 @@ set-occupant-requires-2 c κs =
     let leaves : tie.After-p4 = search in
     let p : tie.After-plan-at = search in
     let s = start p in
-    omega (arith, leave-in _ (s .pre .0) _ (s .pre .1) _ _ _ _ _ _ _ (act p (leaves .p4 .given .1)) .1, ok _ (s .pre .0) .F-high)
+    omega (arith, leave-in _ (s .pre .0 .taken) _ (s .pre .1) _ _ _ _ _ _ _ (act p (leaves .p4 .given .1)) .1, ok _ (s .pre .0 .taken) .F-high)
 
 enum-told-4 : tie.Need-enum-told-4
 enum-told-4 c = search needs
+
+owner-requires : tie.Need-owner-requires
+owner-requires c κs = search needs
 
 first-requires-2 : tie.Need-first-requires-2
 first-requires-2 c κs = search needs
@@ -96,8 +99,9 @@ first-requires-2 c κs = search needs
 reset-requires-2 : tie.Need-reset-requires-2
 reset-requires-2 c κs =
     let first : tie.After-first2 = search in
-    let s : tie.Start = search in
-    (s .pre .0, s .pre .3, own-there s, first-in _ (s .pre .0) _ (s .pre .1) _ (first .first2 .ensures))
+    let own : tie.After-owner = search in
+    let s = start-first2 first in
+    (s .pre .0, s .pre .2, own-there own, first-in _ (s .pre .0 .taken) _ (s .pre .1) _ (firsts2 first))
 
 pub take-spec : {M : Type 1} → statement M
 take-spec =
@@ -122,6 +126,7 @@ take-spec =
     finish-requires-2
     set-occupant-requires-2
     enum-told-4
+    owner-requires
     first-requires-2
     reset-requires-2
     returns

@@ -1,5 +1,8 @@
+-- `entries::step` meets its contract: 12, 24, then the rest.
 use native.Mathlib.Omega.{arith}
-use mathlib.Core.Path.{_∙_}
+use mathlib.Core.Path.{_≡_, _∙_}
+use Rattle.table.specs.Bytes.{nodes}
+use Rattle.table.proofs.Reading.{told-last}
 use Rattle.circuit.specs.Meaning.{listsOf}
 use Rattle.circuit.proofs.EntryLaws.{stands-from, step-stray}
 use Rattle.circuit.proofs.TurnLaws.{turn-zero, turn-past}
@@ -7,54 +10,60 @@ use borrow.Author.Needs.{needs}
 use Rattle.circuit.proofs.entries.step.Statement.{statement}
 use Rattle.circuit.proofs.entries.step.Tie as tie
 
+abbrev start : tie.After-last → tie.Start
+start c = search
+
+last : (c : tie.After-last) → c .last .result .0 ≡ nodes (start c .args .table .now)
+last c = told-last _ _ (start c .pre) _ (c .last .ensures)
+
 refused-requires : tie.Need-refused-requires
 refused-requires c κs = search needs
 
 returns : tie.Need-returns
 returns c =
-    let then1 : tie.Then1 = search in
-    let start : tie.Start = search in
-    c .refused .ensures ∙ turn-zero _ _ (start .pre) (listsOf (start .args .s)) _ (then1 .if1 .taken)
+    let zero : tie.Then1 = search in
+    let s : tie.Start = search in
+    c .refused .ensures ∙ turn-zero _ _ (s .pre .taken) (listsOf (s .args .s)) _ (zero .if1 .taken)
 
-nodes-requires : tie.Need-nodes-requires
-nodes-requires c κs = search needs
+last-requires : tie.Need-last-requires
+last-requires c κs = search needs
 
 refused-requires-2 : tie.Need-refused-requires-2
 refused-requires-2 c κs = search needs
 
 returns-2 : tie.Need-returns-2
 returns-2 c =
-    let then2 : tie.Then2 = search in
-    let after-nodes : tie.After-nodes = search in
-    let else1 : tie.Else1 = search in
-    let start : tie.Start = search in
-    c .refused2 .ensures ∙ turn-past _ _ (start .pre) (listsOf (start .args .s)) _ (else1 .if1 .left) (omega
-    (arith, then2 .if2 .taken, after-nodes .nodes .ensures))
+    let past : tie.Then2 = search in
+    let l : tie.After-last = search in
+    let some : tie.Else1 = search in
+    let s : tie.Start = search in
+    c .refused2 .ensures ∙ turn-past _ _ (s .pre .taken) (listsOf (s .args .s)) _ (some .if1 .left) (omega (arith, past .if2 .taken, last l))
 
 strays-requires : tie.Need-strays-requires
 strays-requires c κs =
-    let start : tie.Start = search in
-    start .pre
+    let s : tie.Start = search in
+    s .pre
 
 refused-requires-3 : tie.Need-refused-requires-3
 refused-requires-3 c κs = search needs
 
 returns-3 : tie.Need-returns-3
 returns-3 c =
-    let then3 : tie.Then3 = search in
-    let after-strays : tie.After-strays = search in
-    let else2 : tie.Else2 = search in
-    let after-nodes : tie.After-nodes = search in
-    let else1 : tie.Else1 = search in
-    let start : tie.Start = search in
-    c .refused3 .ensures ∙ step-stray _ _ (start .pre) (listsOf (start .args .s)) _ (else1 .if1 .left) (omega
-    (arith, else2 .if2 .left, after-nodes .nodes .ensures)) _ (after-strays .strays .ensures) (then3 .if3 .taken)
+    let astray : tie.Then3 = search in
+    let told : tie.After-strays = search in
+    let inside : tie.Else2 = search in
+    let l : tie.After-last = search in
+    let some : tie.Else1 = search in
+    let s : tie.Start = search in
+    c .refused3 .ensures ∙ step-stray _ _ (s .pre .taken) (listsOf (s .args .s)) _ (some .if1 .left) (omega (arith, inside .if2 .left, last l)) _
+    (told .strays .ensures) (astray .if3 .taken)
 
 step-standing-requires : tie.Need-step-standing-requires
 step-standing-requires c κs =
-    let after-strays : tie.After-strays = search in
-    let start : tie.Start = search in
-    (start .pre, stands-from _ (listsOf (start .args .s)) _ (after-strays .strays .ensures) (c .if3 .left))
+    let told : tie.After-strays = search in
+    let right : tie.Else3 = search in
+    let s : tie.Start = search in
+    (s .pre, stands-from _ (listsOf (s .args .s)) _ (told .strays .ensures) (right .if3 .left))
 
 returns-4 : tie.Need-returns-4
 returns-4 c = c .step-standing .ensures
@@ -65,7 +74,7 @@ step-spec =
     (tie.spec
     refused-requires
     returns
-    nodes-requires
+    last-requires
     refused-requires-2
     returns-2
     strays-requires

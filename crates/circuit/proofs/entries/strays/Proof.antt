@@ -1,3 +1,4 @@
+-- `entries::strays` meets its contract.
 use mathlib.Core.Path.{ap, _∙_}
 use mathlib.Core.Bool.{_||_}
 use Rattle.table.specs.Bytes.{functions, nodes}

@@ -1,28 +1,43 @@
-use Rattle.circuit.proofs.PlanLaws.{self-yes, self-no}
+-- `plan::again` meets its contract: a self call waits for its arguments.
+use native.Mathlib.Omega.{arith}
+use mathlib.Core.Path.{_≡_}
+use Rattle.table.specs.Bytes.{first}
+use Rattle.table.proofs.Reading.{told}
 use Rattle.circuit.proofs.ChainLaws.{first-in}
+use Rattle.circuit.proofs.PlanLaws.{acts-self, self-yes, self-no}
 use borrow.Author.Needs.{needs}
 use Rattle.circuit.proofs.plan.again.Statement.{statement}
 use Rattle.circuit.proofs.plan.again.Tie as tie
+
+abbrev start : tie.After-first → tie.Start
+start c = search
+
+-- what was read is the node's first child
+read : (c : tie.After-first) → c .first .result .0 ≡ first (start c .args .table .now) (start c .args .n .0)
+read c = told _ _ (start c .pre .0) _ (start c .pre .1) 4 _ (omega arith) (c .first .ensures)
 
 first-requires : tie.Need-first-requires
 first-requires c κs = search needs
 
 all-done-requires : tie.Need-all-done-requires
 all-done-requires c κs =
-    let start : tie.Start = search in
-    (start .pre .0, first-in _ (start .pre .0) _ (start .pre .1) _ (c .first .ensures))
+    let f : tie.After-first = search in
+    let s = start f in
+    (s .pre .0, first-in _ (s .pre .0 .taken) _ (s .pre .1) _ (read f))
 
 returns : tie.Need-returns
 returns c =
-    let after-all-done : tie.After-all-done = search in
-    let after-first : tie.After-first = search in
-    λ value. self-yes _ _ _ _ (after-first .first .ensures) _ (after-all-done .all-done .ensures) value (c .if1 .taken)
+    let a : tie.After-all-done = search in
+    let f : tie.After-first = search in
+    let p = start f .pre in
+    λ b v d e. acts-self _ (p .0 .taken) _ (p .1) _ b v d e _ (p .2) (p .3) (p .4) (self-yes _ _ _ _ (read f) _ (a .all-done .ensures) v (c .if1 .taken))
 
 returns-2 : tie.Need-returns-2
 returns-2 c =
-    let after-all-done : tie.After-all-done = search in
-    let after-first : tie.After-first = search in
-    λ value. self-no _ _ _ _ (after-first .first .ensures) _ (after-all-done .all-done .ensures) value (c .if1 .left)
+    let a : tie.After-all-done = search in
+    let f : tie.After-first = search in
+    let p = start f .pre in
+    λ b v d e. acts-self _ (p .0 .taken) _ (p .1) _ b v d e _ (p .2) (p .3) (p .4) (self-no _ _ _ _ (read f) _ (a .all-done .ensures) v (c .if1 .left))
 
 pub again-spec : {M : Type 1} → statement M
 again-spec = tie.close (tie.spec first-requires all-done-requires returns returns-2)

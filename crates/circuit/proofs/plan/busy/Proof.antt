@@ -1,64 +1,69 @@
-use Rattle.circuit.proofs.PlanLaws.{busy-prim, busy-call, busy-if, busy-let, busy-other}
-use mathlib.Core.Path.{sym, _∙_}
+-- `plan::busy` meets its contract, by kind.
+use native.Mathlib.Omega.{arith}
+use mathlib.Core.Path.{_≡_, refl, sym, _∙_}
+use Rattle.table.specs.Bytes.{kind}
+use Rattle.table.proofs.Reading.{told}
+use Rattle.circuit.proofs.PlanLaws.{acts-leaf}
 use borrow.Author.Needs.{needs}
 use Rattle.circuit.proofs.plan.busy.Statement.{statement}
 use Rattle.circuit.proofs.plan.busy.Tie as tie
+
+abbrev start : tie.After-kind → tie.Start
+start c = search
+
+read : (c : tie.After-kind) → c .kind .result ≡ kind (start c .args .table .now) (start c .args .n .0)
+read c = told _ _ (start c .pre .0) _ (start c .pre .1) 0 _ (omega arith) (c .kind .ensures)
 
 kind-requires : tie.Need-kind-requires
 kind-requires c κs = search needs
 
 busy-primitive-requires : tie.Need-busy-primitive-requires
 busy-primitive-requires c κs =
-    let start : tie.Start = search in
-    (start .pre .0, start .pre .1)
+    let r : tie.After-kind = search in
+    let is : tie.At-match-keys1 = search in
+    let p = start r .pre in
+    (p .0, p .1, p .2, sym (read r) ∙ is .match .keys1)
 
 busy-call-requires : tie.Need-busy-call-requires
 busy-call-requires c κs =
-    let after-kind : tie.After-kind = search in
-    let start : tie.Start = search in
-    (start .pre .0, start .pre .1, start .pre .2, sym (after-kind .kind .ensures) ∙ c .match .keys2)
+    let r : tie.After-kind = search in
+    let is : tie.At-match-keys2 = search in
+    let p = start r .pre in
+    (p .0, p .1, p .2, sym (read r) ∙ is .match .keys2)
 
 busy-if-requires : tie.Need-busy-if-requires
 busy-if-requires c κs =
-    let after-kind : tie.After-kind = search in
-    let start : tie.Start = search in
-    (start .pre .0, start .pre .1, sym (after-kind .kind .ensures) ∙ c .match .keys3)
+    let r : tie.After-kind = search in
+    let is : tie.At-match-keys3 = search in
+    let p = start r .pre in
+    (p .0, p .1, p .2, sym (read r) ∙ is .match .keys3)
 
 busy-let-requires : tie.Need-busy-let-requires
 busy-let-requires c κs =
-    let after-kind : tie.After-kind = search in
-    let start : tie.Start = search in
-    (start .pre .0, start .pre .1, sym (after-kind .kind .ensures) ∙ c .match .keys4)
+    let r : tie.After-kind = search in
+    let is : tie.At-match-keys4 = search in
+    let p = start r .pre in
+    (p .0, p .1, p .2, sym (read r) ∙ is .match .keys4)
 
 returns : tie.Need-returns
-returns c =
-    let at-match-keys1 : tie.At-match-keys1 = search in
-    let after-kind : tie.After-kind = search in
-    busy-prim _ _ _ _ _ _ _ (after-kind .kind .ensures) _ (at-match-keys1 .match .keys1) (c .busy-primitive .ensures)
+returns c = λ d. c .busy-primitive .ensures _ d _
 
 returns-2 : tie.Need-returns-2
-returns-2 c =
-    let at-match-keys2 : tie.At-match-keys2 = search in
-    let after-kind : tie.After-kind = search in
-    busy-call _ _ _ _ _ _ _ (after-kind .kind .ensures) _ (at-match-keys2 .match .keys2) (c .busy-call .ensures)
+returns-2 c = λ d. c .busy-call .ensures d
 
 returns-3 : tie.Need-returns-3
-returns-3 c =
-    let at-match-keys3 : tie.At-match-keys3 = search in
-    let after-kind : tie.After-kind = search in
-    busy-if _ _ _ _ _ _ _ (after-kind .kind .ensures) _ (at-match-keys3 .match .keys3) (c .busy-if .ensures)
+returns-3 c = λ d. c .busy-if .ensures d _
 
 returns-4 : tie.Need-returns-4
-returns-4 c =
-    let at-match-keys4 : tie.At-match-keys4 = search in
-    let after-kind : tie.After-kind = search in
-    busy-let _ _ _ _ _ _ _ (after-kind .kind .ensures) _ (at-match-keys4 .match .keys4) (c .busy-let .ensures)
+returns-4 c = λ d. c .busy-let .ensures d _
 
 returns-5 : tie.Need-returns-5
 returns-5 c =
-    let after-kind : tie.After-kind = search in
-    busy-other _ _ _ _ _ _ _ (after-kind .kind .ensures) (c .match .rest .0 .0 .0 .1) (c .match .rest .0 .0 .1) (c .match .rest .0 .1)
-    (c .match .rest .1)
+    let k : tie.After-kind = search in
+    let p = start k .pre in
+    let other = c .match .rest in
+    λ d. acts-leaf _ (p .0 .taken) _ (p .1) _ _ _ d _ _ (p .2) (λ e. other .0 .0 .0 .1 (read k ∙ e)) (λ e. other .0 .0 .1 (read k ∙ e))
+    (λ e. other .0 .1 (read k ∙ e)) (λ e. other .1 (read k ∙ e)) refl
 
 pub busy-spec : {M : Type 1} → statement M
 busy-spec =

@@ -1,60 +1,57 @@
+-- `plan::busy_call` meets its contract, by whether the call is of its own function.
 use native.Mathlib.Omega.{arith}
-use mathlib.Core.Path.{refl, sym, _∙_}
-use borrow.Author.Tests.{eq-eqb, ne-eqb}
+use mathlib.Core.Path.{_≡_, sym, _∙_}
 use Rattle.table.specs.Bytes.{word}
+use Rattle.table.proofs.Reading.{told, told-low}
 use Rattle.table.specs.Naming.{owner}
-use Rattle.circuit.proofs.ChainLaws.{ok}
 use Rattle.circuit.proofs.ActBy.{callee-in}
+use Rattle.circuit.proofs.ChainLaws.{ok}
 use borrow.Author.Needs.{needs}
 use Rattle.circuit.proofs.plan.busy_call.Statement.{statement}
 use Rattle.circuit.proofs.plan.busy_call.Tie as tie
 
-word-requires : tie.Need-word-requires
-word-requires c κs = search needs
+abbrev start : tie.After-callee → tie.Start
+start c = search
 
-cast-if1 : tie.Need-cast-if1
-cast-if1 c = search needs
+word-read : (c : tie.After-callee) → c .callee .result .0 ≡ word (start c .args .table .now) (start c .args .n .0)
+word-read c =
+    let p = start c .pre in
+    told-low _ _ (p .0) _ (p .1) (omega (arith, callee-in _ (p .0 .taken) _ (p .1) (p .3) .1, ok _ (p .0 .taken) .F-high)) _ (c .callee .ensures)
+
+abbrev callees : tie.After-owner → tie.After-callee
+callees c = search
+
+own-read : (c : tie.After-owner) → c .owner .result .0 ≡ owner (start (callees c) .args .table .now) (start (callees c) .args .n .0)
+own-read c =
+    let p = start (callees c) .pre in
+    told _ _ (p .0) _ (p .1) 6 _ (omega arith) (c .owner .ensures)
+
+callee-requires : tie.Need-callee-requires
+callee-requires c κs = search needs
+
+owner-requires : tie.Need-owner-requires
+owner-requires c κs = search needs
 
 again-requires : tie.Need-again-requires
 again-requires c κs =
-    let start : tie.Start = search in
-    (start .pre .0, start .pre .1)
+    let o : tie.After-owner = search in
+    let p = start (callees o) .pre in
+    (p .0, p .1, p .2, p .3, sym (word-read (callees o)) ∙ c .if1 .taken ∙ own-read o)
 
 returns : tie.Need-returns
 returns c =
-    let then1 : tie.Then1 = search in
-    let after-word : tie.After-word = search in
-    let start : tie.Start = search in
-    c .again .ensures _ ∙ sym (rw (eq-eqb (word _ _) (owner _ _) (sym (after-word .word .ensures) ∙ then1 .if1 .taken ∙ start .pre .2))
-    refl)
-
-cast-t11 : tie.Need-cast-t11
-cast-t11 c =
-    let after-word : tie.After-word = search in
-    let start : tie.Start = search in
-    omega (
-      arith,
-      after-word .word .ensures,
-      callee-in _ (start .pre .0) _ (start .pre .1) (start .pre .3) .1,
-      ok _ (start .pre .0)
-          .F-high,
-    )
+    λ d. c .again .ensures _ _ d _
 
 across-requires : tie.Need-across-requires
 across-requires c κs =
-    let after-word : tie.After-word = search in
-    let start : tie.Start = search in
-    (start .pre .0, start .pre .1, start .pre .3, after-word .word .ensures)
+    let o : tie.After-owner = search in
+    let p = start (callees o) .pre in
+    (p .0, p .1, p .2, p .3, word-read (callees o), λ q. c .if1 .left (word-read (callees o) ∙ q ∙ sym (own-read o)))
 
 returns-2 : tie.Need-returns-2
-returns-2 c =
-    let else1 : tie.Else1 = search in
-    let after-word : tie.After-word = search in
-    let start : tie.Start = search in
-    c .across .ensures ∙ sym (rw (ne-eqb (word _ _) (owner _ _) (λ z. else1 .if1 .left (after-word .word .ensures ∙ z ∙ sym
-    (start .pre .2)))) refl)
+returns-2 c = λ d. c .across .ensures d
 
 pub busy-call-spec : {M : Type 1} → statement M
 busy-call-spec =
     tie.close
-    (tie.spec word-requires cast-if1 again-requires returns cast-t11 across-requires returns-2)
+    (tie.spec callee-requires owner-requires again-requires returns across-requires returns-2)

@@ -1,65 +1,81 @@
-use Rattle.circuit.proofs.PlanLaws.{bind-pass, bind-turn, bind-wait}
+-- `plan::busy_let` meets its contract: a let in its second phase waits for its body, in its first for the definientia.
 use native.Mathlib.Omega.{arith}
+use mathlib.Core.Path.{_≡_}
+use Rattle.table.specs.Bytes.{first}
+use Rattle.table.proofs.Reading.{told}
 use Rattle.circuit.proofs.ChainLaws.{ok, first-in}
-use Rattle.circuit.proofs.ActBy.{let-in}
+use Rattle.circuit.proofs.PlanLaws.{acts-bind, bind-pass, bind-turn, bind-wait}
 use borrow.Author.Needs.{needs}
 use Rattle.circuit.proofs.plan.busy_let.Statement.{statement}
 use Rattle.circuit.proofs.plan.busy_let.Tie as tie
+
+abbrev start : tie.After-first → tie.Start
+start c = search
+
+-- what was read is the node's first child
+read : (c : tie.After-first) → c .first .result .0 ≡ first (start c .args .table .now) (start c .args .n .0)
+read c = told _ _ (start c .pre .0) _ (start c .pre .1) 4 _ (omega arith) (c .first .ensures)
+
+abbrev firsts : tie.After-last-of → tie.After-first
+firsts c = search
 
 first-requires : tie.Need-first-requires
 first-requires c κs = search needs
 
 last-of-requires : tie.Need-last-of-requires
 last-of-requires c κs =
-    let start : tie.Start = search in
-    (start .pre .0, first-in _ (start .pre .0) _ (start .pre .1) _ (c .first .ensures))
+    let f : tie.After-first = search in
+    let s = start f in
+    (s .pre .0, first-in _ (s .pre .0 .taken) _ (s .pre .1) _ (read f))
 
 second-at-requires : tie.Need-second-at-requires
 second-at-requires c κs =
-    let start : tie.Start = search in
-    omega (arith, start .pre .1 .1, ok _ (start .pre .0) .N-high)
+    let s : tie.Start = search in
+    omega (arith, s .pre .1 .1, ok _ (s .pre .0 .taken) .N-high)
 
 pass-requires : tie.Need-pass-requires
 pass-requires c κs =
-    let after-last-of : tie.After-last-of = search in
-    let start : tie.Start = search in
-    omega (arith, after-last-of .last-of .ensures .1, ok _ (start .pre .0) .N-high)
+    let last : tie.After-last-of = search in
+    let s : tie.Start = search in
+    omega (arith, last .last-of .ensures .1, ok _ (s .pre .0 .taken) .N-high)
 
 returns : tie.Need-returns
 returns c =
-    let then1 : tie.Then1 = search in
-    let after-second-at : tie.After-second-at = search in
-    let after-last-of : tie.After-last-of = search in
-    let after-first : tie.After-first = search in
-    bind-pass _ _ _ _ _ _ (after-first .first .ensures) _ (after-last-of .last-of .ensures .0) _ (after-second-at .second-at .ensures) _
-    (then1 .if1 .taken) (c .pass .ensures _ _)
+    let then : tie.Then1 = search in
+    let second : tie.After-second-at = search in
+    let last : tie.After-last-of = search in
+    let f = firsts last in
+    let p = start f .pre in
+    λ d e. acts-bind _ (p .0 .taken) _ (p .1) _ _ _ d e _ (p .2) (p .3) (bind-pass _ _ _ _ _ _ (read f) _ (last .last-of .ensures .0) _
+    (second .second-at .ensures) _ (then .if1 .taken) (c .pass .ensures _ _))
 
-defs-done-requires : tie.Need-defs-done-requires
-defs-done-requires c κs =
-    let after-first : tie.After-first = search in
-    let start : tie.Start = search in
-    let i = let-in _ (start .pre .0) _ (start .pre .1) (start .pre .2) in
-    (start .pre .0, omega (arith, after-first .first .ensures, i .0), omega (arith, after-first .first .ensures, i .1))
+all-done-requires : tie.Need-all-done-requires
+all-done-requires c κs =
+    let f = firsts (search) in
+    let s = start f in
+    (s .pre .0, first-in _ (s .pre .0 .taken) _ (s .pre .1) _ (read f))
 
 returns-2 : tie.Need-returns-2
 returns-2 c =
-    let after-defs-done : tie.After-defs-done = search in
-    let else1 : tie.Else1 = search in
-    let after-second-at : tie.After-second-at = search in
-    let after-last-of : tie.After-last-of = search in
-    let after-first : tie.After-first = search in
-    bind-turn _ _ _ _ _ _ (after-first .first .ensures) _ (after-last-of .last-of .ensures .0) _ (after-second-at .second-at .ensures)
-    (else1 .if1 .left) _ (after-defs-done .defs-done .ensures) (c .if2 .taken)
+    let a : tie.After-all-done = search in
+    let first-phase : tie.Else1 = search in
+    let second : tie.After-second-at = search in
+    let last : tie.After-last-of = search in
+    let f = firsts last in
+    let p = start f .pre in
+    λ d e. acts-bind _ (p .0 .taken) _ (p .1) _ _ _ d e _ (p .2) (p .3) (bind-turn _ _ _ _ _ _ (read f) _ (last .last-of .ensures .0) _
+    (second .second-at .ensures) (first-phase .if1 .left) _ (a .all-done .ensures) (c .if2 .taken))
 
 returns-3 : tie.Need-returns-3
 returns-3 c =
-    let after-defs-done : tie.After-defs-done = search in
-    let else1 : tie.Else1 = search in
-    let after-second-at : tie.After-second-at = search in
-    let after-last-of : tie.After-last-of = search in
-    let after-first : tie.After-first = search in
-    bind-wait _ _ _ _ _ _ (after-first .first .ensures) _ (after-last-of .last-of .ensures .0) _ (after-second-at .second-at .ensures)
-    (else1 .if1 .left) _ (after-defs-done .defs-done .ensures) (c .if2 .left)
+    let a : tie.After-all-done = search in
+    let first-phase : tie.Else1 = search in
+    let second : tie.After-second-at = search in
+    let last : tie.After-last-of = search in
+    let f = firsts last in
+    let p = start f .pre in
+    λ d e. acts-bind _ (p .0 .taken) _ (p .1) _ _ _ d e _ (p .2) (p .3) (bind-wait _ _ _ _ _ _ (read f) _ (last .last-of .ensures .0) _
+    (second .second-at .ensures) (first-phase .if1 .left) _ (a .all-done .ensures) (c .if2 .left))
 
 pub busy-let-spec : {M : Type 1} → statement M
 busy-let-spec =
@@ -70,6 +86,6 @@ busy-let-spec =
     second-at-requires
     pass-requires
     returns
-    defs-done-requires
+    all-done-requires
     returns-2
     returns-3)

@@ -1,41 +1,56 @@
-use Rattle.circuit.proofs.PlanLaws.{prim-yes, prim-no}
+-- `plan::busy_primitive` meets its contract: a primitive waits for its children.
+use native.Mathlib.Omega.{arith}
+use mathlib.Core.Path.{_≡_}
 use borrow.Author.Tests.{not-true, not-false}
+use Rattle.table.specs.Bytes.{first}
+use Rattle.table.proofs.Reading.{told}
 use Rattle.circuit.proofs.ChainLaws.{first-in}
+use Rattle.circuit.proofs.PlanLaws.{acts-prim, prim-yes, prim-no}
 use borrow.Author.Needs.{needs}
 use Rattle.circuit.proofs.plan.busy_primitive.Statement.{statement}
 use Rattle.circuit.proofs.plan.busy_primitive.Tie as tie
+
+abbrev start : tie.After-first → tie.Start
+start c = search
+
+-- what was read is the node's first child
+read : (c : tie.After-first) → c .first .result .0 ≡ first (start c .args .table .now) (start c .args .n .0)
+read c = told _ _ (start c .pre .0) _ (start c .pre .1) 4 _ (omega arith) (c .first .ensures)
 
 first-requires : tie.Need-first-requires
 first-requires c κs = search needs
 
 all-done-requires : tie.Need-all-done-requires
 all-done-requires c κs =
-    let start : tie.Start = search in
-    (start .pre .0, first-in _ (start .pre .0) _ (start .pre .1) _ (c .first .ensures))
+    let f : tie.After-first = search in
+    let s = start f in
+    (s .pre .0, first-in _ (s .pre .0 .taken) _ (s .pre .1) _ (read f))
 
 returns : tie.Need-returns
 returns c =
-    let after-all-done : tie.After-all-done = search in
-    let after-first : tie.After-first = search in
-    prim-no _ _ _ _ (after-first .first .ensures) _ (after-all-done .all-done .ensures) _ (not-true _ (c .if1 .taken))
+    let a : tie.After-all-done = search in
+    let f : tie.After-first = search in
+    let p = start f .pre in
+    λ b d e. acts-prim _ (p .0 .taken) _ (p .1) _ b _ d e _ (p .2) (p .3) (prim-no _ _ _ _ (read f) _ (a .all-done .ensures) _ (not-true _ (c .if1 .taken)))
 
 extra-requires : tie.Need-extra-requires
 extra-requires c κs = search needs
 
 operation-requires : tie.Need-operation-requires
 operation-requires c κs =
-    let after-first : tie.After-first = search in
-    let start : tie.Start = search in
-    (start .pre .0, first-in _ (start .pre .0) _ (start .pre .1) _ (after-first .first .ensures))
+    let f : tie.After-first = search in
+    let s = start f in
+    (s .pre .0, first-in _ (s .pre .0 .taken) _ (s .pre .1) _ (read f))
 
 returns-2 : tie.Need-returns-2
 returns-2 c =
-    let after-extra : tie.After-extra = search in
-    let else1 : tie.Else1 = search in
-    let after-all-done : tie.After-all-done = search in
-    let after-first : tie.After-first = search in
-    prim-yes _ _ _ _ (after-first .first .ensures) _ (after-all-done .all-done .ensures) _ _ _ (not-false _ (else1 .if1 .left))
-    (after-extra .extra .ensures) (c .operation .ensures)
+    let op : tie.After-extra = search in
+    let ready : tie.Else1 = search in
+    let a : tie.After-all-done = search in
+    let f : tie.After-first = search in
+    let p = start f .pre in
+    λ b d e. acts-prim _ (p .0 .taken) _ (p .1) _ b _ d e _ (p .2) (p .3) (prim-yes _ _ _ _ (read f) _ (a .all-done .ensures) _ _ _
+    (not-false _ (ready .if1 .left)) (told _ _ (p .0) _ (p .1) 1 _ (omega arith) (op .extra .ensures)) (c .operation .ensures))
 
 pub busy-primitive-spec : {M : Type 1} → statement M
 busy-primitive-spec =

@@ -1,11 +1,20 @@
-use Rattle.circuit.proofs.PlanLaws.{open-const, open-param, open-bound, open-other}
+-- `plan::opening` meets its contract, by kind.
 use native.Mathlib.Omega.{arith}
-use mathlib.Core.Path.{sym, _∙_}
-use Rattle.circuit.proofs.ChainLaws.{ok}
+use mathlib.Core.Path.{_≡_, _∙_, sym}
+use Rattle.table.specs.Bytes.{kind}
+use Rattle.table.proofs.Reading.{told, told-word, told-low}
 use Rattle.circuit.proofs.ActBy.{own-in, bound-in}
+use Rattle.circuit.proofs.ChainLaws.{ok}
+use Rattle.circuit.proofs.PlanLaws.{acts-open, open-const, open-param, open-bound, open-other}
 use borrow.Author.Needs.{needs}
 use Rattle.circuit.proofs.plan.opening.Statement.{statement}
 use Rattle.circuit.proofs.plan.opening.Tie as tie
+
+abbrev start : tie.After-kind → tie.Start
+start c = search
+
+kinded : (c : tie.After-kind) → c .kind .result ≡ kind (start c .args .table .now) (start c .args .n .0)
+kinded c = told _ _ (start c .pre .0) _ (start c .pre .1) 0 _ (omega arith) (c .kind .ensures)
 
 kind-requires : tie.Need-kind-requires
 kind-requires c κs = search needs
@@ -13,57 +22,67 @@ kind-requires c κs = search needs
 word-requires : tie.Need-word-requires
 word-requires c κs = search needs
 
+owner-requires : tie.Need-owner-requires
+owner-requires c κs = search needs
+
 extra-requires : tie.Need-extra-requires
 extra-requires c κs = search needs
 
 register-at-requires : tie.Need-register-at-requires
 register-at-requires c κs =
-    let start : tie.Start = search in
-    omega (arith, start .pre .2, own-in _ (start .pre .0) _ (start .pre .1) .1, ok _ (start .pre .0) .F-high)
+    let o : tie.After-owner = search in
+    let s : tie.Start = search in
+    let p = s .pre in
+    omega (arith, told _ _ (p .0) _ (p .1) 6 _ (omega arith) (o .owner .ensures), own-in _ (p .0 .taken) _ (p .1) .1, ok _ (p .0 .taken) .F-high)
 
-word-requires-2 : tie.Need-word-requires-2
-word-requires-2 c κs = search needs
+definiens-requires : tie.Need-definiens-requires
+definiens-requires c κs = search needs
 
-value-of-requires : tie.Need-value-of-requires
-value-of-requires c κs =
-    let at-match-keys3 : tie.At-match-keys3 = search in
-    let after-kind : tie.After-kind = search in
-    let start : tie.Start = search in
-    omega (
-      arith,
-      c .word2 .ensures,
-      bound-in _ (start .pre .0) _ (start .pre .1) (sym (after-kind .kind .ensures) ∙ at-match-keys3 .match
-          .keys3) .1,
-      ok _ (start .pre .0) .N-high,
-    )
+value-at-requires : tie.Need-value-at-requires
+value-at-requires c κs =
+    let d : tie.After-definiens = search in
+    let k : tie.At-match-keys3 = search in
+    let s : tie.Start = search in
+    let p = s .pre in
+    let i = bound-in _ (p .0 .taken) _ (p .1) (sym (kinded (search)) ∙ k .match .keys3) in
+    let n = ok _ (p .0 .taken) .N-high in
+    omega (arith, told-low _ _ (p .0) _ (p .1) (omega (arith, i .1, n)) _ (d .definiens .ensures), i .1, n)
 
 returns : tie.Need-returns
 returns c =
-    let at-match-keys1 : tie.At-match-keys1 = search in
-    let after-kind : tie.After-kind = search in
-    open-const _ _ _ _ _ (after-kind .kind .ensures) (at-match-keys1 .match .keys1) _ (c .word .ensures)
+    let k : tie.At-match-keys1 = search in
+    let s : tie.Start = search in
+    let p = s .pre in
+    λ a b e h. acts-open _ (p .0 .taken) _ (p .1) a b _ _ e _ h (open-const _ _ _ _ _ (kinded (search)) (k .match .keys1) _
+    (told-word _ _ (p .0) _ (p .1) _ (c .word .ensures)))
 
 returns-2 : tie.Need-returns-2
 returns-2 c =
-    let after-extra : tie.After-extra = search in
-    let at-match-keys2 : tie.At-match-keys2 = search in
-    let after-kind : tie.After-kind = search in
-    let start : tie.Start = search in
-    open-param _ _ _ _ _ (after-kind .kind .ensures) (at-match-keys2 .match .keys2) _ _ _ (after-extra .extra .ensures) (start .pre .2)
-    (c .register-at .ensures)
+    let x : tie.After-extra = search in
+    let o : tie.After-owner = search in
+    let k : tie.At-match-keys2 = search in
+    let s : tie.Start = search in
+    let p = s .pre in
+    λ a b e h. acts-open _ (p .0 .taken) _ (p .1) a b _ _ e _ h (open-param _ _ _ _ _ (kinded (search)) (k .match .keys2) _ _ _
+    (told _ _ (p .0) _ (p .1) 1 _ (omega arith) (x .extra .ensures)) (told _ _ (p .0) _ (p .1) 6 _ (omega arith) (o .owner .ensures))
+    (c .register-at .ensures))
 
 returns-3 : tie.Need-returns-3
 returns-3 c =
-    let after-word2 : tie.After-word2 = search in
-    let at-match-keys3 : tie.At-match-keys3 = search in
-    let after-kind : tie.After-kind = search in
-    open-bound _ _ _ _ _ (after-kind .kind .ensures) (at-match-keys3 .match .keys3) _ _ (after-word2 .word2 .ensures)
-    (c .value-of .ensures)
+    let d : tie.After-definiens = search in
+    let k : tie.At-match-keys3 = search in
+    let s : tie.Start = search in
+    let p = s .pre in
+    let i = bound-in _ (p .0 .taken) _ (p .1) (sym (kinded (search)) ∙ k .match .keys3) in
+    λ a b e h. acts-open _ (p .0 .taken) _ (p .1) a b _ _ e _ h (open-bound _ _ _ _ _ (kinded (search)) (k .match .keys3) _ _
+    (told-low _ _ (p .0) _ (p .1) (omega (arith, i .1, ok _ (p .0 .taken) .N-high)) _ (d .definiens .ensures)) (c .value-at .ensures))
 
 returns-4 : tie.Need-returns-4
 returns-4 c =
-    let after-kind : tie.After-kind = search in
-    open-other _ _ _ _ _ (after-kind .kind .ensures) (c .match .rest .0 .0 .1) (c .match .rest .0 .1) (c .match .rest .1)
+    let s : tie.Start = search in
+    let p = s .pre in
+    λ a b e h. acts-open _ (p .0 .taken) _ (p .1) a b _ _ e _ h (open-other _ _ _ _ _ (kinded (search)) (c .match .rest .0 .0 .1)
+    (c .match .rest .0 .1) (c .match .rest .1))
 
 pub opening-spec : {M : Type 1} → statement M
 opening-spec =
@@ -71,10 +90,11 @@ opening-spec =
     (tie.spec
     kind-requires
     word-requires
+    owner-requires
     extra-requires
     register-at-requires
-    word-requires-2
-    value-of-requires
+    definiens-requires
+    value-at-requires
     returns
     returns-2
     returns-3

@@ -1,8 +1,10 @@
-use native.Mathlib.Omega.{arith}
+-- `standing::odd_occupant` meets its contract. The invariant: no occupant above f is over N. The measure is f.
 use borrow.Author.Needs.{needs}
+use native.Mathlib.Omega.{arith}
 use mathlib.Core.Path.{_≡_, sym, ap, _∙_}
 use Prim.Native.Nat.{_≤_}
 use Rattle.table.specs.Bytes.{functions, nodes}
+use Rattle.table.proofs.Reading.{told-main, told-last}
 use Rattle.rules.specs.Step.{over}
 use Rattle.circuit.proofs.ChainLaws.{ok}
 use Rattle.circuit.proofs.StandsLaws.{over-here, over-less, over-end}
@@ -10,41 +12,41 @@ use Rattle.circuit.proofs.standing.odd_occupant.Statement.{statement}
 use Rattle.circuit.proofs.standing.odd_occupant.Tie as tie
 
 abbrev Inv-loop : tie.InvT-loop
-Inv-loop table occupant last f₀ f = (f ≤ functions table) × (last .0 ≡ nodes table) ×
-    (over (nodes table) (functions table) occupant ≡ over (nodes table) f occupant)
+Inv-loop table cells occupant last f₀ f =
+    (f ≤ functions table) × (last .0 ≡ nodes table) × (over (nodes table) (functions table) occupant ≡ over (nodes table) f occupant)
 
 abbrev μ-loop : tie.MeasureT-loop
-μ-loop table occupant last f₀ f = f
+μ-loop table cells occupant last f₀ f = f
 
-nodes-requires : tie.Need-nodes-requires Inv-loop μ-loop
-nodes-requires c κs = search needs
+last-requires : tie.Need-last-requires Inv-loop μ-loop
+last-requires c κs = search needs
 
-functions-requires : tie.Need-functions-requires Inv-loop μ-loop
-functions-requires c κs = search needs
+main-requires : tie.Need-main-requires Inv-loop μ-loop
+main-requires c κs = search needs
 
 loop-holds : tie.Need-loop-holds Inv-loop μ-loop
 loop-holds c =
-    let after-nodes : tie.After-nodes Inv-loop μ-loop = search in
-    let start : tie.Start Inv-loop μ-loop = search in (
-      omega (arith, c .functions .ensures),
-      after-nodes .nodes .ensures,
-      ap (λ k. over (nodes (start .args .table .now)) k
-          (start .args .occupant .now)) (sym (c .functions .ensures)),
+    let last : tie.After-last Inv-loop μ-loop = search in
+    let s : tie.Start Inv-loop μ-loop = search in
+    let e = told-main _ _ (s .pre) _ (c .main .ensures) in (
+      omega (arith, e),
+      told-last _ _ (s .pre) _ (last .last .ensures),
+      ap (λ k. over (nodes (s .args .table .now)) k (s .args .occupant .now)) (sym e),
     )
 
 occupant-at-requires : tie.Need-occupant-at-requires Inv-loop μ-loop
 occupant-at-requires c κs =
-    let at-loop : tie.At-loop Inv-loop μ-loop = search in
-    let start : tie.Start Inv-loop μ-loop = search in
-    omega (arith, at-loop .loop .inv .0, ok _ (start .pre) .F-high)
+    let l : tie.At-loop Inv-loop μ-loop = search in
+    let s : tie.Start Inv-loop μ-loop = search in
+    omega (arith, l .loop .inv .0, ok _ (s .pre .taken) .F-high)
 
 returns : tie.Need-returns Inv-loop μ-loop
 returns c =
-    let after-occupant-at : tie.After-occupant-at Inv-loop μ-loop = search in
-    let in-loop : tie.In-loop Inv-loop μ-loop = search in
-    let at-loop : tie.At-loop Inv-loop μ-loop = search in
-    sym (at-loop .loop .inv .2 ∙ over-here (nodes _) _ _ _ (in-loop .loop-test .taken) (after-occupant-at .occupant-at .ensures)
-    (omega (arith, c .if1 .taken, at-loop .loop .inv .1)))
+    let at : tie.After-occupant-at Inv-loop μ-loop = search in
+    let t : tie.In-loop Inv-loop μ-loop = search in
+    let l : tie.At-loop Inv-loop μ-loop = search in
+    sym (l .loop .inv .2 ∙ over-here (nodes _) _ _ _ (t .loop-test .taken) (at .occupant-at .ensures)
+    (omega (arith, c .if1 .taken, l .loop .inv .1)))
 
 sub-f : tie.Need-sub-f Inv-loop μ-loop
 sub-f c = omega arith
@@ -54,20 +56,19 @@ loop-less c = omega arith
 
 loop-again : tie.Need-loop-again Inv-loop μ-loop
 loop-again c =
-    let after-occupant-at : tie.After-occupant-at Inv-loop μ-loop = search in
-    let in-loop : tie.In-loop Inv-loop μ-loop = search in
-    let at-loop : tie.At-loop Inv-loop μ-loop = search in
-    let start : tie.Start Inv-loop μ-loop = search in (
-      omega (arith, at-loop .loop .inv .0),
-      at-loop .loop .inv .1,
-      at-loop .loop .inv .2 ∙ over-less (nodes _) _ _ _
-          (in-loop .loop-test .taken) (after-occupant-at .occupant-at .ensures) (omega (arith, c .if1 .left, at-loop .loop .inv .1)),
+    let at : tie.After-occupant-at Inv-loop μ-loop = search in
+    let t : tie.In-loop Inv-loop μ-loop = search in
+    let l : tie.At-loop Inv-loop μ-loop = search in (
+      omega (arith, l .loop .inv .0),
+      l .loop .inv .1,
+      l .loop .inv .2 ∙ over-less (nodes _) _ _ _ (t .loop-test .taken) (at .occupant-at .ensures)
+          (omega (arith, c .if1 .left, l .loop .inv .1)),
     )
 
 returns-2 : tie.Need-returns-2 Inv-loop μ-loop
 returns-2 c =
-    let at-loop : tie.At-loop Inv-loop μ-loop = search in
-    sym (at-loop .loop .inv .2 ∙ over-end (nodes _) _ _ (omega arith))
+    let l : tie.At-loop Inv-loop μ-loop = search in
+    sym (l .loop .inv .2 ∙ over-end (nodes _) _ _ (omega arith))
 
 pub odd-occupant-spec : {M : Type 1} → statement M
 odd-occupant-spec =
@@ -75,8 +76,8 @@ odd-occupant-spec =
     (tie.spec
     Inv-loop
     μ-loop
-    nodes-requires
-    functions-requires
+    last-requires
+    main-requires
     loop-holds
     occupant-at-requires
     returns

@@ -1,3 +1,4 @@
+-- `standing::strays` meets its contract.
 use mathlib.Core.Path.{sym, ap, _∙_}
 use Rattle.table.specs.Bytes.{functions, nodes}
 use mathlib.Core.Bool.{_||_}

@@ -1,22 +1,21 @@
-use mathlib.Core.Path.{sym, ap, _∙_}
-use Rattle.table.specs.Pick.{pick}
+-- `turn::held` meets its contract.
+use mathlib.Core.Path.{sym, _∙_}
+use borrow.Author.Needs.{needs}
 use Rattle.circuit.proofs.turn.held.Statement.{statement}
 use Rattle.circuit.proofs.turn.held.Tie as tie
 
-marked-requires : tie.Need-marked-requires
-marked-requires c κs =
-    let start : tie.Start = search in
-    start .pre
+marks-requires : tie.Need-marks-requires
+marks-requires c κs = search needs
 
 returns : tie.Need-returns
 returns c =
-    let after-marked : tie.After-marked = search in
-    sym (ap (λ b. pick b 22 23) (sym (after-marked .marked .ensures) ∙ c .if1 .taken))
+    let told : tie.After-marks = search in
+    simp (sym (told .marks .ensures) ∙ c .if1 .taken)
 
 returns-2 : tie.Need-returns-2
 returns-2 c =
-    let after-marked : tie.After-marked = search in
-    sym (ap (λ b. pick b 22 23) (sym (after-marked .marked .ensures) ∙ c .if1 .left))
+    let told : tie.After-marks = search in
+    simp (sym (told .marks .ensures) ∙ c .if1 .left)
 
 pub held-spec : {M : Type 1} → statement M
-held-spec = tie.close (tie.spec marked-requires returns returns-2)
+held-spec = tie.close (tie.spec marks-requires returns returns-2)

@@ -1,31 +1,30 @@
+-- `turn::top` meets its contract: main's root is a node.
 use native.Mathlib.Omega.{arith}
-use mathlib.Core.Path.{ap, _∙_}
+use mathlib.Core.Path.{sym, ap, subst, _∙_}
 use Rattle.table.specs.Bytes.{functions, root}
+use Rattle.table.specs.Working.{IsFunction}
+use Rattle.table.proofs.Reading.{told-main, told-root}
 use Rattle.circuit.proofs.ChainLaws.{ok}
 use borrow.Author.Needs.{needs}
 use Rattle.circuit.proofs.turn.top.Statement.{statement}
 use Rattle.circuit.proofs.turn.top.Tie as tie
 
-functions-requires : tie.Need-functions-requires
-functions-requires c κs = search needs
+main-requires : tie.Need-main-requires
+main-requires c κs = search needs
 
 root-requires : tie.Need-root-requires
 root-requires c κs = search needs
 
 returns : tie.Need-returns
 returns c =
-    let after-functions : tie.After-functions = search in
-    let start : tie.Start = search in
-    let e = c .root .ensures ∙ ap (root _) (after-functions .functions .ensures) in (
-      e,
-      omega (
-        arith,
-        e,
-        ok _ (start .pre) .linking .roots (functions _) (ok _ (start .pre) .F-low, omega arith) .1,
-        ok _ (start .pre)
-            .N-high,
-      ),
-    )
+    let main : tie.After-main = search in
+    let s : tie.Start = search in
+    let p = ok _ (s .pre .taken) in
+    let f = told-main _ _ (s .pre) _ (main .main .ensures) in
+    let t = s .args .table .now in
+    let i : IsFunction t (functions t) = (p .F-low, omega arith) in
+    let e = told-root _ _ (s .pre) _ (subst (IsFunction t) (sym f) i) _ (c .root .ensures) ∙ ap (root t) f in
+    (e, omega (arith, e, p .linking .roots _ i .1, p .N-high))
 
 pub top-spec : {M : Type 1} → statement M
-top-spec = tie.close (tie.spec functions-requires root-requires returns)
+top-spec = tie.close (tie.spec main-requires root-requires returns)

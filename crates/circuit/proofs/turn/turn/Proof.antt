@@ -1,4 +1,5 @@
 -- `turn::turn` meets its contract: each way out is one line of `circuitOf`, by a law of `TurnLaws`.
+use Rattle.table.proofs.Reading.{told-last}
 use native.Mathlib.Omega.{arith}
 use borrow.Author.Needs.{needs}
 use mathlib.Core.Path.{_≡_, sym, _∙_}
@@ -7,7 +8,6 @@ use Rattle.rules.specs.State.{State512}
 use Rattle.rules.specs.Step.{Act, Stepped}
 use Rattle.rules.specs.Circuit.{actOf, circuitOf}
 use Rattle.circuit.specs.Meaning.{stateAs}
-use Rattle.circuit.proofs.ChainLaws.{ok}
 use Rattle.circuit.proofs.TurnLaws.{turn-zero, turn-past, turn-over, turn-on, Out, out-stuck, out-held, out-moved}
 use Rattle.circuit.proofs.turn.turn.Statement.{statement}
 use Rattle.circuit.proofs.turn.turn.Tie as tie
@@ -23,7 +23,7 @@ abbrev act : tie.Start → Act
 act s = actOf (s .args .table .now) (state s) (s .args .n .0)
 
 abbrev outcome : tie.Start → Stepped
-outcome s = Out (s .args .table .now) (s .args .tags .now) (s .pre .0) (state s) (s .args .n .0) (act s)
+outcome s = Out (s .args .table .now) (s .args .tags .now) (s .pre .0 .taken) (state s) (s .args .n .0) (act s)
 
 -- past the tests on n, it is a node
 abbrev start : tie.Else2 → tie.Start
@@ -31,9 +31,9 @@ start c = search
 
 node : (c : tie.Else2) → IsNode (start c .args .table .now) (start c .args .n .0)
 node c =
-    let last : tie.After-nodes = search in
+    let last : tie.After-last = search in
     let some : tie.Else1 = search in
-    (omega (arith, some .if1 .left), omega (arith, c .if2 .left, last .nodes .ensures))
+    (omega (arith, some .if1 .left), omega (arith, c .if2 .left, told-last _ _ (start c .pre .0) _ (last .last .ensures)))
 
 -- past the test on main's root, what is said is the outcome
 abbrev there : tie.Else3 → tie.Else2
@@ -45,23 +45,23 @@ on c =
     let top : tie.After-top = search in
     let some : tie.Else1 = search in
     let s = start (there c) in
-    turn-on _ _ (s .pre .0) (state s) _ (some .if1 .left) (node (there c) .1) (s .pre .3) _ _ (top .top .ensures .0)
+    turn-on _ _ (s .pre .0 .taken) (state s) _ (some .if1 .left) (node (there c) .1) (s .pre .2) _ _ (top .top .ensures .0)
     (at .status-at .ensures) (c .if3 .left)
 
 returns : tie.Need-returns
 returns c =
     let s : tie.Start = search in
-    turn-zero _ _ (s .pre .0) (state s) _ (c .if1 .taken)
+    turn-zero _ _ (s .pre .0 .taken) (state s) _ (c .if1 .taken)
 
-nodes-requires : tie.Need-nodes-requires
-nodes-requires c κs = search needs
+last-requires : tie.Need-last-requires
+last-requires c κs = search needs
 
 returns-2 : tie.Need-returns-2
 returns-2 c =
-    let last : tie.After-nodes = search in
+    let last : tie.After-last = search in
     let some : tie.Else1 = search in
     let s : tie.Start = search in
-    turn-past _ _ (s .pre .0) (state s) _ (some .if1 .left) (omega (arith, c .if2 .taken, last .nodes .ensures))
+    turn-past _ _ (s .pre .0 .taken) (state s) _ (some .if1 .left) (omega (arith, c .if2 .taken, told-last _ _ (s .pre .0) _ (last .last .ensures)))
 
 top-requires : tie.Need-top-requires
 top-requires c κs = search needs
@@ -78,84 +78,77 @@ returns-3 c =
     let in-table : tie.Else2 = search in
     let some : tie.Else1 = search in
     let s : tie.Start = search in
-    turn-over _ _ (s .pre .0) (state s) _ (some .if1 .left) (node in-table .1) (s .pre .3) _ _ (top .top .ensures .0)
+    turn-over _ _ (s .pre .0 .taken) (state s) _ (some .if1 .left) (node in-table .1) (s .pre .2) _ _ (top .top .ensures .0)
     (at .status-at .ensures) (c .if3 .taken)
-
-cast-f : tie.Need-cast-f
-cast-f c = search needs
-
-mul-f : tie.Need-mul-f
-mul-f c = search needs
-
-element-copy-out-f : tie.Need-element-copy-out-f
-element-copy-out-f c =
-    let in-table : tie.Else2 = search in
-    let s : tie.Start = search in
-    omega (arith, node in-table .1, ok _ (s .pre .0) .N-high)
 
 take-requires : tie.Need-take-requires
 take-requires c κs =
     let going : tie.Else3 = search in
     let in-table : tie.Else2 = search in
     let s : tie.Start = search in
-    (s .pre .0, node in-table, s .pre .1 _ (node in-table .1), s .pre .2)
+    (s .pre .0, node in-table, s .pre .1)
+
+enum-told : tie.Need-enum-told
+enum-told c = search needs
 
 returns-4 : tie.Need-returns-4
 returns-4 c =
+    let is : tie.After-enum-told = search in
     let took : tie.After-take = search in
     let going : tie.Else3 = search in
     let s = start (there going) in
-    out-stuck _ (s .args .tags .now) (s .pre .0) (state s) (s .args .n .0) _ _ (act s) (took .take .ensures) (c .if4 .taken)
+    out-stuck _ (s .args .tags .now) (s .pre .0 .taken) (state s) (s .args .n .0) _ _ (act s) (took .take .ensures) (is .enum-told .given .1)
     ∙ sym (on going)
 
+enum-told-2 : tie.Need-enum-told-2
+enum-told-2 c = search needs
+
 held-requires : tie.Need-held-requires
-held-requires c κs =
-    let going : tie.Else3 = search in
-    let in-table : tie.Else2 = search in
-    node in-table .0
+held-requires c κs = search needs
 
 returns-5 : tie.Need-returns-5
 returns-5 c =
+    let is : tie.After-enum-told2 = search in
     let took : tie.After-take = search in
-    let held : tie.Then5 = search in
     let going : tie.Else3 = search in
     let s = start (there going) in
-    out-held _ (s .args .tags .now) (s .pre .0) (state s) (s .args .n .0) _ _ (act s) (took .take .ensures) (held .if5 .taken) _
+    out-held _ (s .args .tags .now) (s .pre .0 .taken) (state s) (s .args .n .0) _ _ (act s) (took .take .ensures) (is .enum-told2 .given .1) _
     (c .held .ensures) ∙ sym (on going)
+
+enum-told-3 : tie.Need-enum-told-3
+enum-told-3 c = search needs
 
 told-requires : tie.Need-told-requires
 told-requires c κs =
-    let going : tie.Else3 = search in
     let top : tie.After-top = search in
     top .top .ensures .1
 
 returns-6 : tie.Need-returns-6
 returns-6 c =
-    let done : tie.Else4 = search in
-    let moved : tie.Else5 = search in
+    let is : tie.After-enum-told3 = search in
     let took : tie.After-take = search in
     let going : tie.Else3 = search in
     let top : tie.After-top = search in
     let s = start (there going) in
-    out-moved _ (s .args .tags .now) (s .pre .0) (state s) (s .args .n .0) _ _ (act s) (took .take .ensures) (done .if4 .left)
-    (moved .if5 .left) _ (top .top .ensures .0) _ (c .told .ensures) ∙ sym (on going)
+    out-moved _ (s .args .tags .now) (s .pre .0 .taken) (state s) (s .args .n .0) _ _ (act s) (took .take .ensures) (is .enum-told3 .given .1) _
+    (top .top .ensures .0) _ (c .told .ensures) ∙ sym (on going)
 
 pub turn-spec : {M : Type 1} → statement M
 turn-spec =
     tie.close
     (tie.spec
     returns
-    nodes-requires
+    last-requires
     returns-2
     top-requires
     status-at-requires
     returns-3
-    cast-f
-    mul-f
-    element-copy-out-f
     take-requires
-    returns-4
+    enum-told
+    enum-told-2
     held-requires
-    returns-5
+    enum-told-3
     told-requires
+    returns-4
+    returns-5
     returns-6)

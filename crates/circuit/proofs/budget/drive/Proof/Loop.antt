@@ -13,14 +13,14 @@ use Rattle.circuit.proofs.DriveLaws.{DroveTo, drove-start, Going, goes-
 use Rattle.circuit.proofs.budget.drive.Tie as tie
 
 abbrev pub Inv-loop : tie.InvT-loop
-Inv-loop table tags budget own heads links top status₀ second₀ value₀ registers₀ plain₀ stack₀ height₀ taken₀ rest₀ status second value
+Inv-loop table cells tags budget heads links top status₀ second₀ value₀ registers₀ plain₀ stack₀ height₀ taken₀ rest₀ status second value
     registers plain stack height taken rest = (height ≤ 1024) × (taken ≤ budget) × DroveTo table tags
     (stateAs status₀ second₀ value₀ registers₀ plain₀) (stateAs status second value registers plain) taken ×
     (rest ≡ true → (n : ℕ) → IsNode table n → goes (actOf table (stateAs status second value registers plain) n) ≡ true → ⊥) ×
     (budget < 4294967296)
 
 abbrev pub μ-loop : tie.MeasureT-loop
-μ-loop table tags budget own heads links top status₀ second₀ value₀ registers₀ plain₀ stack₀ height₀ taken₀ rest₀ status second value
+μ-loop table cells tags budget heads links top status₀ second₀ value₀ registers₀ plain₀ stack₀ height₀ taken₀ rest₀ status second value
     registers plain stack height taken rest = 2048 * (budget - taken) + height + pick rest 0 1
 
 -- the start, main's root read, the occupants made plain, the loop's head, a turn and its candidate
@@ -79,7 +79,7 @@ loop-holds c =
       omega arith,
       omega arith,
       drove-start _ _ _ (subst (Stands (s .args .table .now))
-          (sym (λ i. stateAs (a .status) (a .second) (a .value) (a .registers) (c .plain .ensures i))) (s .pre .1)),
+          (sym (λ i. stateAs (a .status) (a .second) (a .value) (a .registers) (c .plain .ensures i))) (s .pre .2)),
       λ e. absurd (let z : _≡_ {A = ℕ} 0 1 = cc in omega arith),
       omega arith,
     )

@@ -1,9 +1,13 @@
 -- what `take` leaves behind, move by move
 use native.Mathlib.Omega.{arith}
-use mathlib.Core.Path.{_≡_, refl, sym, ap, _∙_}
+use mathlib.Core.Path.{_≡_, refl, subst, sym, ap, _∙_}
+use Rattle.table.specs.Bytes.{first}
+use Rattle.table.specs.Naming.{owner}
+use Rattle.table.proofs.Reading.{told}
 use Rattle.table.specs.Working.{IsFunction}
 use Rattle.rules.specs.State.{State512}
 use Rattle.rules.specs.Circuit.{actOf}
+use Rattle.circuit.specs.declared.changes.Effect.the-variants as Effect
 use Rattle.circuit.specs.declared.plan.Plan.{Plan}
 use Rattle.circuit.specs.Meaning.{stateAs}
 use Rattle.circuit.specs.Plan.{planned}
@@ -14,12 +18,6 @@ use Rattle.circuit.proofs.changes.take.Tie as tie
 -- the state that comes in
 abbrev state : tie.Start → State512
 state s = stateAs (s .args .status .now) (s .args .second .now) (s .args .value .now) (s .args .registers .now) (s .args .occupant .now)
-
--- own is one of the functions
-pub own-there : (s : tie.Start) → IsFunction (s .args .table .now) (s .args .own .0)
-own-there s =
-    let o = own-in _ (s .pre .0) _ (s .pre .1) in
-    (omega (arith, s .pre .2, o .0), omega (arith, s .pre .2, o .1))
 
 -- the act that a plan stands for
 abbrev pub start : tie.After-plan-at → tie.Start
@@ -37,26 +35,50 @@ plan3 c = search
 pub entered-in : (c : tie.After-p3) → IsFunction (start (plan3 c) .args .table .now) (c .p3 .given .0 .0 .0)
 entered-in c =
     let s = start (plan3 c) in
-    enter-in _ (s .pre .0) _ (s .pre .1) _ _ _ _ _ _ _ (act (plan3 c) (c .p3 .given .1))
+    enter-in _ (s .pre .0 .taken) _ (s .pre .1) _ _ _ _ _ _ _ (act (plan3 c) (c .p3 .given .1))
+
+-- what was read for a reset: the first argument, and the node's own function
+abbrev start-first : tie.After-first → tie.Start
+start-first c = search
+
+pub firsts : (c : tie.After-first) → c .first .result .0 ≡ first (start-first c .args .table .now) (start-first c .args .n .0)
+firsts c = let s = start-first c in told _ _ (s .pre .0) _ (s .pre .1) 4 _ (omega arith) (c .first .ensures)
+
+abbrev pub start-first2 : tie.After-first2 → tie.Start
+start-first2 c = search
+
+pub firsts2 : (c : tie.After-first2) → c .first2 .result .0 ≡ first (start-first2 c .args .table .now) (start-first2 c .args .n .0)
+firsts2 c = let s = start-first2 c in told _ _ (s .pre .0) _ (s .pre .1) 4 _ (omega arith) (c .first2 .ensures)
+
+abbrev start-owner : tie.After-owner → tie.Start
+start-owner c = search
+
+owners : (c : tie.After-owner) → c .owner .result .0 ≡ owner (start-owner c .args .table .now) (start-owner c .args .n .0)
+owners c = let s = start-owner c in told _ _ (s .pre .0) _ (s .pre .1) 6 _ (omega arith) (c .owner .ensures)
+
+pub own-there : (c : tie.After-owner) → IsFunction (start-owner c .args .table .now) (c .owner .result .0)
+own-there c =
+    let s = start-owner c in
+    subst (IsFunction _) (sym (owners c)) (own-in _ (s .pre .0 .taken) _ (s .pre .1))
 
 pub returns : tie.Need-returns
 returns c =
     let p : tie.After-plan-at = search in
     let s = start p in
-    rested _ (s .pre .0) _ (s .pre .1) _ _ _ _ _ _ 0 (act p (c .enum-told .given .1)) (refl, refl)
+    rested _ (s .pre .0 .taken) _ (s .pre .1) _ _ _ _ _ _ Effect.Stuck (act p (c .enum-told .given .1)) (refl, refl)
 
 pub returns-2 : tie.Need-returns-2
 returns-2 c =
     let p : tie.After-plan-at = search in
     let s = start p in
-    rested _ (s .pre .0) _ (s .pre .1) _ _ _ _ _ _ 1 (act p (c .enum-told2 .given .1)) (refl, refl)
+    rested _ (s .pre .0 .taken) _ (s .pre .1) _ _ _ _ _ _ Effect.Blocked (act p (c .enum-told2 .given .1)) (refl, refl)
 
 pub returns-3 : tie.Need-returns-3
 returns-3 c =
     let begins : tie.After-enum-told3 = search in
     let p : tie.After-plan-at = search in
     let s = start p in
-    begun _ (s .pre .0) _ (s .pre .1) _ _ _ _ _ (act p (begins .enum-told3 .given .1)) _ (c .begin .ensures)
+    begun _ (s .pre .0 .taken) _ (s .pre .1) _ _ _ _ _ (act p (begins .enum-told3 .given .1)) _ (c .begin .ensures)
 
 pub returns-4 : tie.Need-returns-4
 returns-4 c =
@@ -64,7 +86,7 @@ returns-4 c =
     let turns : tie.After-p = search in
     let p : tie.After-plan-at = search in
     let s = start p in
-    turned _ (s .pre .0) _ (s .pre .1) _ _ _ _ _ _ (act p (turns .p .given .1)) _ _ (open-node .set-status .ensures)
+    turned _ (s .pre .0 .taken) _ (s .pre .1) _ _ _ _ _ _ (act p (turns .p .given .1)) _ _ (open-node .set-status .ensures)
     (c .set-second .ensures)
 
 pub returns-5 : tie.Need-returns-5
@@ -73,7 +95,7 @@ returns-5 c =
     let p : tie.After-plan-at = search in
     let s = start p in
     let e = c .finish .ensures in
-    finished _ (s .pre .0) _ (s .pre .1) _ _ _ _ _ _ _ _ _ (e .0) (e .1) (e .2) (act p (finishes .p2 .given .1))
+    finished _ (s .pre .0 .taken) _ (s .pre .1) _ _ _ _ _ _ _ _ _ (e .0) (e .1) (e .2) (act p (finishes .p2 .given .1))
 
 pub returns-6 : tie.Need-returns-6
 returns-6 c =
@@ -83,7 +105,7 @@ returns-6 c =
     let enters : tie.After-p3 = search in
     let s = start (plan3 enters) in
     let e = wiped .reset .ensures in
-    entered _ (s .pre .0) _ (s .pre .1) _ _ _ _ _ _ (entered-in enters) _ (first .first .ensures) _ _ _ _ (e .0) (e .1) (e .2) (e .3)
+    entered _ (s .pre .0 .taken) _ (s .pre .1) _ _ _ _ _ _ (entered-in enters) _ (firsts first) _ _ _ _ (e .0) (e .1) (e .2) (e .3)
     (act (plan3 enters) (enters .p3 .given .1)) _ (second .set-second2 .ensures) _ (c .set-occupant .ensures)
 
 pub returns-7 : tie.Need-returns-7
@@ -93,14 +115,15 @@ returns-7 c =
     let p : tie.After-plan-at = search in
     let s = start p in
     let e = done .finish2 .ensures in
-    left _ (s .pre .0) _ (s .pre .1) _ _ _ _ _ _ _ _ _ (e .0) (e .1) (e .2) _ (act p (leaves .p4 .given .1)) _ (c .set-occupant2 .ensures)
+    left _ (s .pre .0 .taken) _ (s .pre .1) _ _ _ _ _ _ _ _ _ (e .0) (e .1) (e .2) _ (act p (leaves .p4 .given .1)) _ (c .set-occupant2 .ensures)
 
 pub returns-8 : tie.Need-returns-8
 returns-8 c =
     let first : tie.After-first2 = search in
+    let own : tie.After-owner = search in
     let restarts : tie.After-enum-told4 = search in
     let p : tie.After-plan-at = search in
     let s = start p in
     let e = c .reset2 .ensures in
-    restarted _ (s .pre .0) _ (s .pre .1) _ _ _ _ _ _ (own-there s) _ (first .first2 .ensures) _ _ _ _ (e .0) (e .1) (e .2) (e .3)
-    (s .pre .2) (act p (restarts .enum-told4 .given .1))
+    restarted _ (s .pre .0 .taken) _ (s .pre .1) _ _ _ _ _ _ (own-there own) _ (firsts2 first) _ _ _ _ (e .0) (e .1) (e .2) (e .3)
+    (owners own) (act p (restarts .enum-told4 .given .1))

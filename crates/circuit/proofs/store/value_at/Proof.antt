@@ -1,10 +1,14 @@
-use native.Mathlib.Omega.{arith}
+-- `store::value_at` meets its contract: number 0 reads as 0.
 use mathlib.Core.Path.{sym}
 use Rattle.circuit.proofs.StoreLaws.{entry-none}
 use Rattle.rules.proofs.StateLaws.{entry-at}
+use native.Mathlib.Omega.{arith}
 use borrow.Author.Needs.{needs}
-use Rattle.circuit.proofs.store.value_of.Statement.{statement}
-use Rattle.circuit.proofs.store.value_of.Tie as tie
+use Rattle.circuit.proofs.store.value_at.Statement.{statement}
+use Rattle.circuit.proofs.store.value_at.Tie as tie
+
+cast-k : tie.Need-cast-k
+cast-k c = search needs
 
 returns : tie.Need-returns
 returns c = entry-none _ _ _ (c .if1 .taken)
@@ -21,6 +25,6 @@ element-copy-out-result c = search needs
 returns-2 : tie.Need-returns-2
 returns-2 c = sym (entry-at _ _ _ (omega arith))
 
-pub value-of-spec : {M : Type 1} → statement M
-value-of-spec =
-    tie.close (tie.spec returns sub-result mul-result element-copy-out-result returns-2)
+pub value-at-spec : {M : Type 1} → statement M
+value-at-spec =
+    tie.close (tie.spec cast-k returns sub-result mul-result element-copy-out-result returns-2)
