@@ -38,21 +38,15 @@ pub(crate) fn admit(table: &[u8], tags: &[u8], s: State) -> Findings
 {
     let found = list::survey_tags(table, tags);
     let checked = found.checked;
-    let cells = found.cells;
     match checked {
-        Checked::Refused(number, place) => Findings {
-            checked: Checked::Refused(number, place),
-            cells,
-        },
-        Checked::Accepted(main, last) => {
-            if strays(table, &cells, s) {
-                return Findings {
-                    checked: Checked::Refused(24, Node(0)),
-                    cells,
-                };
+        Checked::Refused(_, _) => found,
+        Checked::Accepted(_, _) => {
+            if !strays(table, &found.cells, s) {
+                return found;
             }
+            let cells = found.cells;
             Findings {
-                checked: Checked::Accepted(main, last),
+                checked: Checked::Refused(24, Node(0)),
                 cells,
             }
         }

@@ -15,6 +15,7 @@ use Rattle.table.specs.Check.{ifAccepted}
 use Rattle.list.specs.Tags.{tagged, listed, tagLength, nonePast, tagFits, tagsRefusal, tagsOf, after, checkWith, fillVerdict}
 use Rattle.list.specs.Tags.{filledTags}
 use Rattle.table.specs.Working.{Taken}
+use Rattle.table.proofs.Passed.{passes}
 use Rattle.list.specs.Working.{Bit}
 use Rattle.list.proofs.ListLaws.{tags-are}
 
@@ -74,6 +75,17 @@ after-check t tags r ok e = e ∙ sym (ap (λ v. after v (λ _. tagsRefusal t ta
 pub at-check : (t tags : List ℕ) (number place : ℕ) → refused number place ≡ checkOf t → refused number place ≡ checkWith t tags
 unfolding checkWith after
 at-check t tags number place e = ap (λ v. after v (λ _. tagsRefusal t tags)) e
+
+-- accepted, it names F and N
+pub held-same : (t tags : List ℕ) (F N : ℕ) → accepted F N ≡ checkWith t tags → accepted (functions t) (nodes t) ≡ checkWith t tags
+unfolding checkWith after tagsRefusal
+held-same t tags F N e = go (checkOf t) refl e
+  where
+    go : (v : Verdict) → checkOf t ≡ v → accepted F N ≡ after v (λ _. tagsRefusal t tags)
+        → accepted (functions t) (nodes t) ≡ after (checkOf t) (λ _. tagsRefusal t tags)
+    go (accepted F′ N′) q h = passes 10 (eqb (length tags) (tagLength t) && nonePast t tags) _ _ F N (sym h) .2 ∙ h
+        ∙ sym (ap (λ v. after v (λ _. tagsRefusal t tags)) q)
+    go (refused k p) q h = absurd (let z : _≡_ {A = ℕ} 0 1 = cc in omega arith)
 
 -- a lent tag list
 pub record Filled (t old new : List ℕ) (v : Verdict) : Type 0 where

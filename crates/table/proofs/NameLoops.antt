@@ -10,8 +10,7 @@ use Rattle.table.specs.Pick.{pick}
 use Rattle.table.specs.Bytes.{functions, nodes, root, first, next}
 use Rattle.table.specs.Find.{one, total, highest}
 use Rattle.table.specs.Naming.{mentions, rootOf, names, namer}
-use Rattle.table.specs.Working.{slotOf, aheadOf, IsNode, Framed, Rooted, Named, linkedBy}
-use Rattle.table.specs.declared.names.Names.{Names}
+use Rattle.table.specs.Working.{slotOf, aheadOf, IsNode, Framed, Mentioned, Rooted, Named, linkedBy}
 use Rattle.table.specs.Check.{forward, linked}
 use Rattle.table.proofs.Loops.{total-more, highest-more, placed, bumped, ahead-placed, bumped-few, blank-at}
 
@@ -39,28 +38,28 @@ roots-more t m r f v at h e here = record {
       ∙ ap₂ (λ x y. pick (eqb x j) (f + 1) y) e (h .tops j i) ∙ sym (highest-more (λ f. eqb (root t f) j) f);
 }
 
-pub roots-none : (t : List ℕ) → RootsTo t (replicate 513 0) (replicate 513 0) 0
+pub roots-none : (t m r : List ℕ) → m ≡ replicate 513 0 → r ≡ replicate 513 0 → RootsTo t m r 0
 unfolding total highest
-roots-none t = record {
-  sized = length-replicate {A = ℕ} 513 0;
-  sized′ = length-replicate {A = ℕ} 513 0;
-  few = λ j. omega (arith, blank-at {A = ℕ} 513 j 0);
-  counts = λ j i. blank-at {A = ℕ} 513 j 0;
-  tops = λ j i. blank-at {A = ℕ} 513 j 0;
+roots-none t m r em er = record {
+  sized = ap length em ∙ length-replicate {A = ℕ} 513 0;
+  sized′ = ap length er ∙ length-replicate {A = ℕ} 513 0;
+  few = λ j. omega (arith, blank m em j);
+  counts = λ j i. blank m em j;
+  tops = λ j i. blank r er j;
 }
+  where
+    blank : (l : List ℕ) → l ≡ replicate 513 0 → (j : ℕ) → getD l j 0 ≡ 0
+    blank l e j = ap (λ x. getD x j 0) e ∙ blank-at {A = ℕ} 513 j 0
 
 -- a node has a place
 pub slot-of : (t : List ℕ) → Framed t → (n : ℕ) → IsNode t n → Slot n
 slot-of t fr n i = (i .0, omega (arith, i .1, fr .N-high))
 
-pub roots-all : (t m r : List ℕ) → Framed t → RootsTo t m r (functions t) → Rooted t
-    (record { mentions = m; roots = r; namers = replicate 513 0 })
+pub roots-all : (t m r : List ℕ) → Framed t → RootsTo t m r (functions t) → Rooted t m r
 unfolding rootOf
 roots-all t m r fr h = record {
-  few = h .few;
-  counts = λ n i. h .counts n (slot-of t fr n i);
+  mentioned = record { sized = h .sized; few = h .few; counts = λ n i. h .counts n (slot-of t fr n i) };
   tops = λ n i. h .tops n (slot-of t fr n i);
-  none = λ n. blank-at {A = ℕ} 513 n 0;
 }
 
 -- after the links of the nodes 1 to n; `tops` counts what the roots name
@@ -129,23 +128,20 @@ module _ (t tops m l : List ℕ) (n : ℕ) (h : LinksTo t tops m l n) (u v a b c
     holders = held;
   }
 
-pub links-none : (t : List ℕ) (tops : Names) → length (tops .mentions) ≡ 513 → length (tops .namers) ≡ 513 → Rooted t tops
-    → LinksTo t (tops .mentions) (tops .mentions) (tops .namers) 0
+pub links-none : (t m l : List ℕ) → Mentioned t m → l ≡ replicate 513 0 → LinksTo t m m l 0
 unfolding total highest
-links-none t tops p q h = record {
-  sized = p;
-  sized′ = q;
+links-none t m l h e = record {
+  sized = h .sized;
+  sized′ = ap length e ∙ length-replicate {A = ℕ} 513 0;
   few = λ j. omega (arith, h .few j);
   counts = λ j i. omega arith;
-  holders = λ j i. h .none j;
+  holders = λ j i. ap (λ x. getD x j 0) e ∙ blank-at {A = ℕ} 513 j 0;
 }
 
-pub links-all : (t : List ℕ) (tops : Names) (m l : List ℕ) → Framed t → Rooted t tops → LinksTo t (tops .mentions) m l (nodes t)
-    → Named t (record { mentions = m; roots = tops .roots; namers = l })
+pub links-all : (t tops m l : List ℕ) → Framed t → Mentioned t tops → LinksTo t tops m l (nodes t) → Named t m l
 unfolding mentions namer
 links-all t tops m l fr r h = record {
   counts = λ n i. omega (arith, h .counts n (slot-of t fr n i), r .counts n i);
-  tops = r .tops;
   holders = λ n i. h .holders n (slot-of t fr n i);
 }
 

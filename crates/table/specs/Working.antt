@@ -5,7 +5,6 @@ use mathlib.Core.Path.{_≡_}
 use mathlib.Core.List.{List}
 use lib.Dec.{T, eqb, ltb, leb}
 use lib.ListN.{length, getD, set}
-use Rattle.table.specs.declared.names.Names.{Names}
 use Rattle.table.specs.declared.Checked.{Checked}
 use Rattle.table.specs.Survey.{verdictOf}
 use Rattle.table.specs.declared.faults.Fault.{Fault}
@@ -100,23 +99,34 @@ slotOf v = pick (leb v 512) v 0
 abbrev pub aheadOf : ℕ → ℕ → ℕ
 aheadOf n v = pick (ltb n v) (slotOf v) 0
 
--- what the roots alone name
-pub record Rooted (t : List ℕ) (r : Names) : Type 0 where
-  pub few : (n : ℕ) → getD (r .mentions) n 0 ≤ functions t
-  pub counts : (n : ℕ) → IsNode t n → getD (r .mentions) n 0 ≡ total (λ f. one (eqb (root t f) n)) (functions t)
-  pub tops : (n : ℕ) → IsNode t n → getD (r .roots) n 0 ≡ rootOf t n
-  pub none : (n : ℕ) → getD (r .namers) n 0 ≡ 0
+-- by node: how often the roots name it, and the function whose root it is
+pub record Mentioned (t m : List ℕ) : Type 0 where
+  pub sized : length m ≡ 513
+  pub few : (n : ℕ) → getD m n 0 ≤ functions t
+  pub counts : (n : ℕ) → IsNode t n → getD m n 0 ≡ total (λ f. one (eqb (root t f) n)) (functions t)
+
+abbrev pub Tops : List ℕ → List ℕ → Type 0
+Tops t r = (n : ℕ) → IsNode t n → getD r n 0 ≡ rootOf t n
+
+pub record Rooted (t m r : List ℕ) : Type 0 where
+  pub mentioned : Mentioned t m
+  pub tops : Tops t r
 
 -- 4 at a node, by its links, the number of its mentions and the function whose root it is
 abbrev pub linkedBy : (n first next mentions root last : ℕ) → Bool
 linkedBy n a b k r N =
     (eqb a 0 || (ltb n a && leb a N)) && (eqb b 0 || (ltb n b && leb b N)) && eqb k 1 && (eqb r 0 || eqb b 0)
 
--- mentions, roots and namers, by node
-pub record Named (t : List ℕ) (r : Names) : Type 0 where
-  pub counts : (n : ℕ) → IsNode t n → getD (r .mentions) n 0 ≡ mentions t n
-  pub tops : (n : ℕ) → IsNode t n → getD (r .roots) n 0 ≡ rootOf t n
-  pub holders : (n : ℕ) → IsNode t n → getD (r .namers) n 0 ≡ namer t n
+-- how often anything names it, and the node that does
+abbrev pub Counted : List ℕ → List ℕ → Type 0
+Counted t m = (n : ℕ) → IsNode t n → getD m n 0 ≡ mentions t n
+
+abbrev pub Holders : List ℕ → List ℕ → Type 0
+Holders t l = (n : ℕ) → IsNode t n → getD l n 0 ≡ namer t n
+
+pub record Named (t m l : List ℕ) : Type 0 where
+  pub counts : Counted t m
+  pub holders : Holders t l
 
 -- tail positions, by node
 abbrev pub Tails : List ℕ → List Bool → Type 0

@@ -3,7 +3,6 @@ use crate::Function;
 use crate::Node;
 use crate::decoded;
 use crate::decoded::Cells;
-use crate::names::Names;
 ghost use mathlib.Core.Path.{_≡_};
 ghost use mathlib.Core.Bool.{true, _&&_};
 ghost use Prim.Native.Nat.{_-_, _<_};
@@ -11,7 +10,7 @@ ghost use lib.Dec.{eqb};
 ghost use Rattle.table.specs.Pick.{pick};
 ghost use Rattle.table.specs.Bytes.{functions, nodes, first};
 ghost use Rattle.table.specs.Naming.{rootOf, namer as namerOf, parent as parentOf, tailChild};
-ghost use Rattle.table.specs.Working.{Framed, IsNode, Filled, Raw, Named, Tails};
+ghost use Rattle.table.specs.Working.{Framed, IsNode, Filled, Raw, Tops, Holders, Tails};
 
 // A root's function is its own, any other node's that of the node that names it.
 fn owner_of(namer: Node, root: Function, above: Function) -> Function
@@ -53,8 +52,13 @@ fn tail_of(table: &[u8], cells: &Cells, p: Node, n: Node, above: bool) -> bool
 }
 
 // Parents and namers are lower than their nodes, so one pass in ascending order fills all of them. What is returned is by node number.
-pub(crate) fn collect(table: &[u8], names: Names, cells: &mut Cells) -> [bool; 513]
-    requires { ⌜ Framed (now table) × Named (now table) names × Filled (now table) (functions (now table)) (nodes (now table)) 0
+pub(crate) fn collect(
+    table: &[u8],
+    cells: &mut Cells,
+    roots: &[u16; 513],
+    namers: &[u16; 513],
+) -> [bool; 513]
+    requires { ⌜ Framed (now table) × Tops (now table) (now roots) × Holders (now table) (now namers) × Filled (now table) (functions (now table)) (nodes (now table)) 0
         (now cells) ⌝ }
     ensures { λ r. ⌜ Tails (now (table .entry)) r × Filled (now (table .entry)) (functions (now (table .entry)))
         (nodes (now (table .entry))) (nodes (now (table .entry))) (now (cells .exit)) ⌝ }
@@ -65,8 +69,8 @@ pub(crate) fn collect(table: &[u8], names: Names, cells: &mut Cells) -> [bool; 5
     while n < last {
         n += 1;
         let at = n as usize;
-        let namer = Node(names.namers[at]);
-        let root = Function(names.roots[at]);
+        let namer = Node(namers[at]);
+        let root = Function(roots[at]);
         let up = relate(table, cells, namer, root, Node(n));
         let p = up.0 as usize;
         tail[at] = tail_of(table, cells, up, Node(n), tail[p]);

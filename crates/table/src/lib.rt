@@ -76,19 +76,22 @@ fn inspect(table: &[u8], cells: &mut [u16; 4360]) -> Checked
     ensures { λ r. ⌜ Decides (now (table .entry)) r (now (cells .exit)) ⌝ }
 {
     decode::sizes(table, cells);
-    let tops = names::roots(table, cells);
+    let mut mentions = [0u16; 513];
+    let mut tops = [0u16; 513];
+    names::roots(table, cells, &mut mentions, &mut tops);
     if !frame::roots_fit(table, cells) {
         return Checked::Refused(4, Node(0));
     }
-    let names = names::links(table, tops, cells);
-    let place = names::lowest_unlinked(table, cells, names);
+    let mut namers = [0u16; 513];
+    names::links(table, cells, &mut mentions, &mut namers);
+    let place = names::lowest_unlinked(table, cells, &mentions, &tops);
     if place.0 != 0 {
         return Checked::Refused(4, place);
     }
     if !frame::records_fit(table, cells) {
         return Checked::Refused(5, Node(0));
     }
-    let tails = kin::collect(table, names, cells);
+    let tails = kin::collect(table, cells, &tops, &namers);
     let fault = faults::lowest(table, cells, tails);
     if fault.number != 10 {
         let at = fault.place;

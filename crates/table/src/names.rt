@@ -1,4 +1,5 @@
-// Who names each node: roots, firsts and nexts (refusal 4).
+// Who names each node: roots, firsts and nexts (refusal 4). By node number: how often the node is named (`mentions`), the function whose
+// root it is (`roots`), the node that names it (`namers`). The arrays are lent, since a struct of them would be copied at each call.
 use crate::Function;
 use crate::Node;
 use crate::decode;
@@ -9,17 +10,11 @@ ghost use mathlib.Core.Path.{_≡_};
 ghost use mathlib.Core.Bool.{_&&_, _||_};
 ghost use Prim.Native.Nat.{_<_};
 ghost use lib.Dec.{leb, ltb, eqb};
+ghost use lib.ListN.{replicate};
 ghost use Rattle.table.specs.Bytes.{functions, nodes};
 ghost use Rattle.table.specs.Find.{lowest};
 ghost use Rattle.table.specs.Check.{linked};
-ghost use Rattle.table.specs.Working.{Framed, Filled, Raw, Rooted, Named, slotOf, aheadOf, linkedBy};
-
-// By node number: how often the node is named, the function whose root it is, the node that names it.
-pub struct Names {
-    pub mentions: [u16; 513],
-    pub roots: [u16; 513],
-    pub namers: [u16; 513],
-}
+ghost use Rattle.table.specs.Working.{Framed, Filled, Raw, Mentioned, Tops, Rooted, Counted, Named, slotOf, aheadOf, linkedBy};
 
 // A node's place in an array; 0 for a number above 512.
 fn slot(v: Node) -> usize
@@ -36,14 +31,17 @@ fn ahead(n: Node, v: Node) -> usize
 }
 
 // What the roots name; the functions' records are decoded on the way.
-pub(crate) fn roots(table: &[u8], cells: &mut Cells) -> Names
-    requires { ⌜ Framed (now table) × Filled (now table) 0 0 0 (now cells) ⌝ }
-    ensures { λ r. ⌜ Rooted (now (table .entry)) r × Filled (now (table .entry)) (functions (now (table .entry))) 0 0
-        (now (cells .exit)) ⌝ }
+pub(crate) fn roots(
+    table: &[u8],
+    cells: &mut Cells,
+    mentions: &mut [u16; 513],
+    roots: &mut [u16; 513],
+)
+    requires { ⌜ Framed (now table) × Filled (now table) 0 0 0 (now cells) × (now mentions ≡ replicate 513 0) × (now roots ≡ replicate 513 0) ⌝ }
+    ensures { λ _. ⌜ Rooted (now (table .entry)) (now (mentions .exit)) (now (roots .exit))
+        × Filled (now (table .entry)) (functions (now (table .entry))) 0 0 (now (cells .exit)) ⌝ }
 {
     let main = frame::last_function(table).0;
-    let mut mentions = [0u16; 513];
-    let mut roots = [0u16; 513];
     let mut f: u16 = 0;
     while f < main {
         f += 1;
@@ -53,23 +51,22 @@ pub(crate) fn roots(table: &[u8], cells: &mut Cells) -> Names
         mentions[at] = mentions[at] + 1;
         roots[at] = f;
     }
-    Names {
-        mentions,
-        roots,
-        namers: [0u16; 513],
-    }
 }
 
 // And what the firsts and nexts name; the nodes' records are decoded on the way.
-pub(crate) fn links(table: &[u8], tops: Names, cells: &mut Cells) -> Names
-    requires { ⌜ Framed (now table) × Rooted (now table) tops × Filled (now table) (functions (now table)) 0 0 (now cells) ⌝ }
-    ensures { λ r. ⌜ Named (now (table .entry)) r × Filled (now (table .entry)) (functions (now (table .entry)))
-        (nodes (now (table .entry))) 0 (now (cells .exit)) ⌝ }
+pub(crate) fn links(
+    table: &[u8],
+    cells: &mut Cells,
+    mentions: &mut [u16; 513],
+    namers: &mut [u16; 513],
+)
+    requires { ⌜ Framed (now table) × Mentioned (now table) (now mentions) × (now namers ≡ replicate 513 0)
+        × Filled (now table) (functions (now table)) 0 0 (now cells) ⌝ }
+    ensures { λ _. ⌜ Named (now (table .entry)) (now (mentions .exit)) (now (namers .exit))
+        × Filled (now (table .entry)) (functions (now (table .entry))) (nodes (now (table .entry))) 0 (now (cells .exit)) ⌝ }
 {
     let base = frame::base(table);
     let last = frame::last_node(table).0;
-    let mut mentions = tops.mentions;
-    let mut namers = tops.namers;
     let mut n: u16 = 0;
     while n < last {
         n += 1;
@@ -84,12 +81,6 @@ pub(crate) fn links(table: &[u8], tops: Names, cells: &mut Cells) -> Names
         namers[c] = n;
         let d = ahead(Node(n), next);
         namers[d] = n;
-    }
-    let roots = tops.roots;
-    Names {
-        mentions,
-        roots,
-        namers,
     }
 }
 
@@ -124,8 +115,13 @@ fn linked_at(n: Node, first: Node, next: Node, mentions: u16, root: Function, la
 }
 
 // The lowest node that meets refusal 4, 0 where none does.
-pub(crate) fn lowest_unlinked(table: &[u8], cells: &Cells, names: Names) -> Node
-    requires { ⌜ Framed (now table) × Raw (now table) (now cells) × Named (now table) names ⌝ }
+pub(crate) fn lowest_unlinked(
+    table: &[u8],
+    cells: &Cells,
+    mentions: &[u16; 513],
+    roots: &[u16; 513],
+) -> Node
+    requires { ⌜ Framed (now table) × Raw (now table) (now cells) × Counted (now table) (now mentions) × Tops (now table) (now roots) ⌝ }
     ensures { λ r. ⌜ r .0 ≡ lowest (linked (now (table .entry))) (nodes (now (table .entry))) ⌝ }
 {
     let last = decoded::last(cells);
@@ -135,8 +131,8 @@ pub(crate) fn lowest_unlinked(table: &[u8], cells: &Cells, names: Names) -> Node
         n += 1;
         let first = decoded::first(cells, Node(n));
         let next = decoded::next(cells, Node(n));
-        let mentions = names.mentions[n as usize];
-        let root = names.roots[n as usize];
+        let mentions = mentions[n as usize];
+        let root = roots[n as usize];
         if !linked_at(Node(n), first, next, mentions, Function(root), last) {
             return Node(n);
         }

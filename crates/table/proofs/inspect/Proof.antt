@@ -2,7 +2,7 @@
 use native.Mathlib.Omega.{arith}
 use borrow.Author.Tests.{not-true, not-false}
 use mathlib.Core.Bool.{true}
-use mathlib.Core.Path.{_≡_, sym, _∙_}
+use mathlib.Core.Path.{_≡_, refl, sym, _∙_}
 use Rattle.table.specs.Bytes.{functions, nodes}
 use Rattle.table.specs.Find.{all, lowest}
 use Rattle.table.specs.Check.{rootFits, linked, checkOf}
@@ -21,6 +21,9 @@ rooted : (c : tie.Else1) → all (rootFits (start c .args .table .now)) (functio
 rooted c =
     let told : tie.After-roots-fit = search in
     sym (told .roots-fit .ensures) ∙ not-false _ (c .if1 .left)
+
+abbrev rooting : tie.Else1 → tie.After-roots
+rooting c = search
 
 abbrev on : tie.After-links → tie.Else1
 on c = search
@@ -68,7 +71,7 @@ roots-requires : tie.Need-roots-requires
 roots-requires c κs =
     let s : tie.Start = search in
     let one : tie.After-sizes = search in
-    (s .pre .0, filled-none _ _ (s .pre .1) _ (one .sizes .ensures))
+    (s .pre .0, filled-none _ _ (s .pre .1) _ (one .sizes .ensures), refl, refl)
 
 roots-fit-requires : tie.Need-roots-fit-requires
 roots-fit-requires c κs =
@@ -86,13 +89,14 @@ links-requires : tie.Need-links-requires
 links-requires c κs =
     let tops : tie.After-roots = search in
     let s : tie.Start = search in
-    (s .pre .0, tops .roots .ensures .0, tops .roots .ensures .1)
+    (s .pre .0, tops .roots .ensures .0 .mentioned, refl, tops .roots .ensures .1)
 
 lowest-unlinked-requires : tie.Need-lowest-unlinked-requires
 lowest-unlinked-requires c κs =
     let l : tie.After-links = search in
+    let tops = rooting (on l) in
     let s = start (on l) in
-    (s .pre .0, raw _ _ (s .pre .0) _ (l .links .ensures .1), l .links .ensures .0)
+    (s .pre .0, raw _ _ (s .pre .0) _ (l .links .ensures .1), l .links .ensures .0 .counts, tops .roots .ensures .0 .tops)
 
 returns-2 : tie.Need-returns-2
 returns-2 c =
@@ -117,7 +121,7 @@ returns-3 c =
 collect-requires : tie.Need-collect-requires
 collect-requires c κs =
     let l = links-on (unlinked (fits (search))) in
-    (start (on l) .pre .0, l .links .ensures .0, l .links .ensures .1)
+    (start (on l) .pre .0, rooting (on l) .roots .ensures .0 .tops, l .links .ensures .0 .holders, l .links .ensures .1)
 
 lowest-requires : tie.Need-lowest-requires
 lowest-requires c κs =

@@ -13,11 +13,11 @@ use Rattle.table.proofs.kin.collect.Statement.{statement}
 use Rattle.table.proofs.kin.collect.Tie as tie
 
 abbrev Inv-loop : tie.InvT-loop
-Inv-loop table cells₀ names last tail₀ n₀ cells tail n =
+Inv-loop table cells₀ roots namers last tail₀ n₀ cells tail n =
     (n ≤ last) × Filled table (functions table) (nodes table) n cells × TailsTo table tail n × (last ≡ nodes table)
 
 abbrev μ-loop : tie.MeasureT-loop
-μ-loop table cells₀ names last tail₀ n₀ cells tail n = last - n
+μ-loop table cells₀ roots namers last tail₀ n₀ cells tail n = last - n
 
 -- places: the start, the loop's head, a turn, after the node's function and parent
 abbrev Start : Type 0
@@ -67,7 +67,7 @@ loop-holds : tie.Need-loop-holds Inv-loop μ-loop
 loop-holds c =
     let s : Start = search in
     let read : tie.After-last Inv-loop μ-loop = search in
-    (omega arith, s .pre .2, tails-none _, read .last .ensures ∙ sizes-filled _ _ (s .pre .0) _ _ _ (s .pre .2) 1 (omega arith))
+    (omega arith, s .pre .3, tails-none _, read .last .ensures ∙ sizes-filled _ _ (s .pre .0) _ _ _ (s .pre .3) 1 (omega arith))
 
 add-n : tie.Need-add-n Inv-loop μ-loop
 add-n c = omega (arith, room c)
@@ -90,7 +90,7 @@ element-copy-out-t19-2 c = omega (arith, room (search))
 relate-requires : tie.Need-relate-requires Inv-loop μ-loop
 relate-requires c κs =
     let t : Turn = search in
-    (s t .pre .0, node t, s t .pre .1 .holders _ (node t), s t .pre .1 .tops _ (node t), before t)
+    (s t .pre .0, node t, s t .pre .2 _ (node t), s t .pre .1 _ (node t), before t)
 
 cast-p : tie.Need-cast-p Inv-loop μ-loop
 cast-p c = search needs

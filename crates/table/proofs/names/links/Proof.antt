@@ -13,11 +13,11 @@ use Rattle.table.proofs.names.links.Statement.{statement}
 use Rattle.table.proofs.names.links.Tie as tie
 
 abbrev Inv-loop : tie.InvT-loop
-Inv-loop table tops cells₀ base last mentions₀ namers₀ n₀ cells mentions namers n =
+Inv-loop table cells₀ mentions₀ namers₀ base last n₀ cells mentions namers n =
     (n ≤ last) × LinksTo table mentions₀ mentions namers n × Filled table (functions table) n 0 cells × (last ≡ nodes table)
 
 abbrev μ-loop : tie.MeasureT-loop
-μ-loop table tops cells₀ base last mentions₀ namers₀ n₀ cells mentions namers n = last - n
+μ-loop table cells₀ mentions₀ namers₀ base last n₀ cells mentions namers n = last - n
 
 abbrev Start : Type 0
 Start = tie.Start Inv-loop μ-loop
@@ -95,7 +95,7 @@ loop-holds : tie.Need-loop-holds Inv-loop μ-loop
 loop-holds c =
     let s : Start = search in
     let read : tie.After-last-node Inv-loop μ-loop = search in
-    (omega arith, links-none _ _ (search needs) (search needs) (s .pre .1), s .pre .2, read .last-node .ensures)
+    (omega arith, links-none _ _ _ (s .pre .1) (s .pre .2), s .pre .3, read .last-node .ensures)
 
 add-n : tie.Need-add-n Inv-loop μ-loop
 add-n c = omega arith
@@ -118,19 +118,20 @@ slot-requires c κs = search needs
 mul-mentions : tie.Need-mul-mentions Inv-loop μ-loop
 mul-mentions c = search needs
 
-array-read-mentions : tie.Need-array-read-mentions Inv-loop μ-loop
-array-read-mentions c = omega arith
+element-copy-out-mentions : tie.Need-element-copy-out-mentions Inv-loop μ-loop
+element-copy-out-mentions c = omega arith
 
 add-mentions : tie.Need-add-mentions Inv-loop μ-loop
 add-mentions c =
     let t : Turn = search in
-    omega (arith, l t .loop .inv .1 .few (c .slot .result), node t .1, s t .pre .0 .N-high, s t .pre .0 .F-high)
+    let at : tie.After-slot Inv-loop μ-loop = search in
+    omega (arith, l t .loop .inv .1 .few (at .slot .result), node t .1, s t .pre .0 .N-high, s t .pre .0 .F-high)
 
 mul-mentions-2 : tie.Need-mul-mentions-2 Inv-loop μ-loop
 mul-mentions-2 c = search needs
 
-array-write-mentions : tie.Need-array-write-mentions Inv-loop μ-loop
-array-write-mentions c = omega arith
+element-write-mentions : tie.Need-element-write-mentions Inv-loop μ-loop
+element-write-mentions c = omega arith
 
 slot-requires-2 : tie.Need-slot-requires-2 Inv-loop μ-loop
 slot-requires-2 c κs = search needs
@@ -138,22 +139,23 @@ slot-requires-2 c κs = search needs
 mul-mentions-3 : tie.Need-mul-mentions-3 Inv-loop μ-loop
 mul-mentions-3 c = search needs
 
-array-read-mentions-2 : tie.Need-array-read-mentions-2 Inv-loop μ-loop
-array-read-mentions-2 c = omega arith
+element-copy-out-mentions-2 : tie.Need-element-copy-out-mentions-2 Inv-loop μ-loop
+element-copy-out-mentions-2 c = omega arith
 
 add-mentions-2 : tie.Need-add-mentions-2 Inv-loop μ-loop
 add-mentions-2 c =
     let t = turn (decoded (there (search))) in
+    let at : tie.After-slot2 Inv-loop μ-loop = search in
     let one : tie.After-slot Inv-loop μ-loop = search in
     let few = bumped-few (l t .loop .mentions) (one .slot .result) (functions (s t .args .table .now) + 2 * l t .loop .n)
-    (l t .loop .inv .1 .few) (c .slot2 .result) in
+    (l t .loop .inv .1 .few) (at .slot2 .result) in
     omega (arith, few, node t .1, s t .pre .0 .N-high, s t .pre .0 .F-high)
 
 mul-mentions-4 : tie.Need-mul-mentions-4 Inv-loop μ-loop
 mul-mentions-4 c = search needs
 
-array-write-mentions-2 : tie.Need-array-write-mentions-2 Inv-loop μ-loop
-array-write-mentions-2 c = omega arith
+element-write-mentions-2 : tie.Need-element-write-mentions-2 Inv-loop μ-loop
+element-write-mentions-2 c = omega arith
 
 ahead-requires : tie.Need-ahead-requires Inv-loop μ-loop
 ahead-requires c κs = search needs
@@ -161,8 +163,8 @@ ahead-requires c κs = search needs
 mul-namers : tie.Need-mul-namers Inv-loop μ-loop
 mul-namers c = search needs
 
-array-write-namers : tie.Need-array-write-namers Inv-loop μ-loop
-array-write-namers c = omega arith
+element-write-namers : tie.Need-element-write-namers Inv-loop μ-loop
+element-write-namers c = omega arith
 
 ahead-requires-2 : tie.Need-ahead-requires-2 Inv-loop μ-loop
 ahead-requires-2 c κs = search needs
@@ -170,8 +172,8 @@ ahead-requires-2 c κs = search needs
 mul-namers-2 : tie.Need-mul-namers-2 Inv-loop μ-loop
 mul-namers-2 c = search needs
 
-array-write-namers-2 : tie.Need-array-write-namers-2 Inv-loop μ-loop
-array-write-namers-2 c = omega arith
+element-write-namers-2 : tie.Need-element-write-namers-2 Inv-loop μ-loop
+element-write-namers-2 c = omega arith
 
 loop-less : tie.Need-loop-less Inv-loop μ-loop
 loop-less c = omega arith
@@ -212,22 +214,22 @@ links-spec =
     next-requires
     slot-requires
     mul-mentions
-    array-read-mentions
+    element-copy-out-mentions
     add-mentions
     mul-mentions-2
-    array-write-mentions
+    element-write-mentions
     slot-requires-2
     mul-mentions-3
-    array-read-mentions-2
+    element-copy-out-mentions-2
     add-mentions-2
     mul-mentions-4
-    array-write-mentions-2
+    element-write-mentions-2
     ahead-requires
     mul-namers
-    array-write-namers
+    element-write-namers
     ahead-requires-2
     mul-namers-2
-    array-write-namers-2
+    element-write-namers-2
     loop-less
     loop-again
     returns)

@@ -14,10 +14,10 @@ use Rattle.table.proofs.names.lowest_unlinked.Statement.{statement}
 use Rattle.table.proofs.names.lowest_unlinked.Tie as tie
 
 abbrev Inv-loop : tie.InvT-loop
-Inv-loop table cells names last end n₀ n = (n ≤ end) × (lowest (linked table) n ≡ 0) × (end ≡ nodes table)
+Inv-loop table cells mentions roots last end n₀ n = (n ≤ end) × (lowest (linked table) n ≡ 0) × (end ≡ nodes table)
 
 abbrev μ-loop : tie.MeasureT-loop
-μ-loop table cells names last end n₀ n = end - n
+μ-loop table cells mentions roots last end n₀ n = end - n
 
 abbrev Start : Type 0
 Start = tie.Start Inv-loop μ-loop
@@ -58,7 +58,7 @@ tests c =
     let i = node t in
     let p = s t .pre in
     c .linked-at .ensures ∙ told-linked _ _ _ _ _ _ _ (f .first .ensures ∙ p .1 .node _ 4 i (omega arith))
-    (n .next .ensures ∙ p .1 .node _ 5 i (omega arith)) (p .2 .counts _ i) (p .2 .tops _ i)
+    (n .next .ensures ∙ p .1 .node _ 5 i (omega arith)) (p .2 _ i) (p .3 _ i)
     (last .last .ensures ∙ p .1 .own 1 (omega arith))
 
 last-requires : tie.Need-last-requires Inv-loop μ-loop

@@ -12,11 +12,11 @@ use Rattle.table.proofs.names.roots.Statement.{statement}
 use Rattle.table.proofs.names.roots.Tie as tie
 
 abbrev Inv-loop : tie.InvT-loop
-Inv-loop table cells₀ main mentions₀ roots₀ f₀ cells mentions roots f =
+Inv-loop table cells₀ mentions₀ roots₀ main f₀ cells mentions roots f =
     (f ≤ main) × RootsTo table mentions roots f × Filled table f 0 0 cells × (main ≡ functions table)
 
 abbrev μ-loop : tie.MeasureT-loop
-μ-loop table cells₀ main mentions₀ roots₀ f₀ cells mentions roots f = main - f
+μ-loop table cells₀ mentions₀ roots₀ main f₀ cells mentions roots f = main - f
 
 abbrev Start : Type 0
 Start = tie.Start Inv-loop μ-loop
@@ -65,7 +65,7 @@ loop-holds : tie.Need-loop-holds Inv-loop μ-loop
 loop-holds c =
     let s : Start = search in
     let read : tie.After-last-function Inv-loop μ-loop = search in
-    (omega arith, roots-none _, s .pre .1, read .last-function .ensures)
+    (omega arith, roots-none _ _ _ (s .pre .2) (s .pre .3), s .pre .1, read .last-function .ensures)
 
 add-f : tie.Need-add-f Inv-loop μ-loop
 add-f c = omega arith
@@ -84,34 +84,36 @@ slot-requires c κs = search needs
 mul-mentions : tie.Need-mul-mentions Inv-loop μ-loop
 mul-mentions c = search needs
 
-array-read-mentions : tie.Need-array-read-mentions Inv-loop μ-loop
-array-read-mentions c = omega arith
+element-copy-out-mentions : tie.Need-element-copy-out-mentions Inv-loop μ-loop
+element-copy-out-mentions c = omega arith
 
 add-mentions : tie.Need-add-mentions Inv-loop μ-loop
 add-mentions c =
     let t : Turn = search in
-    omega (arith, l t .loop .inv .1 .few (c .slot .result), function t .1, s t .pre .0 .F-high)
+    let at : tie.After-slot Inv-loop μ-loop = search in
+    omega (arith, l t .loop .inv .1 .few (at .slot .result), function t .1, s t .pre .0 .F-high)
 
 mul-mentions-2 : tie.Need-mul-mentions-2 Inv-loop μ-loop
 mul-mentions-2 c = search needs
 
-array-write-mentions : tie.Need-array-write-mentions Inv-loop μ-loop
-array-write-mentions c = omega arith
+element-write-mentions : tie.Need-element-write-mentions Inv-loop μ-loop
+element-write-mentions c = omega arith
 
 mul-roots : tie.Need-mul-roots Inv-loop μ-loop
 mul-roots c = search needs
 
-array-write-roots : tie.Need-array-write-roots Inv-loop μ-loop
-array-write-roots c = omega arith
+element-write-roots : tie.Need-element-write-roots Inv-loop μ-loop
+element-write-roots c = omega arith
 
 loop-less : tie.Need-loop-less Inv-loop μ-loop
 loop-less c = omega arith
 
 loop-again : tie.Need-loop-again Inv-loop μ-loop
 loop-again c =
+    let at : tie.After-slot Inv-loop μ-loop = search in
     let read : tie.After-root Inv-loop μ-loop = search in
-    let t : Turn = search in
-    (omega arith, roots-more _ _ _ _ _ _ (l t .loop .inv .1) (root-read read) (c .slot .ensures .0), filled (search), l t .loop .inv .3)
+    let t = turn (decoded read) in
+    (omega arith, roots-more _ _ _ _ _ _ (l t .loop .inv .1) (root-read read) (at .slot .ensures .0), filled (search), l t .loop .inv .3)
 
 returns : tie.Need-returns Inv-loop μ-loop
 returns c =
@@ -133,12 +135,12 @@ roots-spec =
     root-requires
     slot-requires
     mul-mentions
-    array-read-mentions
+    element-copy-out-mentions
     add-mentions
     mul-mentions-2
-    array-write-mentions
+    element-write-mentions
     mul-roots
-    array-write-roots
+    element-write-roots
     loop-less
     loop-again
     returns)
