@@ -16,7 +16,8 @@ use Rattle.table.specs.Naming.{owner, parent}
 use Rattle.table.specs.Check.{refused, ifAccepted, checkOf}
 use Rattle.table.specs.Decoded.{cellAt, nodeSlot, functionSlot, tableSlot, numberAt, low, high, nodeField, functionField, tableField}
 use Rattle.table.specs.Decoded.{upTo, cellOf, Decoded}
-use Rattle.table.specs.Working.{Taken, IsNode, IsFunction, Framed, CellsTo, Raw, Cells, putCell, withNode, withFunction, filledTo, Filled}
+use Rattle.table.specs.Working.{Taken, IsNode, IsFunction, Framed, CellsTo, Raw, Cells}
+use Rattle.table.specs.Working.{putCell, withNode, withFunction, filledTo, Filled}
 use Rattle.table.proofs.Loops.{blank-at}
 
 -- by the number of a slot
@@ -122,7 +123,8 @@ module _ (t cells cells′ : List ℕ) (f n m f′ n′ m′ s₀ : ℕ) (W : �
 pub filled-none : (t cells : List ℕ) → cells ≡ replicate 4360 0 → (cells′ : List ℕ)
     → cells′ ≡ putCell (putCell cells tableSlot 0 (functions t)) tableSlot 1 (nodes t) → Filled t 0 0 0 cells′
 unfolding cellAt
-filled-none t cells e cells′ q = subst (Filled t 0 0 0) (sym q) (record { size = two .size ∙ size; each = λ s k a b. each s k a b (ℕ-discrete s 544) })
+filled-none t cells e cells′ q =
+    subst (Filled t 0 0 0) (sym q) (record { size = two .size ∙ size; each = λ s k a b. each s k a b (ℕ-discrete s 544) })
   where
     size : length cells ≡ 4360
     size = ap length e ∙ length-replicate {A = ℕ} 4360 0
@@ -178,7 +180,8 @@ module _ (t cells : List ℕ) (f : ℕ) (l : f < 32) (h : Filled t f 0 0 cells) 
       less = omega arith
 
   pub filled-function : (cells′ : List ℕ) → cells′ ≡ withFunction t (f + 1) cells → Filled t (f + 1) 0 0 cells′
-  filled-function cells′ e = subst (Filled t (f + 1) 0 0) (sym e) (filled-row t cells _ f 0 0 (f + 1) 0 0 (functionSlot (f + 1)) _ h function-row
+  filled-function cells′ e = subst (Filled t (f + 1) 0 0) (sym e)
+      (filled-row t cells _ f 0 0 (f + 1) 0 0 (functionSlot (f + 1)) _ h function-row
       (λ k b. fits k b ∙ sym (own-function (f + 1) k ∙ upTo-in (λ f. functionField t f k) (f + 1) (f + 1) (omega arith))) on)
     where
       -- nothing stood there before
@@ -238,7 +241,8 @@ by-part P k n m a b = go (ltb k 6)
 
 pub filled-node : (t cells : List ℕ) (F n : ℕ) → n < 512 → Filled t F n 0 cells
     → (cells′ : List ℕ) → cells′ ≡ withNode t (n + 1) cells → Filled t F (n + 1) 0 cells′
-filled-node t cells F n l h cells′ e = subst (Filled t F (n + 1) 0) (sym e) (filled-row t cells _ F n 0 F (n + 1) 0 (nodeSlot (n + 1)) W h row (λ k b. fits k b ∙ sym (full k))
+filled-node t cells F n l h cells′ e = subst (Filled t F (n + 1) 0) (sym e)
+    (filled-row t cells _ F n 0 F (n + 1) 0 (nodeSlot (n + 1)) W h row (λ k b. fits k b ∙ sym (full k))
     (node-on t cells F n 0 (n + 1) (omega arith) (omega arith) h (n + 1) 0 on))
   where
     W : ℕ → ℕ
@@ -272,7 +276,8 @@ filled-node t cells F n l h cells′ e = subst (Filled t F (n + 1) 0) (sym e) (f
     blank k b i = filled-blank t cells F n 0 (n + 1) (omega arith) (omega arith) h k b (omega arith)
 
     fits : (k : ℕ) → k < 8 → W k ≡ own k
-    fits = by-eight (λ k. W k ≡ own k) refl refl refl refl refl refl (blank 6 (omega arith) (omega arith)) (blank 7 (omega arith) (omega arith))
+    fits = by-eight (λ k. W k ≡ own k) refl refl refl refl refl refl (blank 6 (omega arith) (omega arith))
+        (blank 7 (omega arith) (omega arith))
 
     on : (k i : ℕ) → (i ≡ n + 1 → ⊥) → upTo (pick (ltb k 6) n 0) (λ n. nodeField t n k) i
         ≡ upTo (pick (ltb k 6) (n + 1) 0) (λ n. nodeField t n k) i
@@ -283,9 +288,11 @@ filled-node t cells F n l h cells′ e = subst (Filled t F (n + 1) 0) (sym e) (f
         go false = refl
 
 -- and its function and parent
-pub filled-kin : (t cells : List ℕ) (F N n x y : ℕ) → n < 512 → n + 1 ≤ N → Filled t F N n cells → x ≡ owner t (n + 1) → y ≡ parent t (n + 1)
+pub filled-kin : (t cells : List ℕ) (F N n x y : ℕ) → n < 512 → n + 1 ≤ N → Filled t F N n cells
+    → x ≡ owner t (n + 1) → y ≡ parent t (n + 1)
     → Filled t F N (n + 1) (putCell (putCell cells (nodeSlot (n + 1)) 6 x) (nodeSlot (n + 1)) 7 y)
-filled-kin t cells F N n x y l i h ex ey = filled-row t cells _ F N n F N (n + 1) (nodeSlot (n + 1)) W h row (λ k b. fits k b ∙ sym (full k))
+filled-kin t cells F N n x y l i h ex ey =
+    filled-row t cells _ F N n F N (n + 1) (nodeSlot (n + 1)) W h row (λ k b. fits k b ∙ sym (full k))
     (node-on t cells F N n (n + 1) (omega arith) (omega arith) h N (n + 1) on)
   where
     W : ℕ → ℕ

@@ -12,8 +12,10 @@ use Rattle.table.specs.Pick.{pick}
 use Rattle.table.specs.Bytes.{functions, nodes, params, spare, root, kind, extra, word, first, next}
 use Rattle.table.specs.Find.{one, total, lowest}
 use Rattle.table.specs.Naming.{mentions, rootOf, namer, tail}
-use Rattle.table.specs.Decoded.{cellAt, nodeSlot, functionSlot, tableSlot, numberAt, low, high, nodeField, functionField, tableField, upTo}
-use Rattle.table.specs.Check.{Verdict, accepted, refused, stage, checkOf, sizes, whole, linked, formed, calleeFits, counted, scoped, tailed}
+use Rattle.table.specs.Decoded.{cellAt, nodeSlot, functionSlot, tableSlot, numberAt, low, high, upTo}
+use Rattle.table.specs.Decoded.{nodeField, functionField, tableField}
+use Rattle.table.specs.Check.{Verdict, accepted, refused, stage, checkOf, sizes, whole, linked}
+use Rattle.table.specs.Check.{formed, calleeFits, counted, scoped, tailed}
 
 -- n is a node's number, f a function's
 abbrev pub IsNode : List ℕ → ℕ → Type 0

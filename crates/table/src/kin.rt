@@ -80,8 +80,8 @@ pub(crate) fn collect(
 
 // Puts node n's function and parent into its slot; what names it is lower, and has them.
 fn relate(table: &[u8], cells: &mut Cells, namer: Node, root: Function, n: Node) -> Node
-    requires { ⌜ Framed (now table) × IsNode (now table) (n .0) × (namer .0 ≡ namerOf (now table) (n .0)) × (root .0 ≡ rootOf (now table) (n .0))
-        × Filled (now table) (functions (now table)) (nodes (now table)) (n .0 - 1) (now cells) ⌝ }
+    requires { ⌜ Framed (now table) × IsNode (now table) (n .0) × (namer .0 ≡ namerOf (now table) (n .0))
+        × (root .0 ≡ rootOf (now table) (n .0)) × Filled (now table) (functions (now table)) (nodes (now table)) (n .0 - 1) (now cells) ⌝ }
     ensures { λ r. ⌜ (r .0 ≡ parentOf (now (table .entry)) (n .0)) × Filled (now (table .entry)) (functions (now (table .entry)))
         (nodes (now (table .entry))) (n .0) (now (cells .exit)) ⌝ }
 {

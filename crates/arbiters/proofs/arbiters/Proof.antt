@@ -1,4 +1,5 @@
--- `arbiters` meets its contract
+-- `arbiters` meets its contract, which promises nothing: its indices lie inside. The invariant: i is at most the count.
+-- The measure is the records left.
 use Prim.Native.Nat.{_-_, _≤_}
 use native.Mathlib.Omega.{arith}
 use Rattle.arbiters.proofs.arbiters.Statement.{statement}

@@ -1,3 +1,4 @@
+-- `first` meets its contract: the first bytes lie inside the array.
 use mathlib.Core.Path.{_≡_, sym}
 use lib.ListN.{length}
 use lib.Seq.{length-take-le}

@@ -1,3 +1,5 @@
+-- `largest` meets its contract, which promises nothing: its sums and casts fit. The invariants: f is in 1 to 33, then n is at most 512.
+-- The measures are the functions and the nodes left.
 use Prim.Native.Nat.{_≤_, _-_}
 use native.Mathlib.Omega.{arith}
 use borrow.Author.Needs.{needs}

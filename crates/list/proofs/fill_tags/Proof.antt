@@ -18,7 +18,8 @@ abbrev found : tie.After-checked2 → tie.After-survey
 found c = search
 
 taken : (c : tie.After-checked2) → Read (start c .args .table .now) (found c .survey .result .cells)
-    × (c .checked2 .given .0 .0 .0 ≡ functions (start c .args .table .now)) × (c .checked2 .given .0 .1 .0 .0 ≡ nodes (start c .args .table .now))
+    × (c .checked2 .given .0 .0 .0 ≡ functions (start c .args .table .now))
+    × (c .checked2 .given .0 .1 .0 .0 ≡ nodes (start c .args .table .now))
 taken c = survey-taken _ _ _ _ (found c .survey .ensures) (c .checked2 .given .1)
 
 survey-requires : tie.Need-survey-requires

@@ -1,4 +1,4 @@
--- `total` meets its contract
+-- `total` meets its contract. The invariant: the sum is that of the bytes up to i, modulo 2^64. The measure is the bytes left.
 use mathlib.Core.Path.{_≡_, sym, ap, _∙_}
 use Prim.Native.Nat.{_+_, _-_, _%_, _^_, _≤_}
 use native.Mathlib.Omega.{arith}

@@ -8,7 +8,8 @@ use Rattle.table.specs.Find.{all, lowest}
 use Rattle.table.specs.Check.{rootFits, linked, checkOf}
 use Rattle.table.specs.Working.{checkNodes}
 use Rattle.table.proofs.CellLaws.{filled-none, raw, all-read, sizes-filled}
-use Rattle.table.proofs.SurveyLaws.{roots-refused, unlinked-refused, records-refused, nodes-checked, links-pass, fault-refused, fault-none, refuses, accepts}
+use Rattle.table.proofs.SurveyLaws.{roots-refused, unlinked-refused, records-refused, nodes-checked, links-pass}
+use Rattle.table.proofs.SurveyLaws.{fault-refused, fault-none, refuses, accepts}
 use borrow.Author.Needs.{needs}
 use Rattle.table.proofs.inspect.Statement.{statement}
 use Rattle.table.proofs.inspect.Tie as tie
@@ -55,7 +56,8 @@ abbrev fault : tie.Else4 → tie.After-lowest
 fault c = search
 
 -- past the records, the check is that of the nodes
-rest : (c : tie.Else3) → let s = start (on (links-on (unlinked (fits c)))) in checkOf (s .args .table .now) ≡ checkNodes (s .args .table .now)
+rest : (c : tie.Else3) → let s = start (on (links-on (unlinked (fits c)))) in
+    checkOf (s .args .table .now) ≡ checkNodes (s .args .table .now)
 rest c =
     let told = fits c in
     let e = unlinked told in
@@ -154,7 +156,8 @@ returns-5 c =
     let k = kin told in
     let s = start (on (links-on (unlinked (fits (records k))))) in
     let size = sizes-filled _ _ (s .pre .0) _ _ _ (k .collect .ensures .1) in
-    accepts _ _ _ _ (rest (records k) ∙ fault-none _ _ (told .lowest .ensures) (none .if4 .left)) (main .main .ensures ∙ size 0 (omega arith))
+    accepts _ _ _ _ (rest (records k) ∙ fault-none _ _ (told .lowest .ensures) (none .if4 .left))
+    (main .main .ensures ∙ size 0 (omega arith))
     (c .last .ensures ∙ size 1 (omega arith)) (k .collect .ensures .1)
 
 pub inspect-spec : {M : Type 1} → statement M

@@ -1,4 +1,4 @@
--- `bits::join_at` meets its contract
+-- `bits::join_at` meets its contract. The invariant: the bytes up to i are joined, the others as they were. The measure is the bytes left.
 use mathlib.Core.Path.{_≡_, sym, ap}
 use Prim.Native.Nat.{_+_, _-_, _*_, _≤_}
 use native.Mathlib.Omega.{arith}

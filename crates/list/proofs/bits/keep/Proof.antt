@@ -1,4 +1,5 @@
--- `bits::keep` meets its contract
+-- `bits::keep` meets its contract. The invariant: set g has the set's bytes up to i, the row is else as it was.
+-- The measure is the bytes left.
 use mathlib.Core.Path.{_≡_, subst}
 use Prim.Native.Nat.{_-_, _*_, _≤_}
 use native.Mathlib.Omega.{arith}

@@ -1,4 +1,5 @@
--- `bits::meet` meets its contract
+-- `bits::meet` meets its contract. The invariant: what the set has in common with the sets up to h is joined.
+-- The measure is the functions left.
 use mathlib.Core.Path.{_≡_, sym, subst, _∙_}
 use Prim.Native.Nat.{_+_, _-_, _≤_}
 use native.Mathlib.Omega.{arith}

@@ -1,4 +1,5 @@
--- `bits::meet_at` meets its contract
+-- `bits::meet_at` meets its contract. The invariant: what is common in the bytes up to i is joined, the others are as they were.
+-- The measure is the bytes left.
 use mathlib.Core.Path.{_≡_, sym, ap, ap₂, _∙_}
 use Prim.Native.Nat.{_+_, _-_, _*_, _≤_, _/_, _%_}
 use native.Mathlib.Omega.{arith}

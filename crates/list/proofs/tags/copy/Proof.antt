@@ -1,4 +1,4 @@
--- `tags::copy` meets its contract
+-- `tags::copy` meets its contract. The invariant: the bytes up to i are the set's, the others as they were. The measure is the bytes left.
 use mathlib.Core.Path.{_≡_, refl}
 use mathlib.Core.List.{_++_}
 use Prim.Native.Nat.{_-_, _≤_}

@@ -70,7 +70,8 @@ returns-4 c =
     let s : tie.Start = search in
     let e = last (search) in
     ap₂ accepted (c .main .ensures ∙ s .pre .told .own 0 (omega arith)) e ∙ held-fit _ _ _ e (long .if1 .left)
-    (sym (past-is _ _ _ e) ∙ sym (past .none-past .ensures) ∙ not-false _ (fit .if2 .left)) (sym (told .lowest-unfit .ensures) ∙ all .if3 .left)
+    (sym (past-is _ _ _ e) ∙ sym (past .none-past .ensures) ∙ not-false _ (fit .if2 .left))
+    (sym (told .lowest-unfit .ensures) ∙ all .if3 .left)
 
 pub held-spec : {M : Type 1} → statement M
 held-spec =

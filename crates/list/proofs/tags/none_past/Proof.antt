@@ -1,4 +1,4 @@
--- `tags::none_past` meets its contract
+-- `tags::none_past` meets its contract. The invariant: none of the i bits after the last node's is set. The measure is the bits left.
 use mathlib.Core.Path.{_≡_, sym, ap, _∙_}
 use mathlib.Core.Bool.{true, not}
 use Prim.Native.Nat.{_+_, _-_, _*_, _≤_}

@@ -1,3 +1,4 @@
+-- `faults::callee_fits` meets its contract, by the kind and the lower limit.
 use borrow.Author.Tests.{eq-eqb, ne-eqb, le-leb, lt-leb}
 use borrow.Author.Needs.{needs}
 use native.Mathlib.Omega.{arith}

@@ -1,3 +1,4 @@
+-- `faults::lower` meets its contract, by the test on the numbers.
 use borrow.Author.Tests.{lt-ltb, le-ltb}
 use Rattle.table.proofs.faults.lower.Statement.{statement}
 use Rattle.table.proofs.faults.lower.Tie as tie

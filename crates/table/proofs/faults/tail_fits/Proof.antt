@@ -1,3 +1,4 @@
+-- `faults::tail_fits` meets its contract, by the kind and by whether the callee is the node's own function.
 use borrow.Author.Tests.{eq-eqb, ne-eqb}
 use borrow.Author.Needs.{needs}
 use Rattle.table.proofs.faults.tail_fits.Statement.{statement}

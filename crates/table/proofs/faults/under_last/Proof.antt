@@ -77,7 +77,8 @@ loop-again c =
     let up : Up = search in
     let t = turn up in (
       omega (arith, lower up, head t .loop .inv .0),
-      head t .loop .inv .1 ∙ under-up _ _ (start t .pre .1) _ (node t .0) (λ e. c .if1 .left (read up ∙ e)) ∙ ap (underLast _ _) (sym (read up)),
+      head t .loop .inv .1 ∙ under-up _ _ (start t .pre .1) _ (node t .0) (λ e. c .if1 .left (read up ∙ e))
+          ∙ ap (underLast _ _) (sym (read up)),
     )
 
 returns-2 : tie.Need-returns-2 Inv-loop μ-loop

@@ -1,3 +1,4 @@
+-- `frame::last_function` meets its contract: F is the table's first two bytes.
 use Rattle.table.specs.Bytes.{functions}
 use borrow.Author.Needs.{needs}
 use Rattle.table.proofs.frame.last_function.Statement.{statement}

@@ -1,3 +1,4 @@
+-- `frame::last_node` meets its contract: N is the two bytes after F.
 use Rattle.table.specs.Bytes.{nodes}
 use borrow.Author.Needs.{needs}
 use Rattle.table.proofs.frame.last_node.Statement.{statement}

@@ -1,3 +1,4 @@
+-- `frame::number` meets its contract: each return is a case of `frameNumber`, by the tests before it.
 use borrow.Author.Tests.{eq-eqb, ne-eqb, le-leb, lt-leb}
 use mathlib.Core.Path.{sym}
 use Rattle.table.specs.Working.{frameNumber}

@@ -54,7 +54,8 @@ tests c =
     let params : tie.After-params Inv-loop μ-loop = search in
     let spare : tie.After-spare Inv-loop μ-loop = search in
     let t = turn c in
-    c .record-fits .ensures ∙ ap₂ (λ n m. leb n 8 && eqb m 0) (params .params .ensures ∙ s t .pre .1 .function _ 0 (function t) (omega arith))
+    c .record-fits .ensures ∙ ap₂ (λ n m. leb n 8 && eqb m 0)
+    (params .params .ensures ∙ s t .pre .1 .function _ 0 (function t) (omega arith))
     (spare .spare .ensures ∙ s t .pre .1 .function _ 1 (function t) (omega arith))
 
 last-function-requires : tie.Need-last-function-requires Inv-loop μ-loop

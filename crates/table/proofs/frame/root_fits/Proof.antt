@@ -1,3 +1,4 @@
+-- `frame::root_fits` meets its contract, by the test on each side.
 use borrow.Author.Tests.{le-leb, lt-leb}
 use Rattle.table.proofs.frame.root_fits.Statement.{statement}
 use Rattle.table.proofs.frame.root_fits.Tie as tie

@@ -1,3 +1,4 @@
+-- `kin::owner_of` meets its contract, by whether a node names the node.
 use borrow.Author.Tests.{eq-eqb, ne-eqb}
 use Rattle.table.proofs.kin.owner_of.Statement.{statement}
 use Rattle.table.proofs.kin.owner_of.Tie as tie

@@ -24,14 +24,16 @@ start c = search
 
 -- the function and the parent that were worked out, by what stands in the slot of the node that names this one
 own-told : (c : tie.After-owner-of) → let s = start c in
-    c .owner-of .result .0 ≡ pick (eqb (s .args .namer .0) 0) (s .args .root .0) (cellAt (s .args .cells .now) (nodeSlot (s .args .namer .0)) 6)
+    c .owner-of .result .0 ≡ pick (eqb (s .args .namer .0) 0) (s .args .root .0)
+    (cellAt (s .args .cells .now) (nodeSlot (s .args .namer .0)) 6)
 own-told c =
     let s = start c in
     let mine : tie.After-owner = search in
     c .owner-of .ensures ∙ ap (λ x. pick (eqb (s .args .namer .0) 0) (s .args .root .0) x) (mine .owner .ensures)
 
 up-told : (c : tie.After-parent-of) → let s = start (owned c) in
-    c .parent-of .result .0 ≡ pick (eqb (s .args .namer .0) 0) 0 (pick (eqb (first (s .args .table .now) (s .args .namer .0)) (s .args .n .0))
+    c .parent-of .result .0 ≡ pick (eqb (s .args .namer .0) 0) 0
+    (pick (eqb (first (s .args .table .now) (s .args .namer .0)) (s .args .n .0))
     (s .args .namer .0) (cellAt (s .args .cells .now) (nodeSlot (s .args .namer .0)) 7))
 up-told c =
     let s = start (owned c) in

@@ -1,3 +1,4 @@
+-- `kinds::child_counts` meets its contract: each arm of the match is a case of `countsOf`.
 use borrow.Author.Tests.{ne-eqb}
 use mathlib.Core.Path.{sym, _∙_}
 use Rattle.table.specs.Check.{countsOf}

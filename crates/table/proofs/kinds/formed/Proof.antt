@@ -1,3 +1,4 @@
+-- `kinds::formed` meets its contract: each arm of the match is a case of `fields`, by a law of `KindLaws`.
 use borrow.Author.Tests.{eq-eqb, ne-eqb, le-leb, lt-leb}
 use native.Mathlib.Omega.{arith}
 use mathlib.Core.Path.{sym, _∙_}

@@ -1,3 +1,4 @@
+-- `kinds::operation_counts` meets its contract: each arm of the match is a case of `operationCounts`.
 use borrow.Author.Tests.{ne-eqb, le-leb, lt-leb}
 use native.Mathlib.Omega.{arith}
 use Rattle.table.specs.Check.{operationCounts}

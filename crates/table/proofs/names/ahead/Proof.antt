@@ -1,3 +1,4 @@
+-- `names::ahead` meets its contract, by the test on the numbers and the promise of `slot`.
 use borrow.Author.Tests.{lt-ltb, le-ltb}
 use native.Mathlib.Omega.{arith}
 use borrow.Author.Needs.{needs}

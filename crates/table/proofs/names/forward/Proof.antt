@@ -1,3 +1,4 @@
+-- `names::forward` meets its contract: a link is 0, leads on, or leads back.
 use borrow.Author.Tests.{eq-eqb, ne-eqb, lt-ltb, le-ltb}
 use Rattle.table.proofs.names.forward.Statement.{statement}
 use Rattle.table.proofs.names.forward.Tie as tie

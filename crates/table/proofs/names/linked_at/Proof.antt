@@ -1,3 +1,4 @@
+-- `names::linked_at` meets its contract: the tests are those of `linkedBy`, in its order.
 use borrow.Author.Tests.{eq-eqb, ne-eqb, not-true, not-false}
 use mathlib.Core.Path.{sym, _∙_}
 use borrow.Author.Needs.{needs}

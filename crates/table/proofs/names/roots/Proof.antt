@@ -41,7 +41,8 @@ module _ (c : Turn) where
 abbrev turn : tie.After-function Inv-loop μ-loop → Turn
 turn c = search
 
-filled : (c : tie.After-function Inv-loop μ-loop) → Filled (s (turn c) .args .table .now) (l (turn c) .loop .f + 1) 0 0 (c .function .last .1 .1 .0)
+filled : (c : tie.After-function Inv-loop μ-loop)
+    → Filled (s (turn c) .args .table .now) (l (turn c) .loop .f + 1) 0 0 (c .function .last .1 .1 .0)
 filled c =
     let t = turn c in
     filled-function _ _ _ (omega (arith, function t .1, s t .pre .0 .F-high)) (l t .loop .inv .2) _ (c .function .ensures)

@@ -1,3 +1,4 @@
+-- `names::slot` meets its contract, by the test on the number.
 use borrow.Author.Tests.{le-leb, lt-leb}
 use borrow.Author.Needs.{needs}
 use native.Mathlib.Omega.{arith}

@@ -1,3 +1,4 @@
+-- `read::byte_at` meets its contract: past the end, the list's default is 0 too.
 use mathlib.Core.Path.{sym}
 use lib.ListN.{List·getD-eq-default}
 use borrow.Author.Needs.{needs}

@@ -1,3 +1,4 @@
+-- `read::extra` meets its contract: byte 1 of the node's record.
 use mathlib.Core.Path.{ap, _∙_}
 use Prim.Native.Nat.{_+_}
 use Rattle.table.specs.Bytes.{byteAt, extra}

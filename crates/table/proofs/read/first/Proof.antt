@@ -1,3 +1,4 @@
+-- `read::first` meets its contract: bytes 6 and 7 of the node's record.
 use mathlib.Core.Path.{ap, _∙_}
 use Prim.Native.Nat.{_+_}
 use Rattle.table.specs.Bytes.{twoAt, first}

@@ -1,3 +1,4 @@
+-- `read::four_at` meets its contract, by the promises for its two halves.
 use native.Mathlib.Omega.{arith}
 use Rattle.table.specs.Bytes.{fourAt}
 use borrow.Author.Needs.{needs}

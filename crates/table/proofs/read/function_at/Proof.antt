@@ -1,3 +1,4 @@
+-- `read::function_at` meets its contract: `functionAt`, 0 read as 1, and a bound for the sums of its callers.
 use native.Mathlib.Omega.{arith}
 use Rattle.table.specs.Bytes.{functionAt}
 use borrow.Author.Needs.{needs}

@@ -1,3 +1,4 @@
+-- `read::functions` meets its contract: F is the table's first two bytes.
 use Rattle.table.specs.Bytes.{functions}
 use borrow.Author.Needs.{needs}
 use Rattle.table.proofs.read.functions.Statement.{statement}

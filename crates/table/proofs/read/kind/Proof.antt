@@ -1,3 +1,4 @@
+-- `read::kind` meets its contract: byte 0 of the node's record.
 use mathlib.Core.Path.{ap, _∙_}
 use Rattle.table.specs.Bytes.{byteAt, kind}
 use borrow.Author.Needs.{needs}

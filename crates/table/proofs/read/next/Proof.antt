@@ -1,3 +1,4 @@
+-- `read::next` meets its contract: bytes 8 and 9 of the node's record.
 use mathlib.Core.Path.{ap, _∙_}
 use Prim.Native.Nat.{_+_}
 use Rattle.table.specs.Bytes.{twoAt, next}

@@ -1,3 +1,4 @@
+-- `read::node_at` meets its contract: `nodeAt`, 0 read as 1, and a bound for the sums of its callers.
 use native.Mathlib.Omega.{arith}
 use Rattle.table.specs.Bytes.{nodeAt, functions}
 use borrow.Author.Needs.{needs}

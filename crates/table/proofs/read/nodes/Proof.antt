@@ -1,3 +1,4 @@
+-- `read::nodes` meets its contract: N is the two bytes after F.
 use Rattle.table.specs.Bytes.{nodes}
 use borrow.Author.Needs.{needs}
 use Rattle.table.proofs.read.nodes.Statement.{statement}

@@ -1,3 +1,4 @@
+-- `read::params` meets its contract: byte 0 of the function's record.
 use mathlib.Core.Path.{ap, _∙_}
 use Rattle.table.specs.Bytes.{byteAt, params}
 use borrow.Author.Needs.{needs}

@@ -1,3 +1,4 @@
+-- `read::root` meets its contract: bytes 2 and 3 of the function's record.
 use mathlib.Core.Path.{ap, _∙_}
 use Prim.Native.Nat.{_+_}
 use Rattle.table.specs.Bytes.{twoAt, root}

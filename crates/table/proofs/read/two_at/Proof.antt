@@ -1,3 +1,4 @@
+-- `read::two_at` meets its contract, by the promises for its two bytes.
 use native.Mathlib.Omega.{arith}
 use Rattle.table.specs.Bytes.{twoAt}
 use borrow.Author.Needs.{needs}

@@ -1,3 +1,4 @@
+-- `read::word` meets its contract: bytes 2 to 5 of the node's record.
 use mathlib.Core.Path.{ap, _∙_}
 use Prim.Native.Nat.{_+_}
 use Rattle.table.specs.Bytes.{fourAt, word}
