@@ -25,7 +25,7 @@ use Rattle.rules.specs.Step.{act}
 use Rattle.rules.specs.Operations.{operate}
 use Rattle.rules.specs.Circuit.{actOf}
 use Rattle.table.specs.Working.{Taken}
-use Rattle.circuit.specs.Plan.{allDone, initial, lastFrom, given, opens, passed}
+use Rattle.circuit.specs.Working.{allDone, initial, lastFrom, given, opens, passed}
 use Rattle.circuit.proofs.ChainLaws.{ok}
 use Rattle.rules.proofs.AnyState.{bound-node}
 

@@ -14,7 +14,7 @@ use Rattle.rules.specs.State.{write, fill, blank, circuitStart}
 use Rattle.rules.specs.Circuit.{started, turned, startOf, checkStart, startAfter}
 use Rattle.circuit.specs.Meaning.{stateAs}
 use Rattle.table.specs.Working.{Taken}
-use Rattle.circuit.specs.Plan.{Agreed}
+use Rattle.circuit.specs.Working.{Agreed}
 use Rattle.circuit.proofs.TurnLaws.{main-root}
 use Rattle.table.specs.Check as TableCheck
 

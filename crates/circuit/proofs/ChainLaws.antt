@@ -19,7 +19,7 @@ use mathlib.Core.Logic.{_⊎_, inl, inr}
 use Rattle.rules.specs.State.{write, opened}
 use Rattle.rules.specs.Operations.{lastValue, wrap, operate}
 use Rattle.table.specs.Working.{Taken}
-use Rattle.circuit.specs.Plan.{allDone, initial, leading, lastFrom, operateBy}
+use Rattle.circuit.specs.Working.{allDone, initial, leading, lastFrom, operateBy}
 
 -- what is left of a chain
 abbrev pub rest : List ℕ → ℕ → ℕ

@@ -22,7 +22,7 @@ use Rattle.rules.specs.Circuit.{actOf, circuitOf, stepOf, playOf, Possible}
 use Rattle.rules.specs.Runs.{standing, MainDone, Ended, gave, atRest, spent, barred, Driven, Says, Picks, DrivesAfter, Drives, Found}
 use Rattle.rules.specs.Runs.{names, nothing, unasked, FindsAfter, Finds}
 use Rattle.circuit.specs.declared.changes.Effect.{Effect}
-use Rattle.circuit.specs.Plan.{Agreed, Stands, goes, FoundAt, Tried, FindsIn, EndsIn, movedOf}
+use Rattle.circuit.specs.Working.{Agreed, Stands, goes, FoundAt, Tried, FindsIn, EndsIn, movedOf}
 use Rattle.rules.proofs.AnyState.{done-none}
 use Rattle.rules.proofs.RunFacts.{play-state, play-nodes}
 use Rattle.circuit.proofs.StandsLaws.{kept}
@@ -162,7 +162,8 @@ module _ (t tags : List ℕ) (ag : Agreed t tags) (s₀ s : State512) (k : ℕ) 
   unfolding playOf
   play-to n = refl
 
-  pub drove-next : (top x : ℕ) → top ≡ root t (functions t) → x ≡ entry (s .status) 0 top → (x ≡ 3 → ⊥) → (n : ℕ) (f : Effect) (s′ : State512)
+  pub drove-next : (top x : ℕ) → top ≡ root t (functions t) → x ≡ entry (s .status) 0 top → (x ≡ 3 → ⊥)
+      → (n : ℕ) (f : Effect) (s′ : State512)
       → Tried t s n f s′ → movedOf f ≡ true → DroveTo t tags s₀ s′ (k + 1)
   drove-next top x et ex dn n f s′ tr c =
       let h = tr .taken c in

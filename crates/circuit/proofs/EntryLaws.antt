@@ -19,7 +19,7 @@ use Rattle.rules.specs.Circuit.{circuitOf, stepOf}
 use Rattle.rules.specs.Runs.{standing, Ran, whole, stopped, andThen, runFrom, runOf}
 use Rattle.circuit.specs.Meaning.{numbers, stateAs}
 use Rattle.table.specs.Working.{Taken}
-use Rattle.circuit.specs.Plan.{Stands, Agreed, strayIn}
+use Rattle.circuit.specs.Working.{Stands, Agreed, strayIn}
 use Rattle.circuit.proofs.TurnLaws.{fair-from, step-is, turn-stands, turn-stray, turn-stray′}
 use Rattle.rules.proofs.Demands.{after-both}
 

@@ -14,3 +14,4 @@ pub mod SearchLaws
 pub mod BeginLaws
 pub mod DriveLaws
 pub mod EntryDemand
+pub mod Theorems

@@ -18,7 +18,7 @@ use Rattle.table.specs.Working.{Taken}
 use Rattle.table.specs.Working.{IsNode}
 use Rattle.rules.specs.Circuit.{actOf}
 use Rattle.circuit.specs.Meaning.{stateAs}
-use Rattle.circuit.specs.Plan.{allDone, initial, leading, lastFrom, given, opens, passed, operateBy}
+use Rattle.circuit.specs.Working.{allDone, initial, leading, lastFrom, given, opens, passed, operateBy}
 use Rattle.circuit.proofs.ActBy.{open-is, busy-is, openBy, primBy, selfBy, callBy, branchBy, condBy, bindBy, busyBy}
 use Rattle.circuit.proofs.ChainLaws.{chain-end, chain-here, next-in, operate-by}
 
@@ -207,7 +207,8 @@ module _ (t : List ℕ) (fair : Taken t) (n : ℕ) (i : IsNode t n) (a : List �
     pub acts-leaf : (kind t n ≡ 3 → ⊥) → (kind t n ≡ 4 → ⊥) → (kind t n ≡ 5 → ⊥) → (kind t n ≡ 6 → ⊥) → x ≡ stuck
         → x ≡ actOf t (stateAs a b c d e) n
     unfolding busyBy
-    acts-leaf p q r u z = by (z ∙ sym (rw (ne-eqb (kind t n) 3 p, ne-eqb (kind t n) 4 q, ne-eqb (kind t n) 5 r, ne-eqb (kind t n) 6 u) refl))
+    acts-leaf p q r u z = by (z ∙ sym (rw (ne-eqb (kind t n) 3 p, ne-eqb (kind t n) 4 q, ne-eqb (kind t n) 5 r, ne-eqb (kind t n) 6 u)
+        refl))
 
 -- beside gives the last value, and no other operation looks at it
 op-last : (op x y z : ℕ) → 9 < op → operateBy op x y z ≡ z

@@ -16,7 +16,7 @@ use Rattle.table.specs.Naming.{owner}
 use Rattle.table.specs.Expressions.{bodyOf}
 use Rattle.rules.specs.State.{State512, entry, write, clear, opened}
 use Rattle.rules.specs.Step.{Move, begins, turns, finishes, enters, leaves, restarts, mine, perform, over}
-use Rattle.circuit.specs.Plan.{Stands}
+use Rattle.circuit.specs.Working.{Stands}
 use Rattle.rules.proofs.StateLaws.{entry-same, entry-other, length-write, length-clear, clear-mine, clear-other}
 use Rattle.rules.proofs.Bounded.{over-none}
 

@@ -19,7 +19,7 @@ use Rattle.circuit.specs.Meaning.{stateAs}
 use Rattle.table.specs.Working.{Taken}
 use Rattle.circuit.specs.declared.changes.Effect.{Effect}
 use Rattle.circuit.specs.declared.changes.Effect.the-variants as Effect
-use Rattle.circuit.specs.Plan.{initial, leading, given, opens, Took}
+use Rattle.circuit.specs.Working.{initial, leading, given, opens, Took}
 use Rattle.rules.proofs.Demands.{lay}
 use Rattle.rules.proofs.Performed.{FairAct}
 use Rattle.rules.proofs.StepTaken.{act-fair}
@@ -35,7 +35,8 @@ module _ (t : List ℕ) (n k : ℕ) (ek : k ≡ kind t n) (c : ℕ) (ec : c ≡ 
   unfolding opens children
   begin-let h l′ e′ = e′ ∙ (λ i. opened (e i) (initial (chain t (ec i)))) ∙ sym (rw (sym ek ∙ h) refl)
 
-  pub begin-all : (k ≡ 5 → ⊥) → (k ≡ 6 → ⊥) → (l′ : List ℕ) → l′ ≡ opened l (leading false (chain t c)) → l′ ≡ opened (write l₀ n 2) (opens t n)
+  pub begin-all : (k ≡ 5 → ⊥) → (k ≡ 6 → ⊥) → (l′ : List ℕ) → l′ ≡ opened l (leading false (chain t c)) → l′
+      ≡ opened (write l₀ n 2) (opens t n)
   unfolding opens children
   begin-all p q l′ e′ = e′ ∙ (λ i. opened (e i) (chain t (ec i)))
       ∙ sym (rw (ne-eqb (kind t n) 5 (λ z. p (ek ∙ z)), ne-eqb (kind t n) 6 (λ z. q (ek ∙ z))) refl)

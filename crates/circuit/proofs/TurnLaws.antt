@@ -28,7 +28,7 @@ use Rattle.rules.specs.Circuit.{actOf, circuitOf, stepAfter, stepOf}
 use Rattle.table.specs.Working.{Taken}
 use Rattle.circuit.specs.declared.changes.Effect.{Effect}
 use Rattle.circuit.specs.declared.changes.Effect.the-variants as Effect
-use Rattle.circuit.specs.Plan.{Took, Stands, goes, movedOf}
+use Rattle.circuit.specs.Working.{Took, Stands, goes, movedOf}
 use Rattle.rules.proofs.Demands.{after-both}
 use Rattle.circuit.proofs.StandsLaws.{kept}
 use Rattle.circuit.proofs.ChainLaws.{ok}
@@ -105,7 +105,8 @@ module _ (t tags : List ℕ) (fair : Taken t) (s : State512) (n : ℕ) where
     clash : (x y : Effect) → f ≡ x → f ≡ y → movedOf x ≡ true → movedOf y ≡ false → ⊥
     clash x y p q u v = let e : x ≡ y = sym p ∙ q in let w = ap movedOf e in let z : _≡_ {A = ℕ} 0 1 = cc in omega arith
 
-    pub out-stuck : (a : Act) → Took t s n a f s′ → f ≡ Effect.Stuck → _≡_ {A = Stepped} (record { answer = denied 21 n; state = s′ }) (Out a)
+    pub out-stuck : (a : Act) → Took t s n a f s′ → f ≡ Effect.Stuck → _≡_ {A = Stepped} (record { answer = denied 21 n; state = s′ })
+        (Out a)
     out-stuck stuck h e = λ i. record { answer = denied 21 n; state = h .1 i }
     out-stuck blocked h e = absurd (let q = sym e ∙ h .0 in let z : _≡_ {A = ℕ} 0 1 = cc in omega arith)
     out-stuck (does m) h e = absurd (clash Effect.Moved Effect.Stuck (h .0) e refl refl)

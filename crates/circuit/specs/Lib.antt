@@ -1,3 +1,3 @@
 pub mod Meaning
-pub mod Plan
+pub mod Working
 pub mod Entries

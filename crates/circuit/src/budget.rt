@@ -16,7 +16,7 @@ ghost use Prim.Native.Nat.{_≤_};
 ghost use Rattle.table.specs.Bytes.{functions, root};
 ghost use Rattle.rules.specs.Runs.{Picks};
 ghost use Rattle.circuit.specs.Meaning.{listsOf, drivenOf, foundOf, endedOf, stateAs};
-ghost use Rattle.circuit.specs.Plan.{Agreed, Stands, FindsIn, EndsIn};
+ghost use Rattle.circuit.specs.Working.{Agreed, Stands, FindsIn, EndsIn};
 ghost use Rattle.table.specs.Working.{Read};
 
 // None once main's root is done, else the first node that has a move.

@@ -16,7 +16,7 @@ ghost use Rattle.table.specs.Bytes.{nodes};
 ghost use Rattle.table.specs.Working.{IsNode, Read};
 ghost use Rattle.rules.specs.State.{entry};
 ghost use Rattle.circuit.specs.Meaning.{stateAs};
-ghost use Rattle.circuit.specs.Plan.{Grouped, FoundAt, Tried, movedOf};
+ghost use Rattle.circuit.specs.Working.{Grouped, FoundAt, Tried, movedOf};
 
 // One candidate less.
 pub(crate) fn less(height: usize) -> usize

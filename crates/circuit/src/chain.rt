@@ -14,7 +14,7 @@ ghost use Rattle.rules.specs.Operations.{operate};
 ghost use mathlib.Core.Bool.{_&&_};
 ghost use lib.Dec.{eqb};
 ghost use Rattle.table.specs.Working.{Read};
-ghost use Rattle.circuit.specs.Plan.{allDone, leading, lastFrom};
+ghost use Rattle.circuit.specs.Working.{allDone, leading, lastFrom};
 
 // Whether the node at c and all that follow it are done; of a let (defs) all but the last.
 pub(crate) fn all_done(table: &[u8], cells: &Cells, status: &[u8; 512], c: Node, defs: bool) -> bool

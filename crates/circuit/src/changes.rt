@@ -19,7 +19,7 @@ ghost use Rattle.rules.specs.State.{entry, write, opened, clear, fill};
 ghost use Rattle.rules.specs.Step.{mine};
 ghost use Rattle.rules.specs.Circuit.{actOf};
 ghost use Rattle.circuit.specs.Meaning.{stateAs};
-ghost use Rattle.circuit.specs.Plan.{Grouped, after, opens, Took};
+ghost use Rattle.circuit.specs.Working.{Grouped, after, opens, Took};
 
 // What a register gets from the argument at `at`, and the argument after it; past the last argument, zero.
 pub struct Handed {

@@ -19,7 +19,7 @@ ghost use Rattle.rules.specs.Step.{refusal};
 ghost use Rattle.rules.specs.Circuit.{circuitOf};
 ghost use Rattle.rules.specs.Runs.{runFrom, stopped, Ran as RanAs};
 ghost use Rattle.circuit.specs.Meaning.{listsOf, steppedOf, ranOf};
-ghost use Rattle.circuit.specs.Plan.{Stands, Agreed, Admitted, strayIn};
+ghost use Rattle.circuit.specs.Working.{Stands, Agreed, Admitted, strayIn};
 ghost use Rattle.table.specs.Working.{Read};
 
 // A refusal leaves the state as it is.

@@ -1,7 +1,7 @@
 // The operations of a primitive: 32-bit, add, subtract and double wrap.
 ghost use mathlib.Core.Path.{_≡_};
 ghost use Rattle.table.specs.Pick.{pick};
-ghost use Rattle.circuit.specs.Plan.{operateBy};
+ghost use Rattle.circuit.specs.Working.{operateBy};
 
 // Of two values; `last` is what beside gives.
 pub(crate) fn of_two(op: u16, x: u32, y: u32, last: u32) -> u32

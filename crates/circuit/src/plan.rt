@@ -17,7 +17,7 @@ ghost use Rattle.table.specs.Naming.{owner};
 ghost use Rattle.table.specs.Working.{IsNode, Read};
 ghost use Rattle.rules.specs.Circuit.{actOf};
 ghost use Rattle.circuit.specs.Meaning.{stateAs};
-ghost use Rattle.circuit.specs.Plan.{planned, passed};
+ghost use Rattle.circuit.specs.Working.{planned, passed};
 
 // What a node would do: no step (21), none while the resource is occupied (22 or 23), or a move. The nodes that it opens and the
 // arguments that it hands over are read off the table when it moves.
@@ -111,7 +111,8 @@ fn busy_primitive(
     value: &[u32; 512],
     n: Node,
 ) -> Plan
-    requires { ⌜ Read (now table) (now cells) × IsNode (now table) (n .0) × (entry (now status) 0 (n .0) ≡ 2) × (kind (now table) (n .0) ≡ 3) ⌝ }
+    requires { ⌜ Read (now table) (now cells) × IsNode (now table) (n .0) × (entry (now status) 0 (n .0) ≡ 2)
+        × (kind (now table) (n .0) ≡ 3) ⌝ }
     ensures { λ r. ⌜ ((b : List Bool) (d e : List ℕ) → planned (now (table .entry)) (now (value .entry)) (n .0) r
         ≡ actOf (now (table .entry)) (stateAs (now (status .entry)) b (now (value .entry)) d e) (n .0)) ⌝ }
 {
@@ -132,7 +133,8 @@ fn busy_call(
     occupant: &[u16; 32],
     n: Node,
 ) -> Plan
-    requires { ⌜ Read (now table) (now cells) × IsNode (now table) (n .0) × (entry (now status) 0 (n .0) ≡ 2) × (kind (now table) (n .0) ≡ 4) ⌝ }
+    requires { ⌜ Read (now table) (now cells) × IsNode (now table) (n .0) × (entry (now status) 0 (n .0) ≡ 2)
+        × (kind (now table) (n .0) ≡ 4) ⌝ }
     ensures { λ r. ⌜ ((d : List ℕ) → planned (now (table .entry)) (now (value .entry)) (n .0) r
         ≡ actOf (now (table .entry)) (stateAs (now (status .entry)) (now (second .entry)) (now (value .entry)) d
         (now (occupant .entry))) (n .0)) ⌝ }
@@ -146,7 +148,8 @@ fn busy_call(
 
 // A self call: its function starts again once the arguments are done.
 fn again(table: &[u8], cells: &Cells, status: &[u8; 512], n: Node) -> Plan
-    requires { ⌜ Read (now table) (now cells) × IsNode (now table) (n .0) × (entry (now status) 0 (n .0) ≡ 2) × (kind (now table) (n .0) ≡ 4)
+    requires { ⌜ Read (now table) (now cells) × IsNode (now table) (n .0) × (entry (now status) 0 (n .0) ≡ 2)
+        × (kind (now table) (n .0) ≡ 4)
         × (word (now table) (n .0) ≡ owner (now table) (n .0)) ⌝ }
     ensures { λ r. ⌜ ((b : List Bool) (value d e : List ℕ) → planned (now (table .entry)) value (n .0) r
         ≡ actOf (now (table .entry)) (stateAs (now (status .entry)) b value d e) (n .0)) ⌝ }
@@ -170,7 +173,8 @@ fn across(
     g: Function,
     n: Node,
 ) -> Plan
-    requires { ⌜ Read (now table) (now cells) × IsNode (now table) (n .0) × (entry (now status) 0 (n .0) ≡ 2) × (kind (now table) (n .0) ≡ 4)
+    requires { ⌜ Read (now table) (now cells) × IsNode (now table) (n .0) × (entry (now status) 0 (n .0) ≡ 2)
+        × (kind (now table) (n .0) ≡ 4)
         × (g .0 ≡ word (now table) (n .0)) × (word (now table) (n .0) ≡ owner (now table) (n .0) → ⊥) ⌝ }
     ensures { λ r. ⌜ ((d : List ℕ) → planned (now (table .entry)) (now (value .entry)) (n .0) r
         ≡ actOf (now (table .entry)) (stateAs (now (status .entry)) (now (second .entry)) (now (value .entry)) d
@@ -215,7 +219,8 @@ fn busy_if(
     value: &[u32; 512],
     n: Node,
 ) -> Plan
-    requires { ⌜ Read (now table) (now cells) × IsNode (now table) (n .0) × (entry (now status) 0 (n .0) ≡ 2) × (kind (now table) (n .0) ≡ 5) ⌝ }
+    requires { ⌜ Read (now table) (now cells) × IsNode (now table) (n .0) × (entry (now status) 0 (n .0) ≡ 2)
+        × (kind (now table) (n .0) ≡ 5) ⌝ }
     ensures { λ r. ⌜ ((d e : List ℕ) → planned (now (table .entry)) (now (value .entry)) (n .0) r
         ≡ actOf (now (table .entry)) (stateAs (now (status .entry)) (now (second .entry)) (now (value .entry)) d e) (n .0)) ⌝ }
 {
@@ -239,7 +244,8 @@ fn busy_let(
     value: &[u32; 512],
     n: Node,
 ) -> Plan
-    requires { ⌜ Read (now table) (now cells) × IsNode (now table) (n .0) × (entry (now status) 0 (n .0) ≡ 2) × (kind (now table) (n .0) ≡ 6) ⌝ }
+    requires { ⌜ Read (now table) (now cells) × IsNode (now table) (n .0) × (entry (now status) 0 (n .0) ≡ 2)
+        × (kind (now table) (n .0) ≡ 6) ⌝ }
     ensures { λ r. ⌜ ((d e : List ℕ) → planned (now (table .entry)) (now (value .entry)) (n .0) r
         ≡ actOf (now (table .entry)) (stateAs (now (status .entry)) (now (second .entry)) (now (value .entry)) d e) (n .0)) ⌝ }
 {

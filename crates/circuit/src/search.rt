@@ -9,7 +9,7 @@ ghost use mathlib.Core.List.{List};
 ghost use Prim.Native.Nat.{ℕ};
 ghost use Rattle.table.specs.Working.{Read};
 ghost use Rattle.circuit.specs.Meaning.{stateAs};
-ghost use Rattle.circuit.specs.Plan.{planned, goes, FoundAt};
+ghost use Rattle.circuit.specs.Working.{planned, goes, FoundAt};
 
 // Whether a plan is a move.
 fn moves(p: Plan) -> bool

@@ -17,7 +17,7 @@ ghost use Rattle.rules.specs.State.{entry};
 ghost use Rattle.rules.specs.Step.{Stepped, answered, taken};
 ghost use Rattle.rules.specs.Circuit.{circuitOf};
 ghost use Rattle.circuit.specs.Meaning.{replyOf, stateAs};
-ghost use Rattle.circuit.specs.Plan.{Grouped, Stands};
+ghost use Rattle.circuit.specs.Working.{Grouped, Stands};
 
 // 22 for a tagged call, 23 for one that isn't.
 fn held(tags: &[u8], n: Node) -> u8

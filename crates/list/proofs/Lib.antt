@@ -28,3 +28,4 @@ pub mod TagLoops
 pub mod TagVerdicts
 pub mod PaperList
 pub mod SmallDesigns
+pub mod Theorems

@@ -28,3 +28,4 @@ pub mod CountLaws
 pub mod Accepted
 pub mod LaidOut
 pub mod CheckedDesigns
+pub mod Theorems

@@ -58,7 +58,8 @@ pub(crate) fn collect(
     roots: &[u16; 513],
     namers: &[u16; 513],
 ) -> [bool; 513]
-    requires { ⌜ Framed (now table) × Tops (now table) (now roots) × Holders (now table) (now namers) × Filled (now table) (functions (now table)) (nodes (now table)) 0
+    requires { ⌜ Framed (now table) × Tops (now table) (now roots) × Holders (now table) (now namers)
+        × Filled (now table) (functions (now table)) (nodes (now table)) 0
         (now cells) ⌝ }
     ensures { λ r. ⌜ Tails (now (table .entry)) r × Filled (now (table .entry)) (functions (now (table .entry)))
         (nodes (now (table .entry))) (nodes (now (table .entry))) (now (cells .exit)) ⌝ }

@@ -37,7 +37,8 @@ pub(crate) fn roots(
     mentions: &mut [u16; 513],
     roots: &mut [u16; 513],
 )
-    requires { ⌜ Framed (now table) × Filled (now table) 0 0 0 (now cells) × (now mentions ≡ replicate 513 0) × (now roots ≡ replicate 513 0) ⌝ }
+    requires { ⌜ Framed (now table) × Filled (now table) 0 0 0 (now cells) × (now mentions ≡ replicate 513 0)
+        × (now roots ≡ replicate 513 0) ⌝ }
     ensures { λ _. ⌜ Rooted (now (table .entry)) (now (mentions .exit)) (now (roots .exit))
         × Filled (now (table .entry)) (functions (now (table .entry))) 0 0 (now (cells .exit)) ⌝ }
 {

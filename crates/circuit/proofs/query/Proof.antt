@@ -39,7 +39,8 @@ returns-2 c =
     let found : tie.After-admit = search in
     let s : tie.Start = search in
     let a = admitted-from _ _ (listsOf (s .args .s)) _ _ (sym (found .admit .ensures .told) ∙ ap verdictOf (is .enum-told .given .1)) in
-    finds-on _ _ (listsOf (s .args .s)) (foundOf (c .query .result)) (stand-standing _ _ (a .0) (listsOf (s .args .s)) (a .1)) (c .query .ensures)
+    finds-on _ _ (listsOf (s .args .s)) (foundOf (c .query .result)) (stand-standing _ _ (a .0) (listsOf (s .args .s)) (a .1))
+    (c .query .ensures)
 
 pub query-spec : {M : Type 1} → statement M
 query-spec =

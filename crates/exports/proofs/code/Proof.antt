@@ -1,3 +1,4 @@
+-- `code` meets its contract: verdict by verdict.
 use mathlib.Core.Path.{sym, ap}
 use Rattle.exports.specs.Codes.{codeOf}
 use Rattle.table.specs.Survey.{verdictOf}

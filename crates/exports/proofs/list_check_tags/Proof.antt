@@ -1,3 +1,4 @@
+-- `list_check_tags` meets its contract: by the check of the tags and the code's promise.
 use mathlib.Core.Path.{ap, _∙_}
 use Rattle.exports.specs.Codes.{codeOf}
 use borrow.Author.Needs.{needs}

@@ -1,3 +1,4 @@
+-- `list_fill_tags` meets its contract: by the filling's promise and the code's.
 use mathlib.Core.Path.{ap, _∙_}
 use Rattle.exports.specs.Codes.{codeOf}
 use borrow.Author.Needs.{needs}

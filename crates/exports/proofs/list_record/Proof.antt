@@ -1,3 +1,4 @@
+-- `list_record` meets its contract: a record past the last is 0.
 use mathlib.Core.Path.{_≡_, sym, _∙_}
 use mathlib.Core.List.{List, map}
 use Prim.Native.Nat.{ℕ}

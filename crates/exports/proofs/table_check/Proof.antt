@@ -1,3 +1,4 @@
+-- `table_check` meets its contract: by the check's promise and the code's.
 use mathlib.Core.Path.{ap, _∙_}
 use Rattle.exports.specs.Codes.{codeOf}
 use borrow.Author.Needs.{needs}

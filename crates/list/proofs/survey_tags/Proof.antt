@@ -40,7 +40,11 @@ returns c =
     let f : tie.After-survey = search in
     let is : tie.After-enum-told = search in
     let s = f .survey .ensures in
-    record { checked = ap verdictOf (is .enum-told .given .1) ∙ at-check _ _ _ _ (sym (ap verdictOf (is .enum-told .given .1)) ∙ s .checked); cells = s .cells }
+    record {
+      checked = ap verdictOf (is .enum-told .given .1) ∙ at-check _ _ _ _ (sym (ap verdictOf (is .enum-told .given .1))
+          ∙ s .checked);
+      cells = s .cells;
+    }
 
 returns-2 : tie.Need-returns-2
 returns-2 c =

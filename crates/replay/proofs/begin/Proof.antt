@@ -1,3 +1,4 @@
+-- `begin` never goes past an array: the tags and the values lie in the room they were given.
 use native.Mathlib.Omega.{arith}
 use borrow.Author.Needs.{needs}
 use mathlib.Core.Path.{_≡_, sym}

@@ -1,3 +1,4 @@
+-- `equip` never goes past an array: the tag list is no longer than its room.
 use native.Mathlib.Omega.{arith}
 use borrow.Author.Needs.{needs}
 use mathlib.Core.Path.{sym}

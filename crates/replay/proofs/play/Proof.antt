@@ -1,3 +1,4 @@
+-- `play` ends and never goes past an array: it takes two bytes for each step asked.
 use native.Mathlib.Omega.{arith}
 use borrow.Author.Needs.{needs}
 use Prim.Native.Nat.{_-_, _≤_}

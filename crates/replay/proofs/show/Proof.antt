@@ -1,3 +1,4 @@
+-- `show` ends and never goes past an array: it shows each node and each function once.
 use native.Mathlib.Omega.{arith}
 use borrow.Author.Needs.{needs}
 use Prim.Native.Nat.{_-_, _≤_}

@@ -1,3 +1,4 @@
+-- `arrays::named` meets its contract: entry by entry, each number becomes the node it names.
 use native.Mathlib.Omega.{arith}
 use borrow.Author.Needs.{needs}
 use mathlib.Core.Path.{_≡_, refl, sym, ap, _∙_}

@@ -1,3 +1,4 @@
+-- `arrays::plain` meets its contract: entry by entry, each node becomes its number.
 use native.Mathlib.Omega.{arith}
 use borrow.Author.Needs.{needs}
 use mathlib.Core.Path.{_≡_, refl, sym, _∙_}

@@ -1,3 +1,4 @@
+-- `begin::argument` meets its contract: past the last argument there is zero.
 use borrow.Author.Needs.{needs}
 use mathlib.Core.Path.{sym}
 use lib.ListN.{List·getD-eq-default}

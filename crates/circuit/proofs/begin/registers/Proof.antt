@@ -1,3 +1,4 @@
+-- `begin::registers` meets its contract: main's eight registers are written one after the other.
 use native.Mathlib.Omega.{arith}
 use borrow.Author.Needs.{needs}
 use mathlib.Core.Path.{_≡_, refl, ap, _∙_}

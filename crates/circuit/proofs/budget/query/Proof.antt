@@ -3,7 +3,7 @@ use mathlib.Core.Path.{_≡_, sym, subst}
 use Rattle.rules.specs.State.{State512}
 use Rattle.rules.specs.Runs.{Found, names, nothing}
 use Rattle.circuit.specs.Meaning.{listsOf, stateAs}
-use Rattle.circuit.specs.Plan.{Stands, FindsIn}
+use Rattle.circuit.specs.Working.{Stands, FindsIn}
 use Rattle.circuit.proofs.DriveLaws.{query-done, query-none, query-some}
 use borrow.Author.Needs.{needs}
 use Rattle.circuit.proofs.budget.query.Statement.{statement}
@@ -51,7 +51,8 @@ returns c =
     let at : tie.After-status-at = search in
     let top : tie.After-top = search in
     let p = plain top in
-    finds p nothing (query-done _ _ (begin p .pre .1) (state p) (stands p) _ _ (top .top .ensures .0) (at .status-at .ensures) (c .if1 .taken))
+    finds p nothing (query-done _ _ (begin p .pre .1) (state p) (stands p) _ _ (top .top .ensures .0) (at .status-at .ensures)
+    (c .if1 .taken))
 
 find-requires : tie.Need-find-requires
 find-requires c κs =
@@ -64,7 +65,8 @@ returns-2 c =
     let at : tie.After-status-at = search in
     let top : tie.After-top = search in
     let p = plain top in
-    finds p nothing (query-none _ _ (begin p .pre .1) (state p) (stands p) _ _ (top .top .ensures .0) (at .status-at .ensures) _ (n .find .ensures)
+    finds p nothing (query-none _ _ (begin p .pre .1) (state p) (stands p) _ _ (top .top .ensures .0) (at .status-at .ensures) _
+    (n .find .ensures)
     (c .if2 .taken))
 
 returns-3 : tie.Need-returns-3
@@ -74,7 +76,8 @@ returns-3 c =
     let at : tie.After-status-at = search in
     let top : tie.After-top = search in
     let p = plain top in
-    finds p (names (n .find .result .0)) (query-some _ _ (begin p .pre .1) (state p) (stands p) _ _ (top .top .ensures .0) (at .status-at .ensures)
+    finds p (names (n .find .result .0)) (query-some _ _ (begin p .pre .1) (state p) (stands p) _ _ (top .top .ensures .0)
+    (at .status-at .ensures)
     (on .if1 .left) _ (n .find .ensures) (c .if2 .left))
 
 pub query-spec : {M : Type 1} → statement M

@@ -1,3 +1,4 @@
+-- `candidates::drop_own` meets its contract: what it takes from the stack is not put back.
 use native.Mathlib.Omega.{arith}
 use borrow.Author.Needs.{needs}
 use Prim.Native.Nat.{_≤_}

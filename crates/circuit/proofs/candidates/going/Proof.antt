@@ -1,3 +1,4 @@
+-- `candidates::going` meets its contract: by the budget left.
 use borrow.Author.Needs.{needs}
 use Rattle.circuit.proofs.DriveLaws.{going-rest, going-on, going-spent}
 use Rattle.circuit.proofs.candidates.going.Statement.{statement}

@@ -8,7 +8,7 @@ use Rattle.table.specs.Bytes.{nodes, next}
 use Rattle.table.specs.Naming.{chain}
 use Rattle.table.proofs.Reading.{told}
 use Rattle.rules.specs.State.{entry}
-use Rattle.circuit.specs.Plan.{allDone, leading}
+use Rattle.circuit.specs.Working.{allDone, leading}
 use Rattle.circuit.proofs.ChainLaws.{rest, ok, next-in, falls, done-last, done-more, done-stops, done-ends}
 use Rattle.circuit.proofs.chain.all_done.Statement.{statement}
 use Rattle.circuit.proofs.chain.all_done.Tie as tie
@@ -65,7 +65,8 @@ returns c =
     let told : tie.After-ends Inv-loop μ-loop = search in
     let on : Next = search in
     let l = head on in
-    sym (l .loop .inv .1 ∙ done-last _ (start on .pre .0 .taken) (start on .args .defs) _ (turn on .loop-test .taken) (l .loop .inv .0) _ (read on) (entry _ 0)
+    sym (l .loop .inv .1 ∙ done-last _ (start on .pre .0 .taken) (start on .args .defs) _ (turn on .loop-test .taken) (l .loop .inv .0)
+    _ (read on) (entry _ 0)
     (sym (told .ends .ensures) ∙ c .if1 .taken))
 
 status-at-requires : tie.Need-status-at-requires Inv-loop μ-loop
@@ -80,7 +81,8 @@ returns-2 c =
     let told : tie.After-ends Inv-loop μ-loop = search in
     let on = nexts told in
     let l = head on in
-    sym (l .loop .inv .1 ∙ done-stops _ (start on .pre .0 .taken) (start on .args .defs) _ (turn on .loop-test .taken) (l .loop .inv .0) _ (read on) (entry _ 0)
+    sym (l .loop .inv .1 ∙ done-stops _ (start on .pre .0 .taken) (start on .args .defs) _ (turn on .loop-test .taken) (l .loop .inv .0)
+    _ (read on) (entry _ 0)
     (sym (told .ends .ensures) ∙ more .if1 .left) _ (at .status-at .ensures) (c .if2 .taken))
 
 loop-less : tie.Need-loop-less Inv-loop μ-loop
@@ -96,7 +98,8 @@ loop-again c =
     let on = nexts told in
     let l = head on in (
       next-in _ (start on .pre .0 .taken) _ (turn on .loop-test .taken) (l .loop .inv .0) _ (read on),
-      l .loop .inv .1 ∙ done-more _ (start on .pre .0 .taken) (start on .args .defs) _ (turn on .loop-test .taken) (l .loop .inv .0) _ (read on) (entry _ 0)
+      l .loop .inv .1 ∙ done-more _ (start on .pre .0 .taken) (start on .args .defs) _ (turn on .loop-test .taken) (l .loop .inv .0) _
+          (read on) (entry _ 0)
           (sym (told .ends .ensures) ∙ more .if1 .left) _ (at .status-at .ensures) (c .if2 .left),
     )
 

@@ -7,7 +7,7 @@ use Prim.Native.Nat.{_≤_}
 use Rattle.table.specs.Bytes.{nodes, next}
 use Rattle.table.specs.Naming.{chain}
 use Rattle.table.proofs.Reading.{told}
-use Rattle.circuit.specs.Plan.{lastFrom}
+use Rattle.circuit.specs.Working.{lastFrom}
 use Rattle.circuit.proofs.ChainLaws.{rest, next-in, falls, last-more, last-ends}
 use Rattle.circuit.proofs.chain.last_of.Statement.{statement}
 use Rattle.circuit.proofs.chain.last_of.Tie as tie

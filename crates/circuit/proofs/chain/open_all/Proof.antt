@@ -8,7 +8,7 @@ use Rattle.table.specs.Bytes.{nodes, next}
 use Rattle.table.specs.Naming.{chain}
 use Rattle.table.proofs.Reading.{told}
 use Rattle.rules.specs.State.{opened}
-use Rattle.circuit.specs.Plan.{leading}
+use Rattle.circuit.specs.Working.{leading}
 use Rattle.circuit.proofs.ChainLaws.{rest, ok, next-in, falls, open-last, open-more, open-ends}
 use Rattle.circuit.proofs.chain.open_all.Statement.{statement}
 use Rattle.circuit.proofs.chain.open_all.Tie as tie
@@ -64,7 +64,8 @@ returns c =
     let told : tie.After-ends Inv-loop μ-loop = search in
     let on : Next = search in
     let l = head on in
-    sym (l .loop .inv .1 ∙ open-last _ (start on .pre .0 .taken) (start on .args .defs) _ (turn on .loop-test .taken) (l .loop .inv .0) _ (read on) _
+    sym (l .loop .inv .1 ∙ open-last _ (start on .pre .0 .taken) (start on .args .defs) _ (turn on .loop-test .taken) (l .loop .inv .0)
+    _ (read on) _
     (sym (told .ends .ensures) ∙ c .if1 .taken))
 
 set-status-requires : tie.Need-set-status-requires Inv-loop μ-loop
@@ -84,9 +85,11 @@ loop-again c =
     let on = nexts told in
     let l = head on in (
       next-in _ (start on .pre .0 .taken) _ (turn on .loop-test .taken) (l .loop .inv .0) _ (read on),
-      l .loop .inv .1 ∙ open-more _ (start on .pre .0 .taken) (start on .args .defs) _ (turn on .loop-test .taken) (l .loop .inv .0) _ (read on) _
+      l .loop .inv .1 ∙ open-more _ (start on .pre .0 .taken) (start on .args .defs) _ (turn on .loop-test .taken) (l .loop .inv .0) _
+          (read on) _
           (sym (told .ends .ensures) ∙ more .if1 .left)
-          ∙ ap (λ x. opened x (leading (start on .args .defs) (chain (start on .args .table .now) (on .next .result .0)))) (sym (c .set-status .ensures)),
+          ∙ ap (λ x. opened x (leading (start on .args .defs) (chain (start on .args .table .now) (on .next .result .0))))
+          (sym (c .set-status .ensures)),
     )
 
 returns-2 : tie.Need-returns-2 Inv-loop μ-loop

@@ -47,7 +47,8 @@ returns-2 c =
     let beside : tie.Then2 = search in
     let some : tie.Else1 = search in
     let s : tie.Start = search in
-    of-last _ (s .pre .0 .taken) _ _ _ (some .if1 .left) (s .pre .1) (beside .if2 .taken) _ (last .last-of .ensures .0) _ (v .value-at .ensures) _
+    of-last _ (s .pre .0 .taken) _ _ _ (some .if1 .left) (s .pre .1) (beside .if2 .taken) _ (last .last-of .ensures .0) _
+    (v .value-at .ensures) _
     (c .of-two2 .ensures)
 
 value-at-requires-2 : tie.Need-value-at-requires-2
@@ -76,7 +77,8 @@ returns-3 c =
     let two : tie.Else2 = search in
     let some : tie.Else1 = search in
     let s = start d in
-    of-two _ (s .pre .0 .taken) _ _ _ (some .if1 .left) (s .pre .1) (two .if2 .left) _ (read d) _ _ (x .value-at2 .ensures) (y .value-at3 .ensures)
+    of-two _ (s .pre .0 .taken) _ _ _ (some .if1 .left) (s .pre .1) (two .if2 .left) _ (read d) _ _ (x .value-at2 .ensures)
+    (y .value-at3 .ensures)
     _ (c .of-two3 .ensures)
 
 pub operation-spec : {M : Type 1} → statement M

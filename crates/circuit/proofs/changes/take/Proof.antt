@@ -85,7 +85,12 @@ set-occupant-requires-2 c κs =
     let leaves : tie.After-p4 = search in
     let p : tie.After-plan-at = search in
     let s = start p in
-    omega (arith, leave-in _ (s .pre .0 .taken) _ (s .pre .1) _ _ _ _ _ _ _ (act p (leaves .p4 .given .1)) .1, ok _ (s .pre .0 .taken) .F-high)
+    omega (
+      arith,
+      leave-in _ (s .pre .0 .taken) _ (s .pre .1) _ _ _ _ _ _ _ (act p (leaves .p4 .given .1)) .1,
+      ok _ (s .pre .0 .taken)
+          .F-high,
+    )
 
 enum-told-4 : tie.Need-enum-told-4
 enum-told-4 c = search needs

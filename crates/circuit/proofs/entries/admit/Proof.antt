@@ -5,7 +5,7 @@ use Rattle.table.specs.Survey.{verdictOf}
 use Rattle.table.specs.Working.{Read}
 use Rattle.table.proofs.SurveyLaws.{cells-read}
 use Rattle.circuit.specs.Meaning.{listsOf}
-use Rattle.circuit.specs.Plan.{Agreed}
+use Rattle.circuit.specs.Working.{Agreed}
 use Rattle.circuit.proofs.EntryLaws.{agreed-from, stands-from, stray-standing, stand-standing, refused-standing}
 use borrow.Author.Needs.{needs}
 use Rattle.circuit.proofs.entries.admit.Statement.{statement}

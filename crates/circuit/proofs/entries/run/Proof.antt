@@ -1,4 +1,5 @@
--- `entries::run` meets its contract. The invariant: the run of all asked nodes is that of those from i on, i steps later, and the state passes 24.
+-- `entries::run` meets its contract. The invariant: the run of all asked nodes is that of those from i on, i steps later, and
+-- the state passes 24.
 -- The measure is the nodes left.
 use native.Mathlib.Omega.{arith}
 use borrow.Author.Needs.{needs}
@@ -11,7 +12,7 @@ use Rattle.table.specs.Bytes.{nodes}
 use Rattle.rules.specs.State.{State512}
 use Rattle.rules.specs.Runs.{runFrom}
 use Rattle.circuit.specs.Meaning.{listsOf, replyOf, stateAs}
-use Rattle.circuit.specs.Plan.{Stands}
+use Rattle.circuit.specs.Working.{Stands}
 use Rattle.circuit.proofs.EntryLaws.{plus, run-stops, run-takes, run-answers, run-stands, run-ends, run-begins, named-state}
 use Rattle.circuit.proofs.entries.run.Statement.{statement}
 use Rattle.circuit.proofs.entries.run.Tie as tie
@@ -23,7 +24,8 @@ Inv-loop table cells tags nodes heads links status₀ second₀ value₀ registe
     (runFrom table tags (stateAs status second value registers plain) (drop i nodes))) × (length nodes < 18446744073709551616)
 
 abbrev μ-loop : tie.MeasureT-loop
-μ-loop table cells tags nodes heads links status₀ second₀ value₀ registers₀ plain₀ i₀ status second value registers plain i = length nodes - i
+μ-loop table cells tags nodes heads links status₀ second₀ value₀ registers₀ plain₀ i₀ status second value registers plain i = length
+    nodes - i
 
 -- places: the start, the occupants made plain, the loop's head, a turn
 abbrev Start : Type 0
@@ -65,7 +67,8 @@ abbrev state : Head → State512
 state h = let l = h .loop in stateAs (l .status) (l .second) (l .value) (l .registers) (l .plain)
 
 whole : (h : Head) → let a = begin (plain h) .args in
-    runFrom (a .table .now) (a .tags .now) (listsOf (a .s)) (a .nodes .now) ≡ plus (h .loop .i) (runFrom (a .table .now) (a .tags .now) (state h)
+    runFrom (a .table .now) (a .tags .now) (listsOf (a .s)) (a .nodes .now) ≡ plus (h .loop .i)
+    (runFrom (a .table .now) (a .tags .now) (state h)
     (drop (h .loop .i) (a .nodes .now)))
 whole h =
     let a = begin (plain h) .args in
@@ -150,7 +153,8 @@ returns-2 : tie.Need-returns-2 Inv-loop μ-loop
 returns-2 c =
     let out : tie.After-loop Inv-loop μ-loop = search in
     let h : Head = search in
-    run-ends _ _ (begin (plain h) .pre .1) (state h) _ _ (out .loop-test .left) _ (named-state _ _ _ _ (c .named2 .result) _ (c .named2 .ensures))
+    run-ends _ _ (begin (plain h) .pre .1) (state h) _ _ (out .loop-test .left) _
+    (named-state _ _ _ _ (c .named2 .result) _ (c .named2 .ensures))
     ∙ sym (whole h)
 
 pub run-spec : {M : Type 1} → statement M

@@ -37,7 +37,8 @@ returns-2 c =
     let l : tie.After-last = search in
     let some : tie.Else1 = search in
     let s : tie.Start = search in
-    c .refused2 .ensures ∙ turn-past _ _ (s .pre .taken) (listsOf (s .args .s)) _ (some .if1 .left) (omega (arith, past .if2 .taken, last l))
+    c .refused2 .ensures ∙ turn-past _ _ (s .pre .taken) (listsOf (s .args .s)) _ (some .if1 .left)
+    (omega (arith, past .if2 .taken, last l))
 
 strays-requires : tie.Need-strays-requires
 strays-requires c κs =
@@ -55,7 +56,8 @@ returns-3 c =
     let l : tie.After-last = search in
     let some : tie.Else1 = search in
     let s : tie.Start = search in
-    c .refused3 .ensures ∙ step-stray _ _ (s .pre .taken) (listsOf (s .args .s)) _ (some .if1 .left) (omega (arith, inside .if2 .left, last l)) _
+    c .refused3 .ensures ∙ step-stray _ _ (s .pre .taken) (listsOf (s .args .s)) _ (some .if1 .left)
+    (omega (arith, inside .if2 .left, last l)) _
     (told .strays .ensures) (astray .if3 .taken)
 
 step-standing-requires : tie.Need-step-standing-requires

@@ -3,7 +3,7 @@ use mathlib.Core.Path.{_≡_, sym, ap, subst, _∙_}
 use Rattle.rules.specs.State.{State512}
 use Rattle.rules.specs.Circuit.{circuitOf}
 use Rattle.circuit.specs.Meaning.{listsOf, replyOf, stateAs}
-use Rattle.circuit.specs.Plan.{Stands}
+use Rattle.circuit.specs.Working.{Stands}
 use Rattle.circuit.proofs.EntryLaws.{told-stepped}
 use borrow.Author.Needs.{needs}
 use Rattle.circuit.proofs.entries.step_standing.Statement.{statement}

@@ -1,7 +1,8 @@
+-- `operations::of_two` meets its contract: operation by operation.
 use Rattle.circuit.proofs.PlanLaws.{of-other}
 use native.Mathlib.Omega.{arith}
 use mathlib.Core.Path.{sym, _∙_}
-use Rattle.circuit.specs.Plan.{operateBy}
+use Rattle.circuit.specs.Working.{operateBy}
 use Rattle.circuit.proofs.OperationLaws.{doubled, subtracted}
 use borrow.Author.Needs.{needs}
 use Rattle.circuit.proofs.operations.of_two.Statement.{statement}

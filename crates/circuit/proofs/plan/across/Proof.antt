@@ -1,4 +1,5 @@
--- `plan::across` meets its contract: a call in its second phase waits for the callee's root, in its first for its arguments, then for the callee.
+-- `plan::across` meets its contract: a call in its second phase waits for the callee's root, in its first for its arguments,
+-- then for the callee.
 use native.Mathlib.Omega.{arith}
 use mathlib.Core.Path.{_≡_, subst, sym}
 use borrow.Author.Tests.{not-true, not-false}
@@ -116,7 +117,8 @@ returns-4 c =
     let second = phase f in
     let p = begin second .pre in
     λ d. acts-call _ (p .0 .taken) _ (p .1) _ _ _ d _ _ (p .2) (p .3) (p .5) (enter-held _ _ _ _ _ _ _ (p .4) _ (second .second-at .ensures)
-    (first-phase .if1 .left) _ (read f) _ (a .all-done .ensures) (not-false _ (ready .if3 .left)) _ (o .occupant-at .ensures) (c .if4 .taken))
+    (first-phase .if1 .left) _ (read f) _ (a .all-done .ensures) (not-false _ (ready .if3 .left)) _ (o .occupant-at .ensures)
+    (c .if4 .taken))
 
 returns-5 : tie.Need-returns-5
 returns-5 c =
@@ -128,7 +130,8 @@ returns-5 c =
     let second = phase f in
     let p = begin second .pre in
     λ d. acts-call _ (p .0 .taken) _ (p .1) _ _ _ d _ _ (p .2) (p .3) (p .5) (enter-yes _ _ _ _ _ _ _ (p .4) _ (second .second-at .ensures)
-    (first-phase .if1 .left) _ (read f) _ (a .all-done .ensures) (not-false _ (ready .if3 .left)) _ (o .occupant-at .ensures) (c .if4 .left))
+    (first-phase .if1 .left) _ (read f) _ (a .all-done .ensures) (not-false _ (ready .if3 .left)) _ (o .occupant-at .ensures)
+    (c .if4 .left))
 
 pub across-spec : {M : Type 1} → statement M
 across-spec =

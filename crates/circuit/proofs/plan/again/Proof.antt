@@ -30,14 +30,16 @@ returns c =
     let a : tie.After-all-done = search in
     let f : tie.After-first = search in
     let p = start f .pre in
-    λ b v d e. acts-self _ (p .0 .taken) _ (p .1) _ b v d e _ (p .2) (p .3) (p .4) (self-yes _ _ _ _ (read f) _ (a .all-done .ensures) v (c .if1 .taken))
+    λ b v d e. acts-self _ (p .0 .taken) _ (p .1) _ b v d e _ (p .2) (p .3) (p .4)
+    (self-yes _ _ _ _ (read f) _ (a .all-done .ensures) v (c .if1 .taken))
 
 returns-2 : tie.Need-returns-2
 returns-2 c =
     let a : tie.After-all-done = search in
     let f : tie.After-first = search in
     let p = start f .pre in
-    λ b v d e. acts-self _ (p .0 .taken) _ (p .1) _ b v d e _ (p .2) (p .3) (p .4) (self-no _ _ _ _ (read f) _ (a .all-done .ensures) v (c .if1 .left))
+    λ b v d e. acts-self _ (p .0 .taken) _ (p .1) _ b v d e _ (p .2) (p .3) (p .4)
+    (self-no _ _ _ _ (read f) _ (a .all-done .ensures) v (c .if1 .left))
 
 pub again-spec : {M : Type 1} → statement M
 again-spec = tie.close (tie.spec first-requires all-done-requires returns returns-2)

@@ -16,7 +16,8 @@ start c = search
 word-read : (c : tie.After-callee) → c .callee .result .0 ≡ word (start c .args .table .now) (start c .args .n .0)
 word-read c =
     let p = start c .pre in
-    told-low _ _ (p .0) _ (p .1) (omega (arith, callee-in _ (p .0 .taken) _ (p .1) (p .3) .1, ok _ (p .0 .taken) .F-high)) _ (c .callee .ensures)
+    told-low _ _ (p .0) _ (p .1) (omega (arith, callee-in _ (p .0 .taken) _ (p .1) (p .3) .1, ok _ (p .0 .taken) .F-high)) _
+    (c .callee .ensures)
 
 abbrev callees : tie.After-owner → tie.After-callee
 callees c = search

@@ -39,8 +39,12 @@ first-requires c κs = search needs
 
 branch-requires : tie.Need-branch-requires
 branch-requires c κs =
-    let f : tie.After-first = search in
-    (start f .pre .0, condition f, subst (λ m. IsNode (start f .args .table .now) (next (start f .args .table .now) m)) (sym (read f)) (three f .1))
+    let f : tie.After-first = search in (
+      start f .pre .0,
+      condition f,
+      subst (λ m. IsNode (start f .args .table .now) (next (start f .args .table .now) m)) (sym (read f))
+          (three f .1),
+    )
 
 second-at-requires : tie.Need-second-at-requires
 second-at-requires c κs =

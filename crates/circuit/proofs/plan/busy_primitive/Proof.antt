@@ -31,7 +31,8 @@ returns c =
     let a : tie.After-all-done = search in
     let f : tie.After-first = search in
     let p = start f .pre in
-    λ b d e. acts-prim _ (p .0 .taken) _ (p .1) _ b _ d e _ (p .2) (p .3) (prim-no _ _ _ _ (read f) _ (a .all-done .ensures) _ (not-true _ (c .if1 .taken)))
+    λ b d e. acts-prim _ (p .0 .taken) _ (p .1) _ b _ d e _ (p .2) (p .3) (prim-no _ _ _ _ (read f) _ (a .all-done .ensures) _
+    (not-true _ (c .if1 .taken)))
 
 extra-requires : tie.Need-extra-requires
 extra-requires c κs = search needs

@@ -33,7 +33,13 @@ register-at-requires c κs =
     let o : tie.After-owner = search in
     let s : tie.Start = search in
     let p = s .pre in
-    omega (arith, told _ _ (p .0) _ (p .1) 6 _ (omega arith) (o .owner .ensures), own-in _ (p .0 .taken) _ (p .1) .1, ok _ (p .0 .taken) .F-high)
+    omega (
+      arith,
+      told _ _ (p .0) _ (p .1) 6 _ (omega arith) (o .owner .ensures),
+      own-in _ (p .0 .taken) _ (p .1) .1,
+      ok _ (p .0 .taken)
+          .F-high,
+    )
 
 definiens-requires : tie.Need-definiens-requires
 definiens-requires c κs = search needs

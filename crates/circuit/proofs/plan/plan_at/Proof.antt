@@ -39,7 +39,8 @@ returns-3 c =
     let not-open : tie.Else1 = search in
     let s : tie.Start = search in
     let a = s .args in
-    rest-is _ (s .pre .0 .taken) _ (s .pre .1) (stateAs (a .status .now) (a .second .now) (a .value .now) (a .registers .now) (a .occupant .now))
+    rest-is _ (s .pre .0 .taken) _ (s .pre .1) (stateAs (a .status .now) (a .second .now) (a .value .now) (a .registers .now)
+    (a .occupant .now))
     (λ e. not-open .if1 .left (at .status-at .ensures ∙ e)) (λ e. c .if2 .left (at .status-at .ensures ∙ e))
 
 pub plan-at-spec : {M : Type 1} → statement M

@@ -9,7 +9,7 @@ use Rattle.table.proofs.Reading.{told-last}
 use Rattle.rules.specs.State.{State512}
 use Rattle.rules.specs.Circuit.{actOf}
 use Rattle.circuit.specs.Meaning.{stateAs}
-use Rattle.circuit.specs.Plan.{goes}
+use Rattle.circuit.specs.Working.{goes}
 use Rattle.circuit.proofs.ChainLaws.{ok}
 use Rattle.circuit.proofs.SearchLaws.{NoneTo, none-start, none-more, found-none, found-here}
 use Rattle.circuit.proofs.search.find.Statement.{statement}

@@ -1,6 +1,7 @@
+-- `search::moves` meets its contract: a node moves where its plan is to move.
 use borrow.Author.Needs.{needs}
 use mathlib.Core.Path.{sym, ap}
-use Rattle.circuit.specs.Plan.{planned, goes}
+use Rattle.circuit.specs.Working.{planned, goes}
 use Rattle.circuit.proofs.search.moves.Statement.{statement}
 use Rattle.circuit.proofs.search.moves.Tie as tie
 

@@ -1,3 +1,4 @@
+-- `store::occupant_at` meets its contract: function 0 has no occupant.
 use native.Mathlib.Omega.{arith}
 use mathlib.Core.Path.{sym}
 use Rattle.circuit.proofs.StoreLaws.{entry-none}

@@ -1,3 +1,4 @@
+-- `store::register_at` meets its contract: the register lies in its function's eight.
 use native.Mathlib.Omega.{arith}
 use mathlib.Core.Path.{sym}
 use Rattle.circuit.proofs.StoreLaws.{register-none, register-high}

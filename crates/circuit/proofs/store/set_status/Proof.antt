@@ -1,3 +1,4 @@
+-- `store::set_status` meets its contract: a write at node 0 writes nothing.
 use native.Mathlib.Omega.{arith}
 use mathlib.Core.Path.{sym}
 use Rattle.circuit.proofs.StoreLaws.{write-none}

@@ -1,3 +1,4 @@
+-- `store::status_at` meets its contract: node 0 is idle.
 use native.Mathlib.Omega.{arith}
 use mathlib.Core.Path.{sym}
 use Rattle.circuit.proofs.StoreLaws.{entry-none}

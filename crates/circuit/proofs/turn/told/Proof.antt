@@ -1,3 +1,4 @@
+-- `turn::told` meets its contract: main's value, if its root is done.
 use mathlib.Core.Path.{sym, ap, _∙_}
 use borrow.Author.Tests.{eq-eqb, ne-eqb}
 use Rattle.table.specs.Pick.{pick}

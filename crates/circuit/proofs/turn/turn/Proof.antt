@@ -61,7 +61,12 @@ returns-2 c =
     let last : tie.After-last = search in
     let some : tie.Else1 = search in
     let s : tie.Start = search in
-    turn-past _ _ (s .pre .0 .taken) (state s) _ (some .if1 .left) (omega (arith, c .if2 .taken, told-last _ _ (s .pre .0) _ (last .last .ensures)))
+    turn-past _ _ (s .pre .0 .taken) (state s) _ (some .if1 .left) (omega (
+      arith,
+      c .if2 .taken,
+      told-last _ _ (s .pre .0) _
+          (last .last .ensures),
+    ))
 
 top-requires : tie.Need-top-requires
 top-requires c κs = search needs
@@ -97,7 +102,8 @@ returns-4 c =
     let took : tie.After-take = search in
     let going : tie.Else3 = search in
     let s = start (there going) in
-    out-stuck _ (s .args .tags .now) (s .pre .0 .taken) (state s) (s .args .n .0) _ _ (act s) (took .take .ensures) (is .enum-told .given .1)
+    out-stuck _ (s .args .tags .now) (s .pre .0 .taken) (state s) (s .args .n .0) _ _ (act s) (took .take .ensures)
+    (is .enum-told .given .1)
     ∙ sym (on going)
 
 enum-told-2 : tie.Need-enum-told-2
@@ -112,7 +118,8 @@ returns-5 c =
     let took : tie.After-take = search in
     let going : tie.Else3 = search in
     let s = start (there going) in
-    out-held _ (s .args .tags .now) (s .pre .0 .taken) (state s) (s .args .n .0) _ _ (act s) (took .take .ensures) (is .enum-told2 .given .1) _
+    out-held _ (s .args .tags .now) (s .pre .0 .taken) (state s) (s .args .n .0) _ _ (act s) (took .take .ensures)
+    (is .enum-told2 .given .1) _
     (c .held .ensures) ∙ sym (on going)
 
 enum-told-3 : tie.Need-enum-told-3
@@ -130,7 +137,8 @@ returns-6 c =
     let going : tie.Else3 = search in
     let top : tie.After-top = search in
     let s = start (there going) in
-    out-moved _ (s .args .tags .now) (s .pre .0 .taken) (state s) (s .args .n .0) _ _ (act s) (took .take .ensures) (is .enum-told3 .given .1) _
+    out-moved _ (s .args .tags .now) (s .pre .0 .taken) (state s) (s .args .n .0) _ _ (act s) (took .take .ensures)
+    (is .enum-told3 .given .1) _
     (top .top .ensures .0) _ (c .told .ensures) ∙ sym (on going)
 
 pub turn-spec : {M : Type 1} → statement M

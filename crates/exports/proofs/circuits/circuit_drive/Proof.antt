@@ -1,3 +1,4 @@
+-- `circuits::circuit_drive` meets its contract: the state is gathered, driven and spread again.
 use Rattle.exports.proofs.Told.{drive-told}
 use borrow.Author.Needs.{needs}
 use Rattle.exports.proofs.circuits.circuit_drive.Statement.{statement}

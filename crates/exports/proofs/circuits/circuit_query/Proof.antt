@@ -1,3 +1,4 @@
+-- `circuits::circuit_query` meets its contract: the state is gathered and asked.
 use Rattle.exports.proofs.Told.{query-told}
 use borrow.Author.Needs.{needs}
 use Rattle.exports.proofs.circuits.circuit_query.Statement.{statement}

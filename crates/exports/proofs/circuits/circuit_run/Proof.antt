@@ -1,3 +1,4 @@
+-- `circuits::circuit_run` meets its contract: the state is gathered, run and spread again.
 use Rattle.exports.proofs.Told.{run-told}
 use borrow.Author.Needs.{needs}
 use Rattle.exports.proofs.circuits.circuit_run.Statement.{statement}

@@ -1,3 +1,4 @@
+-- `circuits::circuit_start` meets its contract: the state is gathered, started and spread again.
 use Rattle.exports.proofs.Told.{start-told}
 use borrow.Author.Needs.{needs}
 use Rattle.exports.proofs.circuits.circuit_start.Statement.{statement}

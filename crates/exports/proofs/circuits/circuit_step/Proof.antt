@@ -1,3 +1,4 @@
+-- `circuits::circuit_step` meets its contract: the state is gathered, stepped and spread again.
 use Rattle.exports.proofs.Told.{step-told}
 use borrow.Author.Needs.{needs}
 use Rattle.exports.proofs.circuits.circuit_step.Statement.{statement}

@@ -1,3 +1,4 @@
+-- `codes::answer` meets its contract: answer by answer.
 use mathlib.Core.Path.{ap, sym, _∙_}
 use Rattle.circuit.specs.Meaning.{replyOf}
 use Rattle.exports.specs.Answers.{replyCode}

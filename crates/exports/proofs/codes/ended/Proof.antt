@@ -1,3 +1,4 @@
+-- `codes::ended` meets its contract: end by end.
 use mathlib.Core.Path.{ap, sym, _∙_}
 use Rattle.circuit.specs.Meaning.{endedOf}
 use Rattle.exports.specs.Answers.{endedCode}

@@ -1,3 +1,4 @@
+-- `codes::found` meets its contract: by whether a node was found.
 use mathlib.Core.Path.{ap, sym, _∙_}
 use Rattle.circuit.specs.Meaning.{foundOf}
 use Rattle.exports.specs.Answers.{foundCode}

@@ -1,3 +1,4 @@
+-- `codes::halt` meets its contract: by how the run halted.
 use mathlib.Core.Path.{ap, sym, _∙_}
 use Rattle.circuit.specs.Meaning.{haltOf}
 use Rattle.exports.specs.Answers.{haltCode}

@@ -1,3 +1,4 @@
+-- `codes::opening` meets its contract: by whether the circuit opened.
 use mathlib.Core.Path.{ap, sym}
 use Rattle.circuit.specs.Meaning.{openingOf}
 use Rattle.exports.specs.Answers.{startCode}

@@ -1,3 +1,4 @@
+-- `states::spread` meets its contract: part by part.
 use mathlib.Core.Path.{ap}
 use Rattle.circuit.specs.Meaning.{stateAs}
 use borrow.Author.Needs.{needs}

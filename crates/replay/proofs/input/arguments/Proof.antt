@@ -1,3 +1,4 @@
+-- `input::arguments` ends and never goes past an array: it keeps at most nine values.
 use native.Mathlib.Omega.{arith}
 use borrow.Author.Needs.{needs}
 use Prim.Native.Nat.{_-_, _≤_}

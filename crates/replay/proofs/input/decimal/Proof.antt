@@ -1,3 +1,4 @@
+-- `input::decimal` ends and never overflows: the sum stays a 32-bit word.
 use native.Mathlib.Omega.{arith}
 use borrow.Author.Needs.{needs}
 use Prim.Native.Nat.{_-_, _≤_}

@@ -1,3 +1,4 @@
+-- `input::room` meets its contract: the room asked for is had.
 use mathlib.Core.Path.{sym}
 use Prim.Native.Nat.{ℕ}
 use lib.ListN.{length-replicate}

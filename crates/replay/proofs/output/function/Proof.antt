@@ -1,3 +1,4 @@
+-- `output::function` ends and never goes past an array: it shows eight registers.
 use native.Mathlib.Omega.{arith}
 use borrow.Author.Needs.{needs}
 use Prim.Native.Nat.{_-_, _≤_}

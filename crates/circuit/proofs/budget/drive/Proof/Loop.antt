@@ -8,7 +8,7 @@ use Rattle.table.specs.Working.{IsNode}
 use Rattle.rules.specs.State.{State512, entry}
 use Rattle.rules.specs.Circuit.{actOf}
 use Rattle.circuit.specs.Meaning.{stateAs}
-use Rattle.circuit.specs.Plan.{goes, Stands}
+use Rattle.circuit.specs.Working.{goes, Stands}
 use Rattle.circuit.proofs.DriveLaws.{DroveTo, drove-start, Going, goes-on}
 use Rattle.circuit.proofs.budget.drive.Tie as tie
 

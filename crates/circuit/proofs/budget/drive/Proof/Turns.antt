@@ -46,7 +46,8 @@ loop-again-2 c =
     let h = head (turn p) in (
       omega (arith, c .less .ensures, h .loop .inv .0),
       h .loop .inv .1,
-      drove-same _ _ (first h .pre .1) _ _ _ (h .loop .inv .2) _ _ _ (tried .attempt .ensures) (sym (asked .moved .ensures) ∙ left .if2 .left),
+      drove-same _ _ (first h .pre .1) _ _ _ (h .loop .inv .2) _ _ _ (tried .attempt .ensures)
+          (sym (asked .moved .ensures) ∙ left .if2 .left),
       rests _ (state h) _ _ _ _ (p .candidate .ensures) (tried .attempt .ensures) (sym (asked .moved .ensures) ∙ left .if2 .left),
       h .loop .inv .4,
     )

@@ -10,7 +10,7 @@ use Rattle.rules.specs.Circuit.{actOf}
 use Rattle.circuit.specs.declared.changes.Effect.the-variants as Effect
 use Rattle.circuit.specs.declared.plan.Plan.{Plan}
 use Rattle.circuit.specs.Meaning.{stateAs}
-use Rattle.circuit.specs.Plan.{planned}
+use Rattle.circuit.specs.Working.{planned}
 use Rattle.circuit.proofs.ActBy.{own-in}
 use Rattle.circuit.proofs.TakeLaws.{enter-in, rested, begun, turned, finished, left, entered, restarted}
 use Rattle.circuit.proofs.changes.take.Tie as tie
@@ -115,7 +115,8 @@ returns-7 c =
     let p : tie.After-plan-at = search in
     let s = start p in
     let e = done .finish2 .ensures in
-    left _ (s .pre .0 .taken) _ (s .pre .1) _ _ _ _ _ _ _ _ _ (e .0) (e .1) (e .2) _ (act p (leaves .p4 .given .1)) _ (c .set-occupant2 .ensures)
+    left _ (s .pre .0 .taken) _ (s .pre .1) _ _ _ _ _ _ _ _ _ (e .0) (e .1) (e .2) _ (act p (leaves .p4 .given .1)) _
+    (c .set-occupant2 .ensures)
 
 pub returns-8 : tie.Need-returns-8
 returns-8 c =

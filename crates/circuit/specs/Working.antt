@@ -1,4 +1,4 @@
--- what the parts of a step ask of each other: the step of a node read off its record, and the nodes of each function in a chain
+-- working definitions: what the parts of a step ask of each other, and the nodes of each function in a chain
 use Prim.Native.Nat.{ℕ, zero, suc, _+_, _-_, _*_, _/_, _%_, _^_, _≤_}
 use mathlib.Core.Bool.{Bool, true, false, _&&_, _||_}
 use mathlib.Core.Path.{_≡_}
