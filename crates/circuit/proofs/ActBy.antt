@@ -15,8 +15,8 @@ use Rattle.table.specs.Expressions.{exprsAt, exprAt, bodyOf, defsAt, finalAt, t
 use Rattle.table.specs.Working.{IsNode, IsFunction}
 use Rattle.table.proofs.Passed.{Passed}
 use Rattle.table.proofs.Family.{owner-in}
-use Rattle.table.proofs.View.{View as NodeView, view as node-view, id-at, is-const, is-param, is-prim, is-call, is-self, is-cond, is-bind}
-use Rattle.table.proofs.View.{is-bound}
+use Rattle.table.proofs.NodeCases.{NodeCase, node-case, id-at}
+use Rattle.table.proofs.NodeCases.{is-const, is-param, is-prim, is-call, is-self, is-cond, is-bind, is-bound}
 use Rattle.table.proofs.Children.{values-are, roots-kids, Final, final}
 use Rattle.table.proofs.Accepted.{id-body}
 use Rattle.rules.specs.State.{State512, View, view, entry, register}
@@ -112,9 +112,9 @@ module _ (t : List ℕ) (fair : Taken t) (n : ℕ) (i : IsNode t n) where
 
   -- a call's callee is a function, an if has three children, a let two, a bound's word is a node
   pub callee-in : kind t n ≡ 4 → IsFunction t (word t n)
-  callee-in e = go (node-view t p n i) own-in
+  callee-in e = go (node-case t p n i) own-in
     where
-      go : NodeView t n → IsFunction t (owner t n) → IsFunction t (word t n)
+      go : NodeCase t n → IsFunction t (owner t n) → IsFunction t (word t n)
       go (is-const k z q) o = other 1 4 k e (λ x. omega arith)
       go (is-param k z l q) o = other 2 4 k e (λ x. omega arith)
       go (is-prim k c q) o = other 3 4 k e (λ x. omega arith)
@@ -125,9 +125,9 @@ module _ (t : List ℕ) (fair : Taken t) (n : ℕ) (i : IsNode t n) where
       go (is-bound k z s q) o = other 7 4 k e (λ x. omega arith)
 
   pub three-in : kind t n ≡ 5 → IsNode t (first t n) × IsNode t (thenAt t n) × IsNode t (elseAt t n)
-  three-in e = go (node-view t p n i)
+  three-in e = go (node-case t p n i)
     where
-      go : NodeView t n → IsNode t (first t n) × IsNode t (thenAt t n) × IsNode t (elseAt t n)
+      go : NodeCase t n → IsNode t (first t n) × IsNode t (thenAt t n) × IsNode t (elseAt t n)
       go (is-const k z q) = other 1 5 k e (λ x. omega arith)
       go (is-param k z l q) = other 2 5 k e (λ x. omega arith)
       go (is-prim k c q) = other 3 5 k e (λ x. omega arith)
@@ -138,9 +138,9 @@ module _ (t : List ℕ) (fair : Taken t) (n : ℕ) (i : IsNode t n) where
       go (is-bound k z s q) = other 7 5 k e (λ x. omega arith)
 
   pub let-in : kind t n ≡ 6 → IsNode t (first t n)
-  let-in e = go (node-view t p n i)
+  let-in e = go (node-case t p n i)
     where
-      go : NodeView t n → IsNode t (first t n)
+      go : NodeCase t n → IsNode t (first t n)
       go (is-const k z q) = other 1 6 k e (λ x. omega arith)
       go (is-param k z l q) = other 2 6 k e (λ x. omega arith)
       go (is-prim k c q) = other 3 6 k e (λ x. omega arith)
@@ -151,9 +151,9 @@ module _ (t : List ℕ) (fair : Taken t) (n : ℕ) (i : IsNode t n) where
       go (is-bound k z s q) = other 7 6 k e (λ x. omega arith)
 
   pub bound-in : kind t n ≡ 7 → IsNode t (word t n)
-  bound-in e = go (node-view t p n i)
+  bound-in e = go (node-case t p n i)
     where
-      go : NodeView t n → IsNode t (word t n)
+      go : NodeCase t n → IsNode t (word t n)
       go (is-const k z q) = other 1 7 k e (λ x. omega arith)
       go (is-param k z l q) = other 2 7 k e (λ x. omega arith)
       go (is-prim k c q) = other 3 7 k e (λ x. omega arith)
@@ -258,9 +258,9 @@ module _ (t : List ℕ) (fair : Taken t) (n : ℕ) (i : IsNode t n) where
         (pick b (does (turns m)) stuck)) (all-done-is (view s) ds ∙ ap (allDone st) ed) eb ∙ sym (rw k refl))
 
     pub act-is : actOf t s n ≡ actBy t s n
-    act-is = go (node-view t p n i)
+    act-is = go (node-case t p n i)
       where
-        go : NodeView t n → actOf t s n ≡ actBy t s n
+        go : NodeCase t n → actOf t s n ≡ actBy t s n
         go (is-const k z q) = as-const k q
         go (is-param k z l q) = as-param k q
         go (is-prim k c q) = as-prim k q

@@ -21,6 +21,7 @@ use Rattle.circuit.specs.Meaning.{numbers, stateAs}
 use Rattle.table.specs.Working.{Taken}
 use Rattle.circuit.specs.Working.{Stands, Agreed, strayIn}
 use Rattle.circuit.proofs.TurnLaws.{fair-from, step-is, turn-stands, turn-stray, turn-stray′}
+use Rattle.circuit.proofs.StandsLaws.{stands-parts, stands-by}
 use Rattle.rules.proofs.Demands.{after-both}
 
 -- a number, said to be a node's
@@ -32,18 +33,8 @@ numbered [] = refl
 numbered (x ∷ l) = ap (λ r. x ∷ r) (numbered l)
 
 -- 24
-either-true : (a b : Bool) → (a || b) ≡ true → (a ≡ true → ⊥) → (a ≡ false) × (b ≡ true)
-either-true true b e d = absurd (d refl)
-either-true false b e d = (refl, e)
-
-neither : (a b : Bool) → (a || b) ≡ false → (a ≡ false) × (b ≡ false)
-neither true b e = let z : _≡_ {A = ℕ} 0 1 = cc in absurd (omega arith)
-neither false b e = (refl, e)
-
 pub stands-from : (t : List ℕ) (s : State512) (b : Bool) → b ≡ strayIn t s → b ≡ false → Stands t s
-stands-from t s b e h =
-    let x = neither (over 3 (nodes t) (s .status)) (over (nodes t) (functions t) (s .occupant)) (sym e ∙ h) in
-    record { statuses = x .0; occupants = x .1 }
+stands-from t s b e h = record { passes = sym e ∙ h }
 
 pub step-stray : (t tags : List ℕ) → Taken t → (s : State512) (n : ℕ) → (n ≡ 0 → ⊥) → n ≤ nodes t → (b : Bool) → b ≡ strayIn t s → b ≡ true
     → refusal s 24 0 ≡ circuitOf t tags s n
@@ -76,7 +67,7 @@ module _ (t tags : List ℕ) (ag : Agreed t tags) (s : State512) where
 
   pub stand-standing : Stands t s → standing t tags s ≡ accepted (functions t) (nodes t)
   unfolding standing after stage
-  stand-standing st = rw (ag .tagging, st .statuses, st .occupants) refl
+  stand-standing st = let p = stands-parts t s st in rw (ag .tagging, p .0, p .1) refl
 
 -- what passes both and 24
 pub admitted-from : (t tags : List ℕ) (s : State512) (F N : ℕ) → standing t tags s ≡ accepted F N → Agreed t tags × Stands t s
@@ -85,7 +76,7 @@ admitted-from t tags s F N e =
     let x = after-both (checkWith t tags) _ F N e in
     let y = passes 24 (not (over 3 (nodes t) (s .status))) 0 _ F N (x .1) in
     let z = passes 24 (not (over (nodes t) (functions t) (s .occupant))) 0 _ F N (y .2) in
-    (agreed-from t tags _ _ (x .0 .2), record { statuses = is-no _ (y .0); occupants = is-no _ (z .0) })
+    (agreed-from t tags _ _ (x .0 .2), stands-by t s (is-no _ (y .0)) (is-no _ (z .0)))
   where
     is-no : (b : Bool) → T (not b) → b ≡ false
     is-no true h = absurd h

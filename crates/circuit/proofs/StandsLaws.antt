@@ -1,6 +1,6 @@
 -- 24: how a state is looked through, and that a step keeps what it asks
 use Prim.Native.Nat.{ℕ, zero, suc, _-_, _≤_, _<_}
-use mathlib.Core.Bool.{Bool, true, false}
+use mathlib.Core.Bool.{Bool, true, false, _||_}
 use mathlib.Core.Path.{_≡_, refl, subst, sym, ap, _∙_}
 use mathlib.Core.List.{List, [], _∷_}
 use native.Mathlib.Omega.{arith}
@@ -19,6 +19,19 @@ use Rattle.rules.specs.Step.{Move, begins, turns, finishes, enters, leaves, res
 use Rattle.circuit.specs.Working.{Stands}
 use Rattle.rules.proofs.StateLaws.{entry-same, entry-other, length-write, length-clear, clear-mine, clear-other}
 use Rattle.rules.proofs.Bounded.{over-none}
+
+-- the two parts of 24
+neither : (a b : Bool) → (a || b) ≡ false → (a ≡ false) × (b ≡ false)
+neither true b e = let z : _≡_ {A = ℕ} 0 1 = cc in absurd (omega arith)
+neither false b e = (refl, e)
+
+pub stands-parts : (t : List ℕ) (s : State512) → Stands t s
+    → (over 3 (nodes t) (s .status) ≡ false) × (over (nodes t) (functions t) (s .occupant) ≡ false)
+stands-parts t s st = neither (over 3 (nodes t) (s .status)) (over (nodes t) (functions t) (s .occupant)) (st .passes)
+
+pub stands-by : (t : List ℕ) (s : State512) → over 3 (nodes t) (s .status) ≡ false → over (nodes t) (functions t) (s .occupant) ≡ false
+    → Stands t s
+stands-by t s a b = record { passes = rw (a, b) refl }
 
 over-suc : (limit : ℕ) (l : List ℕ) (k n : ℕ) → n ≡ suc k → over limit n l ≡ pick (ltb limit (entry l 0 n)) true (over limit k l)
 unfolding over
@@ -87,10 +100,13 @@ module _ (t : List ℕ) (s : State512) (st : Stands t s) (n : ℕ) (inside : n �
   N = nodes t
 
   a : Under 3 N (s .status)
-  a = under 3 N (s .status) (st .statuses)
+  a = under 3 N (s .status) (stands-parts t s st .0)
+
+  held : over N (functions t) (s .occupant) ≡ false
+  held = stands-parts t s st .1
 
   o : Under N (functions t) (s .occupant)
-  o = under N (functions t) (s .occupant) (st .occupants)
+  o = under N (functions t) (s .occupant) held
 
   wrote : (m x : ℕ) → x ≤ 3 → over 3 N (write (s .status) m x) ≡ false
   wrote m x h = over-none 3 N (write (s .status) m x) (under-write 3 N (s .status) a m x h)
@@ -101,19 +117,12 @@ module _ (t : List ℕ) (s : State512) (st : Stands t s) (n : ℕ) (inside : n �
       (omega arith))
 
   pub kept : (m : Move) → Stands t (perform N (owner t) (bodyOf t) s n m)
-  kept (begins ns) = record {
-    statuses = over-none 3 N _ (under-opened 3 N (write (s .status) n 2) ns (omega arith) (under-write 3 N (s .status) a n 2
-        (omega arith)));
-    occupants = st .occupants;
-  }
-  kept (turns k) = record { statuses = wrote k 1 (omega arith); occupants = st .occupants }
-  kept (finishes v) = record { statuses = wrote n 3 (omega arith); occupants = st .occupants }
-  kept (enters g vs) = record {
-    statuses = fresh g (id (bodyOf t g));
-    occupants = over-none N (functions t) _ (under-write N (functions t) (s .occupant) o g n inside);
-  }
-  kept (leaves g v) = record {
-    statuses = wrote n 3 (omega arith);
-    occupants = over-none N (functions t) _ (under-write N (functions t) (s .occupant) o g 0 (omega arith));
-  }
-  kept (restarts f vs) = record { statuses = fresh f (id (bodyOf t f)); occupants = st .occupants }
+  kept (begins ns) = stands-by t _ (over-none 3 N _ (under-opened 3 N (write (s .status) n 2) ns (omega arith)
+      (under-write 3 N (s .status) a n 2 (omega arith)))) held
+  kept (turns k) = stands-by t _ (wrote k 1 (omega arith)) held
+  kept (finishes v) = stands-by t _ (wrote n 3 (omega arith)) held
+  kept (enters g vs) = stands-by t _ (fresh g (id (bodyOf t g)))
+      (over-none N (functions t) _ (under-write N (functions t) (s .occupant) o g n inside))
+  kept (leaves g v) = stands-by t _ (wrote n 3 (omega arith))
+      (over-none N (functions t) _ (under-write N (functions t) (s .occupant) o g 0 (omega arith)))
+  kept (restarts f vs) = stands-by t _ (fresh f (id (bodyOf t f))) held

@@ -30,7 +30,7 @@ use Rattle.circuit.specs.declared.changes.Effect.{Effect}
 use Rattle.circuit.specs.declared.changes.Effect.the-variants as Effect
 use Rattle.circuit.specs.Working.{Took, Stands, goes, movedOf}
 use Rattle.rules.proofs.Demands.{after-both}
-use Rattle.circuit.proofs.StandsLaws.{kept}
+use Rattle.circuit.proofs.StandsLaws.{kept, stands-parts}
 use Rattle.circuit.proofs.ChainLaws.{ok}
 use Rattle.table.specs.Check as TableCheck
 
@@ -83,7 +83,7 @@ module _ (t tags : List ℕ) (fair : Taken t) (s : State512) (n : ℕ) where
           → circuitOf t tags s n ≡ pick b (refusal s 20 n)
           (outcome operate (functions t) (nodes t) (bodyOf t) (exprAt t) (owner t) (tagged tags) s n (actOf t s n))
       unfolding circuitOf circuitStep
-      by-main b e = rw (ne-eqb n 0 d, ltb-no (nodes t) n (λ q. omega arith), st .statuses, st .occupants, e) refl
+      by-main b e = let p = stands-parts t s st in rw (ne-eqb n 0 d, ltb-no (nodes t) n (λ q. omega arith), p .0, p .1, e) refl
 
       module _ (top x : ℕ) (et : top ≡ root t (functions t)) (ex : x ≡ entry (s .status) 0 top) where
         main-is : x ≡ entry (s .status) 0 main

@@ -112,14 +112,12 @@ goes stuck = false
 goes blocked = false
 goes (does m) = true
 
--- 24 isn't met: every status up to N is at most 3, every occupant up to F at most N
-pub record Stands (t : List ℕ) (s : State512) : Type 0 where
-  pub statuses : over 3 (nodes t) (s .status) ≡ false
-  pub occupants : over (nodes t) (functions t) (s .occupant) ≡ false
-
--- 24 is met
+-- 24 is met: some status up to N is over 3, or some occupant up to F over N
 abbrev pub strayIn : List ℕ → State512 → Bool
 strayIn t s = over 3 (nodes t) (s .status) || over (nodes t) (functions t) (s .occupant)
+
+pub record Stands (t : List ℕ) (s : State512) : Type 0 where
+  pub passes : strayIn t s ≡ false
 
 -- what is told before a query or a run, with the table decoded
 pub record Admitted (t tags : List ℕ) (s : State512) (r : Findings) : Type 0 where

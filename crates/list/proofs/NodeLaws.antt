@@ -16,7 +16,8 @@ use Rattle.table.proofs.Passed.{Passed, passed}
 use Rattle.table.proofs.Links.{link}
 use Rattle.table.proofs.Family.{first-node, next-node, owner-root, owner-first, owner-next, owner-in}
 use Rattle.table.proofs.Tree.{exprs-none, exprs-some, defs-none, defs-some}
-use Rattle.table.proofs.View.{View, is-const, is-param, is-prim, is-call, is-self, is-cond, is-bind, is-bound, view, kids-three}
+use Rattle.table.proofs.NodeCases.{NodeCase, node-case, kids-three}
+use Rattle.table.proofs.NodeCases.{is-const, is-param, is-prim, is-call, is-self, is-cond, is-bind, is-bound}
 use Rattle.list.specs.Arbiters.{Test, noCalls, joined, callsIn, parallel, conflicts}
 use Rattle.list.specs.Tags.{calleeOf}
 use Rattle.list.specs.CallSets.{callee}
@@ -148,14 +149,14 @@ module _ (t : List ℕ) (f n : ℕ) (at : Within t f n) where
   abbrev i : IsNode t n
   i = at .node
 
-  abbrev v : View t n
-  v = view t ok n i
+  abbrev v : NodeCase t n
+  v = node-case t ok n i
 
   -- a leaf
   pub leaf : (kind t n ≡ 3 → ⊥) → (kind t n ≡ 4 → ⊥) → (kind t n ≡ 5 → ⊥) → (kind t n ≡ 6 → ⊥) → Is t (exprAt t n) noCalls noCalls
   leaf a b c d = go v
     where
-      go : View t n → Is t (exprAt t n) noCalls noCalls
+      go : NodeCase t n → Is t (exprAt t n) noCalls noCalls
       go (is-const k z e) = is-noCalls t (exprAt t n) n (word t n) e
       go (is-param k z l e) = is-noCalls-param t (exprAt t n) n (extra t n) e
       go (is-prim k q e) = absurd (a k)
@@ -193,7 +194,7 @@ module _ (t : List ℕ) (f n : ℕ) (at : Within t f n) where
         conflicts = is .conflicts;
       }
 
-      go : View t n → Is t (exprAt t n) (joined (entryAt t n) (callsAt* t es)) held
+      go : NodeCase t n → Is t (exprAt t n) (joined (entryAt t n) (callsAt* t es)) held
       go (is-const k z e) = absurd (omega (arith, k, p))
       go (is-param k z l e) = absurd (omega (arith, k, p))
       go (is-prim k q e) =
@@ -209,7 +210,7 @@ module _ (t : List ℕ) (f n : ℕ) (at : Within t f n) where
   pub enters-none : kind t n ≡ 3 → calleeOf t n ≡ 0
   enters-none p = go v
     where
-      go : View t n → calleeOf t n ≡ 0
+      go : NodeCase t n → calleeOf t n ≡ 0
       go (is-const k z e) = absurd (omega (arith, k, p))
       go (is-param k z l e) = absurd (omega (arith, k, p))
       go (is-prim k q e) = callee-word t n ∙ ap callee e
@@ -222,7 +223,7 @@ module _ (t : List ℕ) (f n : ℕ) (at : Within t f n) where
   pub enters-again : kind t n ≡ 4 → word t n ≡ f → calleeOf t n ≡ 0
   enters-again p r = go v
     where
-      go : View t n → calleeOf t n ≡ 0
+      go : NodeCase t n → calleeOf t n ≡ 0
       go (is-const k z e) = absurd (omega (arith, k, p))
       go (is-param k z l e) = absurd (omega (arith, k, p))
       go (is-prim k q e) = absurd (omega (arith, k, p))
@@ -241,7 +242,7 @@ module _ (t : List ℕ) (f n : ℕ) (at : Within t f n) where
   pub entering : kind t n ≡ 4 → (word t n ≡ f → ⊥) → Entering
   entering p r = go v
     where
-      go : View t n → Entering
+      go : NodeCase t n → Entering
       go (is-const k z e) = absurd (omega (arith, k, p))
       go (is-param k z l e) = absurd (omega (arith, k, p))
       go (is-prim k q e) = absurd (omega (arith, k, p))
@@ -263,7 +264,7 @@ module _ (t : List ℕ) (f n : ℕ) (at : Within t f n) where
   pub choosing : kind t n ≡ 5 → Choosing
   choosing p = go v
     where
-      go : View t n → Choosing
+      go : NodeCase t n → Choosing
       go (is-const k z e) = absurd (omega (arith, k, p))
       go (is-param k z l e) = absurd (omega (arith, k, p))
       go (is-prim k q e) = absurd (omega (arith, k, p))
@@ -290,7 +291,7 @@ module _ (t : List ℕ) (f n : ℕ) (at : Within t f n) where
   pub binding : kind t n ≡ 6 → Binding
   binding p = go v
     where
-      go : View t n → Binding
+      go : NodeCase t n → Binding
       go (is-const k z e) = absurd (omega (arith, k, p))
       go (is-param k z l e) = absurd (omega (arith, k, p))
       go (is-prim k q e) = absurd (omega (arith, k, p))

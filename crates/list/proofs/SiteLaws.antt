@@ -15,7 +15,8 @@ use Rattle.table.specs.Naming.{owner}
 use Rattle.table.specs.Working.{IsNode}
 use Rattle.table.proofs.Passed.{passed}
 use Rattle.table.proofs.Family.{owner-in}
-use Rattle.table.proofs.View.{View, is-const, is-param, is-prim, is-call, is-self, is-cond, is-bind, is-bound, view}
+use Rattle.table.proofs.NodeCases.{NodeCase, node-case}
+use Rattle.table.proofs.NodeCases.{is-const, is-param, is-prim, is-call, is-self, is-cond, is-bind, is-bound}
 use Rattle.table.specs.Working.{Taken}
 use Rattle.list.specs.Working.{site, SitedTo, PutAt}
 use Rattle.list.proofs.BitLaws.{none-tagged}
@@ -25,9 +26,9 @@ pub word-few : (t : List ℕ) → Taken t → (n : ℕ) → IsNode t n → kind 
 word-few t ok n i e =
     let p = passed t (functions t) (nodes t) ok .0 in
     let o = owner-in t (p .linking) n i in
-    go (view t p n i) (omega (arith, o .1, p .F-high))
+    go (node-case t p n i) (omega (arith, o .1, p .F-high))
   where
-    go : View t n → owner t n ≤ 32 → word t n ≤ 32
+    go : NodeCase t n → owner t n ≤ 32 → word t n ≤ 32
     go (is-const k z q) l = absurd (omega (arith, k, e))
     go (is-param k z x q) l = absurd (omega (arith, k, e))
     go (is-prim k x q) l = absurd (omega (arith, k, e))

@@ -14,7 +14,8 @@ use Rattle.table.specs.Expressions.{exprAt, bodyOf}
 use Rattle.table.specs.Working.{IsNode}
 use Rattle.table.proofs.Passed.{Passed, passed}
 use Rattle.table.proofs.FindLaws.{both, isnt, same}
-use Rattle.table.proofs.View.{View, is-const, is-param, is-prim, is-call, is-self, is-cond, is-bind, is-bound, view as node-view}
+use Rattle.table.proofs.NodeCases.{NodeCase, node-case}
+use Rattle.table.proofs.NodeCases.{is-const, is-param, is-prim, is-call, is-self, is-cond, is-bind, is-bound}
 use Rattle.table.proofs.Scopes.{child-node}
 use Rattle.list.specs.Tags.{tagged, checkWith}
 use Rattle.rules.specs.State.{State512, Sized, view}
@@ -34,7 +35,7 @@ use Rattle.table.specs.Pick.{pick}
 -- the definiens of a bound node is a node
 pub bound-node : (t : List ℕ) → Passed t → (n m d : ℕ) → IsNode t n → exprAt t n ≡ bound m d → IsNode t d
 unfolding inScope definiens
-bound-node t ok n m d i e = go (node-view t ok n i)
+bound-node t ok n m d i e = go (node-case t ok n i)
   where
     other : {X : Type 0} → _≡_ {A = ℕ} 0 1 → X
     other z = absurd (omega arith)
@@ -47,7 +48,7 @@ bound-node t ok n m d i e = go (node-view t ok n i)
         let b = both x y (both (x && y) z (both (definiens t d) (underLast t (parent t d) n) h .0) .0) .0 in
         child-node t ok d (λ q. isnt (eqb (parent t d) 0) b (same (parent t d) 0 q))
 
-    go : View t n → IsNode t d
+    go : NodeCase t n → IsNode t d
     go (is-const k f q) = other (cc)
     go (is-param k f l q) = other (cc)
     go (is-prim k f q) = other (cc)

@@ -15,8 +15,8 @@ use Rattle.table.specs.Naming.{owner}
 use Rattle.table.specs.Expressions.{exprAt, bodyOf}
 use Rattle.table.specs.Working.{IsNode}
 use Rattle.table.proofs.Passed.{Passed, passed}
-use Rattle.table.proofs.View.{View as NodeView, view as node-view, is-const, is-param, is-prim, is-call, is-self, is-cond, is-bind}
-use Rattle.table.proofs.View.{is-bound}
+use Rattle.table.proofs.NodeCases.{NodeCase, node-case}
+use Rattle.table.proofs.NodeCases.{is-const, is-param, is-prim, is-call, is-self, is-cond, is-bind, is-bound}
 use Rattle.list.specs.Tags.{tagged}
 use Rattle.rules.specs.State.{State512, view, entry, write, register, alter, fill, clear, blank, circuitStart}
 use Rattle.rules.specs.Step.{Act, stuck, blocked, does, Move, begins, turns, finishes, enters, leaves, restarts, done, all-done}
@@ -66,7 +66,7 @@ operate-word op vs h =
 
 -- a constant of an accepted table
 pub const-word : (t : List ℕ) → Bytes t → Passed t → (n m v : ℕ) → IsNode t n → exprAt t n ≡ const m v → Word v
-const-word t b ok n m v i e = go (node-view t ok n i)
+const-word t b ok n m v i e = go (node-case t ok n i)
   where
     four : (i : ℕ) → fourAt t i < 2 ^ 32
     four = unfold fourAt twoAt in (λ i. omega (arith, b i, b (i + 1), b (i + 2), b (i + 2 + 1)))
@@ -77,7 +77,7 @@ const-word t b ok n m v i e = go (node-view t ok n i)
     other : {X : Type 0} → _≡_ {A = ℕ} 0 1 → X
     other z = absurd (omega arith)
 
-    go : NodeView t n → Word v
+    go : NodeCase t n → Word v
     go (is-const k f q) = let z : word t n ≡ v = cc in subst Word z word-word
     go (is-param k f l q) = other (cc)
     go (is-prim k f q) = other (cc)

@@ -14,7 +14,8 @@ use Rattle.table.specs.Working.{IsNode, IsFunction, Linked}
 use Rattle.table.proofs.Passed.{Passed, passed}
 use Rattle.table.proofs.Family.{owner-root, owner-in}
 use Rattle.table.specs.Expressions.{exprAt, bodyOf}
-use Rattle.table.proofs.View.{View, is-const, is-param, is-prim, is-call, is-self, is-cond, is-bind, is-bound, view, id-at}
+use Rattle.table.proofs.NodeCases.{NodeCase, node-case, id-at}
+use Rattle.table.proofs.NodeCases.{is-const, is-param, is-prim, is-call, is-self, is-cond, is-bind, is-bound}
 use Rattle.table.proofs.NodePlaces.{rise-node, sub-at, in-body, node-owner}
 use Rattle.table.proofs.NumbersApart.{apart-at}
 use Rattle.table.proofs.Tails.{tail-body}
@@ -26,9 +27,9 @@ module _ (t : List ℕ) (ok : Passed t) where
 
   -- a call in a body calls a lower function
   calls-lower : (c g : ℕ) (xs : Exprs) (m : ℕ) → IsNode t m → call c g xs ≡ exprAt t m → (1 ≤ g) × (g < owner t m)
-  calls-lower c g xs m i p = go (view t ok m i)
+  calls-lower c g xs m i p = go (node-case t ok m i)
     where
-      go : View t m → (1 ≤ g) × (g < owner t m)
+      go : NodeCase t m → (1 ≤ g) × (g < owner t m)
       go (is-const k z e) = absurd (let z : _≡_ {A = ℕ} 0 1 = cc in omega arith)
       go (is-param k z l e) = absurd (let z : _≡_ {A = ℕ} 0 1 = cc in omega arith)
       go (is-prim k q e) = absurd (let z : _≡_ {A = ℕ} 0 1 = cc in omega arith)

@@ -14,7 +14,7 @@ use Rattle.table.proofs.Family.{next-node, parent-next}
 use Rattle.table.proofs.Links.{link, backwards}
 use Rattle.table.specs.Expressions.{lastOf, exprsAt, exprAt, defsAt, finalAt}
 use Rattle.table.proofs.Tree.{exprs-none, exprs-some, chain-none, chain-some, defs-none, defs-some, kids}
-use Rattle.table.proofs.View.{id-at}
+use Rattle.table.proofs.NodeCases.{id-at}
 
 -- the values that a step reads
 pub values-are : (value : ℕ → ℕ) (es : Exprs) → values value es ≡ map value (roots es)

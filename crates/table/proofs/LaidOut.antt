@@ -14,7 +14,8 @@ use Rattle.table.specs.Working.{IsNode, IsFunction}
 use Rattle.table.proofs.Passed.{Passed, passed, params-small}
 use Rattle.table.proofs.Family.{owner-in}
 use Rattle.table.specs.Expressions.{exprsAt, exprAt, bodyOf}
-use Rattle.table.proofs.View.{View, is-const, is-param, is-prim, is-call, is-self, is-cond, is-bind, is-bound, view, id-at}
+use Rattle.table.proofs.NodeCases.{NodeCase, node-case, id-at}
+use Rattle.table.proofs.NodeCases.{is-const, is-param, is-prim, is-call, is-self, is-cond, is-bind, is-bound}
 use Rattle.table.proofs.Children.{roots-kids}
 use Rattle.table.proofs.NodePlaces.{in-body, node-owner}
 use Rattle.table.proofs.Accepted.{well, part-is}
@@ -30,9 +31,9 @@ module _ (t : List ℕ) (ok : Passed t) where
       (params-small t ok f j)
 
   narrow-at : (n : ℕ) → IsNode t n → arity (exprAt t n) ≤ 8
-  narrow-at n i = go (view t ok n i) (owner-in t (ok .linking) n i)
+  narrow-at n i = go (node-case t ok n i) (owner-in t (ok .linking) n i)
     where
-      go : View t n → IsFunction t (owner t n) → arity (exprAt t n) ≤ 8
+      go : NodeCase t n → IsFunction t (owner t n) → arity (exprAt t n) ≤ 8
       go (is-const k z e) o = rw e (omega arith)
       go (is-param k z l e) o = rw e (omega arith)
       go (is-prim k q e) o = rw e (omega arith)

@@ -14,7 +14,7 @@ pub mod Passed
 pub mod Links
 pub mod Family
 pub mod Tree
-pub mod View
+pub mod NodeCases
 pub mod CellLaws
 pub mod DecodeLaws
 pub mod Children

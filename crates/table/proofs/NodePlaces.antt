@@ -16,8 +16,8 @@ use Rattle.table.proofs.Family.{owner-root, owner-in, parent-root, pare
 use Rattle.table.proofs.Family.{parent-node, owner-parent}
 use Rattle.table.specs.Expressions.{exprsAt, exprAt, bodyOf, defsAt, finalAt, thenAt, elseAt}
 use Rattle.table.proofs.Tree.{exprs-none, exprs-some, along, kids}
-use Rattle.table.proofs.View.{View, is-const, is-param, is-prim, is-call, is-self, is-cond, is-bind, is-bound, view, id-at}
-use Rattle.table.proofs.View.{kids-three}
+use Rattle.table.proofs.NodeCases.{NodeCase, node-case, id-at, kids-three}
+use Rattle.table.proofs.NodeCases.{is-const, is-param, is-prim, is-call, is-self, is-cond, is-bind, is-bound}
 
 -- k parents up
 unfoldable pub rise : List ℕ → ℕ → ℕ → ℕ
@@ -85,9 +85,9 @@ module _ (t : List ℕ) (ok : Passed t) where
 
     pub sub-out : Sub u (exprAt t n) → (u ≡ exprAt t n) ⊎ Kids
     unfolding defsAt finalAt
-    sub-out s = go (view t ok n i)
+    sub-out s = go (node-case t ok n i)
       where
-        go : View t n → (u ≡ exprAt t n) ⊎ Kids
+        go : NodeCase t n → (u ≡ exprAt t n) ⊎ Kids
         go (is-const k z e) = whole-or _ e (λ x. inl x) s
         go (is-param k z l e) = whole-or _ e (λ x. inl x) s
         go (is-prim k c e) = whole-or _ e (λ x. x) s
@@ -106,12 +106,12 @@ module _ (t : List ℕ) (ok : Passed t) where
 
     pub sub-in : Kids → Sub u (exprAt t n)
     unfolding defsAt finalAt
-    sub-in s = go (view t ok n i)
+    sub-in s = go (node-case t ok n i)
       where
         never : first t n ≡ 0 → ⊥
         never z = subst (Sub* u) (ap (exprsAt t) z ∙ exprs-none t lk) s
 
-        go : View t n → Sub u (exprAt t n)
+        go : NodeCase t n → Sub u (exprAt t n)
         go (is-const k z e) = absurd (never z)
         go (is-param k z l e) = absurd (never z)
         go (is-prim k c e) = subst (Sub u) (sym e) (inr s)

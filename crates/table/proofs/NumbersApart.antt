@@ -15,7 +15,8 @@ use Rattle.table.proofs.Links.{link, backwards}
 use Rattle.table.proofs.Family.{first-node, next-node, parent-next, parent-lower}
 use Rattle.table.specs.Expressions.{exprsAt, exprAt, defsAt, finalAt, thenAt, elseAt}
 use Rattle.table.proofs.Tree.{exprs-none, exprs-some, kids}
-use Rattle.table.proofs.View.{View, is-const, is-param, is-prim, is-call, is-self, is-cond, is-bind, is-bound, view, kids-three}
+use Rattle.table.proofs.NodeCases.{NodeCase, node-case, kids-three}
+use Rattle.table.proofs.NodeCases.{is-const, is-param, is-prim, is-call, is-self, is-cond, is-bind, is-bound}
 use Rattle.table.proofs.NodePlaces.{rise-low, meet, node-under, node-among}
 
 module _ (t : List ℕ) (ok : Passed t) where
@@ -53,7 +54,7 @@ module _ (t : List ℕ) (ok : Passed t) where
   apart-at = backwards t lk (λ n. Apart (exprAt t n)) step
     where
       step : (n : ℕ) → IsNode t n → ((m : ℕ) → n < m → m ≤ nodes t → Apart (exprAt t m)) → Apart (exprAt t n)
-      step n i f = go (view t ok n i)
+      step n i f = go (node-case t ok n i)
         where
           chain : Apart* (exprsAt t (first t n))
           chain = kids t lk n (λ c es. Apart* es) tt (λ c j e g. (f c (lower c j e) (j .1), g, siblings c j)) n i refl
@@ -64,7 +65,7 @@ module _ (t : List ℕ) (ok : Passed t) where
           own : Node* n (exprsAt t (first t n)) → ⊥
           own = above-own n i
 
-          go : View t n → Apart (exprAt t n)
+          go : NodeCase t n → Apart (exprAt t n)
           go (is-const k z e) = subst Apart (sym e) tt
           go (is-param k z l e) = subst Apart (sym e) tt
           go (is-prim k c e) = subst Apart (sym e) (own, chain)

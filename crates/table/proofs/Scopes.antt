@@ -24,7 +24,8 @@ use Rattle.table.proofs.Family.{parent-zero, parent-top}
 use Rattle.table.specs.Expressions.{exprsAt, exprAt, bodyOf, defsAt, thenAt, elseAt}
 use Rattle.table.proofs.Tree.{defs-some, kids, defs-along}
 use Rattle.table.proofs.Children.{Final, final}
-use Rattle.table.proofs.View.{View, is-const, is-param, is-prim, is-call, is-self, is-cond, is-bind, is-bound, view, id-at}
+use Rattle.table.proofs.NodeCases.{NodeCase, node-case, id-at}
+use Rattle.table.proofs.NodeCases.{is-const, is-param, is-prim, is-call, is-self, is-cond, is-bind, is-bound}
 
 -- what the environment of a let'value body holds: the state'value values of the definientia
 abbrev pub Defines : ℕ → Exprs → Type 0
@@ -147,7 +148,7 @@ module _ (t : List ℕ) (ok : Passed t) where
     Seeing n = (ρ : ℕ → ℕ) → Holds n ρ → Sees value (exprAt t n) ρ
 
     step : (n : ℕ) → IsNode t n → ((m : ℕ) → n < m → m ≤ nodes t → Seeing m) → Seeing n
-    step n i f ρ h = go (view t ok n i)
+    step n i f ρ h = go (node-case t ok n i)
       where
         at : (c : ℕ) → IsNode t c → parent t c ≡ n → Seeing c
         at c j e = f c (omega (arith, parent-lower t c (j .0), e)) (j .1)
@@ -164,7 +165,7 @@ module _ (t : List ℕ) (ok : Passed t) where
         fit : (e : Expr) → exprAt t n ≡ e → Sees value e ρ → Sees value (exprAt t n) ρ
         fit e p x = subst (λ y. Sees value y ρ) (sym p) x
 
-        go : View t n → Sees value (exprAt t n) ρ
+        go : NodeCase t n → Sees value (exprAt t n) ρ
         go (is-const k z e) = fit (const n (word t n)) e tt
         go (is-param k z l e) = subst (λ y. Sees value y ρ) (sym e) tt
         go (is-prim k c e) = subst (λ y. Sees value y ρ) (sym e) (all (λ x. omega (arith, x, k)))

@@ -17,7 +17,8 @@ use Rattle.table.proofs.Family.{parent-root, parent-first, parent-next,
 use Rattle.table.specs.Expressions.{exprsAt, exprAt, bodyOf, defsAt, thenAt, elseAt}
 use Rattle.table.proofs.Tree.{kids, defs-along}
 use Rattle.table.proofs.Children.{Final, final}
-use Rattle.table.proofs.View.{View, is-const, is-param, is-prim, is-call, is-self, is-cond, is-bind, is-bound, view}
+use Rattle.table.proofs.NodeCases.{NodeCase, node-case}
+use Rattle.table.proofs.NodeCases.{is-const, is-param, is-prim, is-call, is-self, is-cond, is-bind, is-bound}
 
 -- which children of n may be in tail position
 module _ (t : List ℕ) (n c : ℕ) where
@@ -52,18 +53,18 @@ module _ (t : List ℕ) (ok : Passed t) where
   abbrev lk : Linked t
   lk = ok .linking
 
-  -- where n stands, and what may stand there
-  pub record Stands (n : ℕ) : Type 0 where
+  -- where n placed, and what may stand there
+  pub record Placed (n : ℕ) : Type 0 where
     pub in-tail : T (tail t n) → Tail (exprAt t n)
     pub elsewhere : (T (tail t n) → ⊥) → NoSelf (exprAt t n)
 
-  step : (n : ℕ) → IsNode t n → ((m : ℕ) → n < m → m ≤ nodes t → Stands m) → Stands n
-  step n i f = go (view t ok n i)
+  step : (n : ℕ) → IsNode t n → ((m : ℕ) → n < m → m ≤ nodes t → Placed m) → Placed n
+  step n i f = go (node-case t ok n i)
     where
       child : (c : ℕ) → IsNode t c → parent t c ≡ n → tail t c ≡ (tailChild t n c && tail t n)
       child c j e = subst (λ p. tail t c ≡ (tailChild t p c && tail t p)) e (tail-down t c (j .0) (λ z. omega (arith, z, e, i .0)))
 
-      at : (c : ℕ) → IsNode t c → parent t c ≡ n → Stands c
+      at : (c : ℕ) → IsNode t c → parent t c ≡ n → Placed c
       at c j e = f c (omega (arith, parent-lower t c (j .0), e)) (j .1)
 
       -- a child that is in no tail position
@@ -78,7 +79,7 @@ module _ (t : List ℕ) (ok : Passed t) where
       all-out x y = kids t lk n (λ c es. NoSelf* es) tt
           (λ c j e g. (outside c j e (λ h z. ⊎-elim (λ p. x (p .0)) (λ p. y (p .0)) (tail-cases t n c h)), g)) n i refl
 
-      go : View t n → Stands n
+      go : NodeCase t n → Placed n
       go (is-const k z e) = record { in-tail = λ x. subst Tail (sym e) tt; elsewhere = λ x. subst NoSelf (sym e) tt }
       go (is-param k z l e) = record { in-tail = λ x. subst Tail (sym e) tt; elsewhere = λ x. subst NoSelf (sym e) tt }
       go (is-prim k c e) =
@@ -147,11 +148,11 @@ module _ (t : List ℕ) (ok : Passed t) where
               (first t n) a pa
       go (is-bound k z l e) = record { in-tail = λ x. subst Tail (sym e) tt; elsewhere = λ x. subst NoSelf (sym e) tt }
 
-  pub stands : (n : ℕ) → IsNode t n → Stands n
-  stands = backwards t lk Stands step
+  pub placed : (n : ℕ) → IsNode t n → Placed n
+  placed = backwards t lk Placed step
 
   pub tail-body : (f : ℕ) → IsFunction t f → Tail (bodyOf t f)
   unfolding bodyOf
   tail-body f i =
       let r = lk .roots f i in
-      stands (root t f) r .in-tail (subst T (sym (tail-top t (root t f) (r .0) (parent-root t lk f i))) tt)
+      placed (root t f) r .in-tail (subst T (sym (tail-top t (root t f) (r .0) (parent-root t lk f i))) tt)

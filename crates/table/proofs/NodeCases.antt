@@ -20,22 +20,22 @@ use Rattle.table.proofs.Family.{pick-true, pick-false}
 use Rattle.table.proofs.Tree.{exprs-none, exprs-some, more, no-more, first-or, next-or}
 use Rattle.table.specs.Expressions.{condOf, bindOf, nodeOf, exprsAt, exprAt, defsAt, finalAt, thenAt, elseAt}
 
-pub data View (t : List ℕ) (n : ℕ) : Type 0 where
-  is-const : kind t n ≡ 1 → first t n ≡ 0 → exprAt t n ≡ const n (word t n) → View t n
-  is-param : kind t n ≡ 2 → first t n ≡ 0 → extra t n < params t (owner t n) → exprAt t n ≡ param n (extra t n) → View t n
+pub data NodeCase (t : List ℕ) (n : ℕ) : Type 0 where
+  is-const : kind t n ≡ 1 → first t n ≡ 0 → exprAt t n ≡ const n (word t n) → NodeCase t n
+  is-param : kind t n ≡ 2 → first t n ≡ 0 → extra t n < params t (owner t n) → exprAt t n ≡ param n (extra t n) → NodeCase t n
   is-prim : kind t n ≡ 3 → T (within (operationCounts (extra t n)) (length (children t n))) → exprAt t n ≡ prim n (extra t n)
       (exprsAt t (first t n))
-      → View t n
+      → NodeCase t n
   is-call : kind t n ≡ 4 → 1 ≤ word t n → word t n < owner t n → length (children t n) ≡ params t (word t n)
-      → exprAt t n ≡ call n (word t n) (exprsAt t (first t n)) → View t n
+      → exprAt t n ≡ call n (word t n) (exprsAt t (first t n)) → NodeCase t n
   is-self : kind t n ≡ 4 → word t n ≡ owner t n → T (tail t n) → length (children t n) ≡ params t (word t n)
-      → exprAt t n ≡ self n (exprsAt t (first t n)) → View t n
+      → exprAt t n ≡ self n (exprsAt t (first t n)) → NodeCase t n
   is-cond : kind t n ≡ 5 → IsNode t (first t n) → IsNode t (thenAt t n) → IsNode t (elseAt t n)
       → next t (elseAt t n) ≡ 0
-      → exprAt t n ≡ cond n (exprAt t (first t n)) (exprAt t (thenAt t n)) (exprAt t (elseAt t n)) → View t n
+      → exprAt t n ≡ cond n (exprAt t (first t n)) (exprAt t (thenAt t n)) (exprAt t (elseAt t n)) → NodeCase t n
   is-bind : kind t n ≡ 6 → IsNode t (first t n) → IsNode t (thenAt t n) → length (children t n) ≤ 9
-      → exprAt t n ≡ bind n (defsAt t (first t n)) (finalAt t (first t n)) → View t n
-  is-bound : kind t n ≡ 7 → first t n ≡ 0 → T (inScope t (word t n) n) → exprAt t n ≡ bound n (word t n) → View t n
+      → exprAt t n ≡ bind n (defsAt t (first t n)) (finalAt t (first t n)) → NodeCase t n
+  is-bound : kind t n ≡ 7 → first t n ≡ 0 → T (inScope t (word t n) n) → exprAt t n ≡ bound n (word t n) → NodeCase t n
 
 -- one case of a definition by kinds
 split : {C : Type 0} (k i : ℕ) (x y : Bool) → (k ≡ i → T x → C) → (T y → C) → T (pick (eqb k i) x y) → C
@@ -134,18 +134,18 @@ module _ (t : List ℕ) (ok : Passed t) (n : ℕ) (i : IsNode t n) where
   unfolding counted countsOf
   counted-bind e = let h = ok .children n i in in-range 2 9 count (rw e at h)
 
-  view-call : kind t n ≡ 4 → Dec (word t n ≡ owner t n) → View t n
-  view-call e (yes s) =
+  case-call : kind t n ≡ 4 → Dec (word t n ≡ owner t n) → NodeCase t n
+  case-call e (yes s) =
       is-self e s (tail-call e s) (counted-call e)
       (as-call e ∙ pick-true (eqb (word t n) (owner t n)) (self n es) (call n (word t n) es) (eq-eqb (word t n) (owner t n) s))
-  view-call e (no s) =
+  case-call e (no s) =
       let c = callee e in
       is-call e (c .0) (omega (arith, c .1, s)) (counted-call e)
       (as-call e ∙ pick-false (eqb (word t n) (owner t n)) (self n es) (call n (word t n) es) (ne-eqb (word t n) (owner t n) s))
 
-  view-cond : kind t n ≡ 5 → View t n
+  case-cond : kind t n ≡ 5 → NodeCase t n
   unfolding children condOf
-  view-cond e =
+  case-cond e =
       let a = more t lk (first t n) 2 (first-or t lk n i) (counted-cond e) in
       let b = more t lk (thenAt t n) 1 (next-or t lk (first t n) (a .0)) (a .1) in
       let c = more t lk (elseAt t n) 0 (next-or t lk (thenAt t n) (b .0)) (b .1) in
@@ -154,11 +154,11 @@ module _ (t : List ℕ) (ok : Passed t) (n : ℕ) (i : IsNode t n) where
       ∙ ap (some (exprAt t (first t n))) (exprs-some t lk (thenAt t n) (b .0)
       ∙ ap (some (exprAt t (thenAt t n))) (exprs-some t lk (elseAt t n) (c .0)))))
 
-  view-bind : kind t n ≡ 6 → View t n
+  case-bind : kind t n ≡ 6 → NodeCase t n
   unfolding children bindOf defsAt finalAt
-  view-bind e = go count refl (counted-bind e)
+  case-bind e = go count refl (counted-bind e)
     where
-      go : (j : ℕ) → count ≡ j → (2 ≤ count) × (count ≤ 9) → View t n
+      go : (j : ℕ) → count ≡ j → (2 ≤ count) × (count ≤ 9) → NodeCase t n
       go zero q h = absurd (omega (arith, q, h .0))
       go (suc zero) q h = absurd (omega (arith, q, h .0))
       go (suc (suc j)) q h =
@@ -166,9 +166,9 @@ module _ (t : List ℕ) (ok : Passed t) (n : ℕ) (i : IsNode t n) where
           let b = more t lk (thenAt t n) j (next-or t lk (first t n) (a .0)) (a .1) in
           is-bind e (a .0) (b .0) (h .1) (as-bind e ∙ ap (bindOf n) (exprs-some t lk (first t n) (a .0)))
 
-  pub view : View t n
+  pub node-case : NodeCase t n
   unfolding formed fields
-  view =
+  node-case =
       let k = kind t n in
       let e = extra t n in
       let w = word t n in
@@ -186,16 +186,16 @@ module _ (t : List ℕ) (ok : Passed t) (n : ℕ) (i : IsNode t n) where
       split k 1 x1 y2 (λ q h. is-const q (eqb→eq c 0 (both (eqb e 0) (eqb c 0) h .1)) (as-const q))
       (split k 2 x2 y3 (λ q h. is-param q (eqb→eq c 0 (both (eqb w 0) (eqb c 0) h .1)) (index q) (as-param q))
       (split k 3 x3 y4 (λ q h. is-prim q (counted-prim q) (as-prim q))
-      (split k 4 (eqb e 0) y5 (λ q h. view-call q (ℕ-discrete w (owner t n)))
-      (split k 5 x5 y6 (λ q h. view-cond q)
-      (split k 6 x5 y7 (λ q h. view-bind q)
+      (split k 4 (eqb e 0) y5 (λ q h. case-call q (ℕ-discrete w (owner t n)))
+      (split k 5 x5 y6 (λ q h. case-cond q)
+      (split k 6 x5 y7 (λ q h. case-bind q)
       (split k 7 x1 false (λ q h. is-bound q (eqb→eq c 0 (both (eqb e 0) (eqb c 0) h .1)) (scope q) (as-bound q))
       (λ h. absurd h))))))) (ok .forms n i)
 
   pub id-at : id (exprAt t n) ≡ n
-  id-at = go view
+  id-at = go node-case
     where
-      go : View t n → id (exprAt t n) ≡ n
+      go : NodeCase t n → id (exprAt t n) ≡ n
       go (is-const k z e) = ap id e
       go (is-param k z l e) = ap id e
       go (is-prim k c e) = ap id e
