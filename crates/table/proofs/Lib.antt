@@ -5,6 +5,9 @@ pub mod FindLaws
 pub mod KindLaws
 pub mod Loops
 pub mod Copied
+pub mod HandLaws
+pub mod HandSteps
+pub mod HandEnd
 pub mod NameLoops
 pub mod KinLoops
 pub mod FaultLaws

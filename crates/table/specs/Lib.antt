@@ -10,4 +10,5 @@ pub mod Well
 pub mod Decoded
 pub mod Survey
 pub mod Working
+pub mod Sweep
 pub mod Designs

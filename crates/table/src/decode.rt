@@ -10,7 +10,7 @@ ghost use Rattle.table.specs.Bytes.{twoAt, functions, nodes};
 ghost use Rattle.table.specs.Decoded.{tableSlot};
 ghost use Rattle.table.specs.Working.{Framed, IsFunction, At, putCell, withNode, withFunction};
 
-fn wide(x: u8) -> u16
+pub(crate) fn wide(x: u8) -> u16
     ensures { λ r. ⌜ r ≡ x ⌝ }
 {
     x as u16

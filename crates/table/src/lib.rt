@@ -5,8 +5,10 @@ mod faults;
 mod frame;
 mod kin;
 mod kinds;
+mod linking;
 mod names;
 pub mod read;
+mod records;
 
 ghost use Rattle.table.specs.Survey.{Surveyed, verdictOf};
 ghost use Rattle.table.specs.Check.{checkOf};

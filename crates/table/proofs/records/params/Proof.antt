@@ -1,0 +1,27 @@
+-- `records::params` meets its contract.
+use mathlib.Core.Path.{refl, _∙_}
+use Rattle.table.proofs.DecodeLaws.{params-byte}
+use borrow.Author.Needs.{needs}
+use Rattle.table.proofs.records.params.Statement.{statement}
+use Rattle.table.proofs.records.params.Tie as tie
+
+cast-at : tie.Need-cast-at
+cast-at c = search needs
+
+mul-at : tie.Need-mul-at
+mul-at c = search needs
+
+shared-slice-read-wide : tie.Need-shared-slice-read-wide
+shared-slice-read-wide c = search needs
+
+wide-requires : tie.Need-wide-requires
+wide-requires c κs = search needs
+
+returns : tie.Need-returns
+returns c =
+    let s : tie.Start = search in
+    let told : tie.After-wide = search in
+    told .wide .ensures ∙ params-byte _ _ _ (s .pre .1) refl
+
+pub params-spec : {M : Type 1} → statement M
+params-spec = tie.close (tie.spec cast-at mul-at shared-slice-read-wide wide-requires returns)

@@ -1,0 +1,139 @@
+-- what the parts of the sweep ask of each other: the sweep tells in three loops that a table is accepted, and leaves other tables to the check
+use Prim.Native.Nat.{ℕ, _+_, _*_, _%_, _≤_, _<_}
+use mathlib.Core.Bool.{Bool, true, _&&_, _||_, not}
+use mathlib.Core.Path.{_≡_}
+use mathlib.Core.List.{List, [], _∷_}
+use lib.Dec.{T, eqb}
+use lib.ListN.{length, getD, set}
+use Rattle.table.specs.Pick.{pick, Range}
+use Rattle.table.specs.Bytes.{functions, nodes, params, root, kind, extra, word, first, next}
+use Rattle.table.specs.Find.{one, total, highest, back}
+use Rattle.table.specs.Naming.{names, namer, owner, parent, tail, inScope, children}
+use Rattle.table.specs.Check.{rootFits, recordFits, fields, counted}
+use Rattle.table.specs.Working.{IsNode, IsFunction}
+
+-- a node's place among its siblings, from 1; a root's is 1
+unfoldable pub rank : List ℕ → ℕ → ℕ
+rank t n = back (namer t) (λ n r. pick (eqb (namer t n) 0) 1 (pick (eqb (first t (namer t n)) n) 1 (r + 1))) 0 n
+
+-- function, parent and rank in one number: a node's kin
+unfoldable pub kinOf : List ℕ → ℕ → ℕ
+kinOf t n = owner t n + 64 * parent t n + 65536 * rank t n
+
+-- what node m hands to v, its first child or next sibling
+unfoldable pub handed : List ℕ → ℕ → ℕ → ℕ
+handed t m v = pick (eqb (first t m) v) (owner t m + 64 * m + 65536) (kinOf t m + 65536)
+
+-- the kin of a root of function f; 0 for no function
+unfoldable pub rootKin : ℕ → ℕ
+rootKin f = pick (eqb f 0) 0 (f + 65536)
+
+-- what the roots up to f and the links of the nodes up to k handed to v, and how often they name it
+unfoldable pub kinTo : List ℕ → (f k v : ℕ) → ℕ
+kinTo t f k v =
+    let m = highest (λ m. names t m v) k in pick (eqb m 0) (rootKin (highest (λ f. eqb (root t f) v) f)) (handed t m v)
+
+unfoldable pub mentionsTo : List ℕ → (f k v : ℕ) → ℕ
+mentionsTo t f k v = total (λ f. one (eqb (root t f) v)) f + total (λ m. one (eqb (first t m) v) + one (eqb (next t m) v)) k
+
+-- an array of kin by node number, after the roots up to f and the nodes up to k: nothing was handed twice
+pub record Handed (t : List ℕ) (f k : ℕ) (kin : List ℕ) : Type 0 where
+  pub size : length kin ≡ 513
+  pub none : getD kin 0 0 ≡ 0
+  pub told : (v : ℕ) → IsNode t v → getD kin v 0 ≡ kinTo t f k v
+  pub unnamed : (v : ℕ) → IsNode t v → getD kin v 0 ≡ 0 → mentionsTo t f k v ≡ 0
+  pub once : (v : ℕ) → IsNode t v → (getD kin v 0 ≡ 0 → ⊥) → mentionsTo t f k v ≡ 1
+
+-- function f's record fits, and its root has no next
+pub record RootFits (t : List ℕ) (f : ℕ) : Type 0 where
+  pub inside : T (rootFits t f)
+  pub fits : T (recordFits t f)
+  pub ends : next t (root t f) ≡ 0
+
+abbrev pub RootsFit : List ℕ → ℕ → Type 0
+RootsFit t f = (g : ℕ) → 1 ≤ g → g ≤ f → RootFits t g
+
+-- x handed to v; place 0 stands for no link, and stays 0
+abbrev pub hand : List ℕ → ℕ → ℕ → List ℕ
+hand kin v x = set (set kin v x) 0 0
+
+-- node n, which has its kin, names what nothing named before
+pub record Links (t : List ℕ) (n : ℕ) (kin kin′ : List ℕ) : Type 0 where
+  pub named : getD kin n 0 ≡ 0 → ⊥
+  pub next-in : next t n ≤ nodes t
+  pub first-in : first t n ≤ nodes t
+  pub next-free : getD kin (next t n) 0 ≡ 0
+  pub first-free : getD (hand kin (next t n) (getD kin n 0 + 65536)) (first t n) 0 ≡ 0
+  pub made : kin′ ≡ hand (hand kin (next t n) (getD kin n 0 + 65536)) (first t n) (getD kin n 0 % 64 + 64 * n + 65536)
+
+-- all nodes' kin, and the numbers of their children
+pub record Kin (t kin : List ℕ) : Type 0 where
+  pub size : length kin ≡ 513
+  pub each : (n : ℕ) → IsNode t n → getD kin n 0 ≡ kinOf t n
+
+pub record Kids (t kids : List ℕ) : Type 0 where
+  pub size : length kids ≡ 513
+  pub each : (n : ℕ) → IsNode t n → getD kids n 0 ≡ length (children t n)
+
+-- the innermost let whose body is or contains n, 0 if none
+unfoldable pub around : List ℕ → ℕ → ℕ
+around t n = back (parent t) (λ n r. pick (eqb (kind t (parent t n)) 6 && eqb (next t n) 0) (parent t n) r) 0 n
+
+-- what a last child of n has around it
+unfoldable pub inner : List ℕ → ℕ → ℕ
+inner t n = pick (eqb (kind t n) 6) n (around t n)
+
+-- a child of p is in tail position if its rank, with 1024 more for a last child, reaches this; an if has three children, so that no
+-- first child of it is the last
+abbrev pub tailReach : (kind : ℕ) → ℕ
+tailReach k = pick (eqb k 5) 2 (pick (eqb k 6) 1025 2048)
+
+unfoldable pub tailFrom : List ℕ → ℕ → ℕ
+tailFrom t p = pick (eqb p 0) 0 (tailReach (kind t p) + pick (tail t p) 0 2048)
+
+-- what a node's kind asks of extra and word, with 6, 8 and 9 for calls and parameters: the function's number and parameters, and whether
+-- the node is in tail position, as a number
+pub record Fits (kind extra word owner params tail : ℕ) : Type 0 where
+  pub shaped : fields kind extra word 0 ≡ true
+  pub callee : kind ≡ 4 → (1 ≤ word) × (word ≤ owner)
+  pub ends : kind ≡ 4 → word ≡ owner → tail ≡ 1
+  pub param : kind ≡ 2 → extra < params
+
+-- 5 to 9 at a node, but for bounds
+pub record NodeFits (t : List ℕ) (n : ℕ) : Type 0 where
+  pub fits : Fits (kind t n) (extra t n) (word t n) (owner t n) (params t (owner t n)) (one (tail t n))
+  pub counts : T (counted t n)
+
+unfoldable pub boundFits : List ℕ → ℕ → Bool
+boundFits t n = not (eqb (kind t n) 7) || inScope t (word t n) n
+
+-- after the nodes up to k: what is around each, and the bounds among them, of which the first `count` of an array are
+pub record Swept (t : List ℕ) (k : ℕ) (outers inners froms bounds : List ℕ) (count : ℕ) : Type 0 where
+  pub outers-size : length outers ≡ 513
+  pub inners-size : length inners ≡ 513
+  pub froms-size : length froms ≡ 513
+  pub bounds-size : length bounds ≡ 513
+  pub outer-told : (n : ℕ) → n ≤ k → getD outers n 0 ≡ around t n
+  pub inner-told : (n : ℕ) → n ≤ k → getD inners n 0 ≡ inner t n
+  pub from-told : (n : ℕ) → n ≤ k → getD froms n 0 ≡ tailFrom t n
+  pub fits : (n : ℕ) → 1 ≤ n → n ≤ k → NodeFits t n
+  pub few : count ≤ k
+  pub nodes : (i : ℕ) → i < count → Range k (getD bounds i 0)
+  pub all : ((i : ℕ) → i < count → T (boundFits t (getD bounds i 0))) → (n : ℕ) → 1 ≤ n → n ≤ k → T (boundFits t n)
+
+-- what is around each node, at hand for the bounds
+pub record Arounds (t outers inners : List ℕ) : Type 0 where
+  pub outer-told : (n : ℕ) → n ≤ nodes t → getD outers n 0 ≡ around t n
+  pub inner-told : (n : ℕ) → n ≤ nodes t → getD inners n 0 ≡ inner t n
+
+-- by kind, eight numbers: what extra is below, whether it is a parameter, a call; tailReach; whether it is a bound, a let
+abbrev pub kindRules : List ℕ
+kindRules =
+    0 ∷ 0 ∷ 0 ∷ 2048 ∷ 0 ∷ 0 ∷ 0 ∷ 0
+    ∷ 1 ∷ 0 ∷ 0 ∷ 2048 ∷ 0 ∷ 0 ∷ 0 ∷ 0
+    ∷ 0 ∷ 1 ∷ 0 ∷ 2048 ∷ 0 ∷ 0 ∷ 0 ∷ 0
+    ∷ 11 ∷ 0 ∷ 0 ∷ 2048 ∷ 0 ∷ 0 ∷ 0 ∷ 0
+    ∷ 1 ∷ 0 ∷ 1 ∷ 2048 ∷ 0 ∷ 0 ∷ 0 ∷ 0
+    ∷ 1 ∷ 0 ∷ 0 ∷ 2 ∷ 0 ∷ 0 ∷ 0 ∷ 0
+    ∷ 1 ∷ 0 ∷ 0 ∷ 1025 ∷ 0 ∷ 1 ∷ 0 ∷ 0
+    ∷ 1 ∷ 0 ∷ 0 ∷ 2048 ∷ 1 ∷ 0 ∷ 0 ∷ 0 ∷ []
