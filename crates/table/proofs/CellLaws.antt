@@ -21,7 +21,7 @@ use Rattle.table.specs.Working.{putCell, withNode, withFunction, filledT
 use Rattle.table.proofs.Loops.{blank-at}
 
 -- by the number of a slot
-by-eight : (P : ℕ → Type 0) → P 0 → P 1 → P 2 → P 3 → P 4 → P 5 → P 6 → P 7 → (k : ℕ) → k < 8 → P k
+pub by-eight : (P : ℕ → Type 0) → P 0 → P 1 → P 2 → P 3 → P 4 → P 5 → P 6 → P 7 → (k : ℕ) → k < 8 → P k
 by-eight P a b c d e f g h zero l = a
 by-eight P a b c d e f g h (suc zero) l = b
 by-eight P a b c d e f g h (suc (suc zero)) l = c

@@ -28,6 +28,7 @@ pub mod Tails
 pub mod Scopes
 pub mod ChainLoop
 pub mod CountLaws
+pub mod RuleLaws
 pub mod Accepted
 pub mod LaidOut
 pub mod CheckedDesigns

@@ -5,6 +5,9 @@ use mathlib.Core.Path.{_≡_}
 use mathlib.Core.List.{List, [], _∷_}
 use lib.Dec.{T, eqb}
 use lib.ListN.{length, getD, set}
+use Rattle.table.specs.declared.sweep.Sift.{Sift}
+use Rattle.table.specs.declared.sweep.Sieve.{Sieve}
+use Rattle.table.specs.declared.sweep.Sieve.the-variants.{Passed, Failed}
 use Rattle.table.specs.Pick.{pick, Range}
 use Rattle.table.specs.Bytes.{functions, nodes, params, root, kind, extra, word, first, next}
 use Rattle.table.specs.Find.{one, total, highest, back}
@@ -98,6 +101,7 @@ pub record Fits (kind extra word owner params tail : ℕ) : Type 0 where
   pub callee : kind ≡ 4 → (1 ≤ word) × (word ≤ owner)
   pub ends : kind ≡ 4 → word ≡ owner → tail ≡ 1
   pub param : kind ≡ 2 → extra < params
+  pub small : extra < 16
 
 -- 5 to 9 at a node, but for bounds
 pub record NodeFits (t : List ℕ) (n : ℕ) : Type 0 where
@@ -107,26 +111,38 @@ pub record NodeFits (t : List ℕ) (n : ℕ) : Type 0 where
 unfoldable pub boundFits : List ℕ → ℕ → Bool
 boundFits t n = not (eqb (kind t n) 7) || inScope t (word t n) n
 
--- after the nodes up to k: what is around each, and the bounds among them, of which the first `count` of an array are
-pub record Swept (t : List ℕ) (k : ℕ) (outers inners froms bounds : List ℕ) (count : ℕ) : Type 0 where
-  pub outers-size : length outers ≡ 513
-  pub inners-size : length inners ≡ 513
-  pub froms-size : length froms ≡ 513
-  pub bounds-size : length bounds ≡ 513
-  pub outer-told : (n : ℕ) → n ≤ k → getD outers n 0 ≡ around t n
-  pub inner-told : (n : ℕ) → n ≤ k → getD inners n 0 ≡ inner t n
-  pub from-told : (n : ℕ) → n ≤ k → getD froms n 0 ≡ tailFrom t n
-  pub fits : (n : ℕ) → 1 ≤ n → n ≤ k → NodeFits t n
-  pub few : count ≤ k
-  pub nodes : (i : ℕ) → i < count → Range k (getD bounds i 0)
-  pub all : ((i : ℕ) → i < count → T (boundFits t (getD bounds i 0))) → (n : ℕ) → 1 ≤ n → n ≤ k → T (boundFits t n)
-
 -- what is around each node, at hand for the bounds
 pub record Arounds (t outers inners : List ℕ) : Type 0 where
   pub outer-told : (n : ℕ) → n ≤ nodes t → getD outers n 0 ≡ around t n
   pub inner-told : (n : ℕ) → n ≤ nodes t → getD inners n 0 ≡ inner t n
 
--- by kind, eight numbers: what extra is below, whether it is a parameter, a call; tailReach; whether it is a bound, a let
+-- the bounds of the nodes up to k are among the first `count` of an array
+pub record BoundsTo (t : List ℕ) (k : ℕ) (bounds : List ℕ) (count : ℕ) : Type 0 where
+  pub size : length bounds ≡ 513
+  pub few : count ≤ k
+  pub nodes : (i : ℕ) → i < count → Range k (getD bounds i 0)
+  pub all : ((i : ℕ) → i < count → T (boundFits t (getD bounds i 0))) → (n : ℕ) → 1 ≤ n → n ≤ k → T (boundFits t n)
+
+-- what sifting a node tells: where it passed, what is around it, around its last child, from where its children are in tail position, and
+-- whether it is a bound
+pub record Sifts (t : List ℕ) (n : ℕ) (r : Sift) : Type 0 where
+  pub fits : NodeFits t n
+  pub outer : r .outer ≡ around t n
+  pub inner : r .inner ≡ inner t n
+  pub from : r .from ≡ tailFrom t n
+  pub bound : r .bound ≡ one (eqb (kind t n) 7)
+
+-- all nodes sifted, and their bounds put aside
+pub record Sifted (t outers inners bounds : List ℕ) (count : ℕ) : Type 0 where
+  pub fits : (n : ℕ) → IsNode t n → NodeFits t n
+  pub arounds : Arounds t outers inners
+  pub bounded : BoundsTo t (nodes t) bounds count
+
+abbrev pub SiftedBy : (t outers inners bounds : List ℕ) → Sieve → Type 0
+SiftedBy t outers inners bounds (Passed count) = Sifted t outers inners bounds count
+SiftedBy t outers inners bounds Failed = Unit {0}
+
+-- by kind, eight numbers: what extra is below, whether it is a parameter, whether a call; tailReach; whether it is a bound, whether a let
 abbrev pub kindRules : List ℕ
 kindRules =
     0 ∷ 0 ∷ 0 ∷ 2048 ∷ 0 ∷ 0 ∷ 0 ∷ 0
@@ -137,3 +153,19 @@ kindRules =
     ∷ 1 ∷ 0 ∷ 0 ∷ 2 ∷ 0 ∷ 0 ∷ 0 ∷ 0
     ∷ 1 ∷ 0 ∷ 0 ∷ 1025 ∷ 0 ∷ 1 ∷ 0 ∷ 0
     ∷ 1 ∷ 0 ∷ 0 ∷ 2048 ∷ 1 ∷ 0 ∷ 0 ∷ 0 ∷ []
+
+-- by kind: the highest word, where it is no call
+abbrev pub wordRules : List ℕ
+wordRules = 0 ∷ 4294967295 ∷ 0 ∷ 0 ∷ 0 ∷ 0 ∷ 0 ∷ 4294967295 ∷ []
+
+-- by kind and extra, sixteen of each: the fewest children, and 256 times the most
+abbrev pub countRules : List ℕ
+countRules =
+    0 ∷ 0 ∷ 0 ∷ 0 ∷ 0 ∷ 0 ∷ 0 ∷ 0 ∷ 0 ∷ 0 ∷ 0 ∷ 0 ∷ 0 ∷ 0 ∷ 0 ∷ 0
+    ∷ 0 ∷ 0 ∷ 0 ∷ 0 ∷ 0 ∷ 0 ∷ 0 ∷ 0 ∷ 0 ∷ 0 ∷ 0 ∷ 0 ∷ 0 ∷ 0 ∷ 0 ∷ 0
+    ∷ 0 ∷ 0 ∷ 0 ∷ 0 ∷ 0 ∷ 0 ∷ 0 ∷ 0 ∷ 0 ∷ 0 ∷ 0 ∷ 0 ∷ 0 ∷ 0 ∷ 0 ∷ 0
+    ∷ 514 ∷ 514 ∷ 514 ∷ 514 ∷ 514 ∷ 257 ∷ 257 ∷ 257 ∷ 514 ∷ 514 ∷ 2049 ∷ 0 ∷ 0 ∷ 0 ∷ 0 ∷ 0
+    ∷ 0 ∷ 0 ∷ 0 ∷ 0 ∷ 0 ∷ 0 ∷ 0 ∷ 0 ∷ 0 ∷ 0 ∷ 0 ∷ 0 ∷ 0 ∷ 0 ∷ 0 ∷ 0
+    ∷ 771 ∷ 771 ∷ 771 ∷ 771 ∷ 771 ∷ 771 ∷ 771 ∷ 771 ∷ 771 ∷ 771 ∷ 771 ∷ 771 ∷ 771 ∷ 771 ∷ 771 ∷ 771
+    ∷ 2306 ∷ 2306 ∷ 2306 ∷ 2306 ∷ 2306 ∷ 2306 ∷ 2306 ∷ 2306 ∷ 2306 ∷ 2306 ∷ 2306 ∷ 2306 ∷ 2306 ∷ 2306 ∷ 2306 ∷ 2306
+    ∷ 0 ∷ 0 ∷ 0 ∷ 0 ∷ 0 ∷ 0 ∷ 0 ∷ 0 ∷ 0 ∷ 0 ∷ 0 ∷ 0 ∷ 0 ∷ 0 ∷ 0 ∷ 0 ∷ []

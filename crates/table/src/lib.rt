@@ -9,6 +9,7 @@ mod linking;
 mod names;
 pub mod read;
 mod records;
+mod sweep;
 
 ghost use Rattle.table.specs.Survey.{Surveyed, verdictOf};
 ghost use Rattle.table.specs.Check.{checkOf};
