@@ -6,7 +6,7 @@ use mathlib.Core.Logic.{_⊎_, ⊎-elim}
 use mathlib.Core.List.{List}
 use native.Mathlib.Omega.{arith}
 use native.Mathlib.Decide.{ℕ-discrete}
-use lib.Dec.{T, eqb, eqb→eq}
+use lib.Dec.{T, eqb, leb, eqb→eq, leb→le}
 use lib.ListN.{length, getD, set, replicate, length-set, length-replicate}
 use lib.Seq.{getD-set-same, getD-set-other}
 use borrow.Author.Tests.{eq-eqb, ne-eqb, lt-ltb, le-leb}
@@ -17,7 +17,7 @@ use Rattle.table.specs.Naming.{mentions, rootOf, namer, parent, chain, c
 use Rattle.table.specs.Check.{rootFits, recordFits, forward, linked}
 use Rattle.table.specs.Working.{IsNode, IsFunction, Framed, Linked}
 use Rattle.table.specs.Sweep.{rank, kinOf, kinTo, mentionsTo, Handed, hand, Links, RootFits, RootsFit, Kin, Kids}
-use Rattle.table.proofs.FindLaws.{pair, orl, orr, same, highest-bound, highest-passes, highest-hit}
+use Rattle.table.proofs.FindLaws.{both, pair, orl, orr, same, highest-bound, highest-passes, highest-hit}
 use Rattle.table.proofs.Tests.{true-T}
 use Rattle.table.proofs.Passed.{in-range}
 use Rattle.table.proofs.Loops.{highest-more, blank-at}
@@ -36,6 +36,10 @@ root-told t f r p s n er ep es en a b c d e = record {
   fits = rw (sym ep, sym es, le-leb p 8 c, eq-eqb s 0 d) tt;
   ends = ap (next t) (sym er) ∙ sym en ∙ e;
 }
+
+pub params-few : (t : List ℕ) → RootsFit t (functions t) → (f : ℕ) → IsFunction t f → params t f ≤ 8
+unfolding recordFits
+params-few t rf f i = leb→le (params t f) 8 (both (leb (params t f) 8) (eqb (spare t f) 0) (rf f (i .0) (i .1) .fits) .0)
 
 -- a node's links, from what was read of it
 pub links-told : (t kin : List ℕ) (n a b : ℕ) → a ≡ first t n → b ≡ next t n → (getD kin n 0 ≡ 0 → ⊥) → a ≤ nodes t → b ≤ nodes t

@@ -105,7 +105,7 @@ module _ (t : List ℕ) where
       go (yes q) l f = omega (arith, owner-top t n i q, highest-bound (λ f. eqb (root t f) n) (functions t))
       go (no q) l f = omega (arith, owner-down t n i (namer t n) (omega arith) refl, f (namer t n) l (omega arith))
 
-  rank-small : (k n : ℕ) → n ≤ k → 1 ≤ n → rank t n ≤ n
+  pub rank-small : (k n : ℕ) → n ≤ k → 1 ≤ n → rank t n ≤ n
   rank-small zero n h i = absurd (omega arith)
   rank-small (suc k) n h i = go (ℕ-discrete (namer t n) 0) (namer-lower t n i) (λ m a b. rank-small k m (omega arith) b)
     where

@@ -8,6 +8,8 @@ pub mod Copied
 pub mod HandLaws
 pub mod HandSteps
 pub mod HandEnd
+pub mod SiftLaws
+pub mod SiftLoop
 pub mod NameLoops
 pub mod KinLoops
 pub mod FaultLaws

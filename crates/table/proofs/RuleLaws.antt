@@ -7,6 +7,7 @@ use native.Mathlib.Decide.{ℕ-discrete}
 use lib.Dec.{T, eqb, leb, eqb→eq}
 use lib.ListN.{getD}
 use borrow.Author.Tests.{eq-eqb, ne-eqb, le-leb, leb-true}
+use Rattle.table.specs.Pick.{pick}
 use Rattle.table.specs.Find.{one, all}
 use Rattle.table.specs.Check.{fields, countsOf, operationCounts, within}
 use Rattle.table.specs.Sweep.{kindRules, wordRules, countRules, Fits, tailReach}
@@ -39,6 +40,22 @@ rule-below = by-eight (λ k. ruleOf k 0 ≤ 11) (omega arith) (omega arith) (ome
 pub rule-word : (k : ℕ) → k < 8 → getD wordRules k 0 ≤ 4294967295
 rule-word = by-eight (λ k. getD wordRules k 0 ≤ 4294967295) (omega arith) (omega arith) (omega arith) (omega arith) (omega arith)
     (omega arith) (omega arith) (omega arith)
+
+pub reach-most : (k : ℕ) → tailReach k ≤ 2048
+reach-most k = go (eqb k 5) (eqb k 6)
+  where
+    go : (a b : Bool) → pick a 2 (pick b 1025 2048) ≤ 2048
+    go true b = omega arith
+    go false true = omega arith
+    go false false = omega arith
+
+-- a test as a number
+pub one-yes : (k m : ℕ) → one (eqb k m) ≡ 1 → k ≡ m
+one-yes k m h = go (ℕ-discrete k m)
+  where
+    go : Dec (k ≡ m) → k ≡ m
+    go (yes e) = e
+    go (no e) = absurd (omega (arith, sym h ∙ ap one (ne-eqb k m e)))
 
 pub one-most : (b : Bool) → one b ≤ 1
 one-most true = omega arith

@@ -1,19 +1,19 @@
 -- what the parts of the sweep ask of each other: the sweep tells in three loops that a table is accepted, and leaves other tables to the check
-use Prim.Native.Nat.{ℕ, _+_, _*_, _%_, _≤_, _<_}
+use Prim.Native.Nat.{ℕ, _+_, _-_, _*_, _%_, _≤_, _<_}
 use mathlib.Core.Bool.{Bool, true, _&&_, _||_, not}
 use mathlib.Core.Path.{_≡_}
 use mathlib.Core.List.{List, [], _∷_}
 use lib.Dec.{T, eqb}
 use lib.ListN.{length, getD, set}
-use Rattle.table.specs.declared.sweep.Sift.{Sift}
-use Rattle.table.specs.declared.sweep.Sieve.{Sieve}
-use Rattle.table.specs.declared.sweep.Sieve.the-variants.{Passed, Failed}
+use Rattle.table.specs.declared.sweep.Sifting.{Sifting}
+use Rattle.table.specs.declared.sweep.Residue.{Residue}
+use Rattle.table.specs.declared.sweep.Residue.the-variants.{Passed, Failed}
 use Rattle.table.specs.Pick.{pick, Range}
 use Rattle.table.specs.Bytes.{functions, nodes, params, root, kind, extra, word, first, next}
 use Rattle.table.specs.Find.{one, total, highest, back}
 use Rattle.table.specs.Naming.{names, namer, owner, parent, tail, inScope, children}
 use Rattle.table.specs.Check.{rootFits, recordFits, fields, counted}
-use Rattle.table.specs.Working.{IsNode, IsFunction}
+use Rattle.table.specs.Working.{IsNode, At, Linked}
 
 -- a node's place among its siblings, from 1; a root's is 1
 unfoldable pub rank : List ℕ → ℕ → ℕ
@@ -123,9 +123,28 @@ pub record BoundsTo (t : List ℕ) (k : ℕ) (bounds : List ℕ) (count : ℕ) :
   pub nodes : (i : ℕ) → i < count → Range k (getD bounds i 0)
   pub all : ((i : ℕ) → i < count → T (boundFits t (getD bounds i 0))) → (n : ℕ) → 1 ≤ n → n ≤ k → T (boundFits t n)
 
+-- node n, with its kin and the number of its children, and what its parent handed down
+pub record Siftable (t : List ℕ) (base n own kids from within outer : ℕ) : Type 0 where
+  pub place : At t base n
+  pub links : Linked t
+  pub roots : RootsFit t (functions t)
+  pub kin : own ≡ kinOf t n
+  pub children : kids ≡ length (children t n)
+  pub parent-counted : (parent t n ≡ 0 → ⊥) → T (counted t (parent t n))
+  pub from-told : from ≡ tailFrom t (parent t n)
+  pub inner-told : within ≡ inner t (parent t n)
+  pub outer-told : outer ≡ around t (parent t n)
+
+-- what a node hands down, by its kind, what is around it and whether it is in tail position
+pub record Down (kind n scope tail : ℕ) (r : Sifting) : Type 0 where
+  pub outer : r .outer ≡ scope
+  pub inner : r .inner ≡ scope + (n - scope) * one (eqb kind 6)
+  pub from : r .from ≡ tailReach kind + 2048 - 2048 * tail
+  pub bound : r .bound ≡ one (eqb kind 7)
+
 -- what sifting a node tells: where it passed, what is around it, around its last child, from where its children are in tail position, and
 -- whether it is a bound
-pub record Sifts (t : List ℕ) (n : ℕ) (r : Sift) : Type 0 where
+pub record Sifts (t : List ℕ) (n : ℕ) (r : Sifting) : Type 0 where
   pub fits : NodeFits t n
   pub outer : r .outer ≡ around t n
   pub inner : r .inner ≡ inner t n
@@ -138,7 +157,7 @@ pub record Sifted (t outers inners bounds : List ℕ) (count : ℕ) : Type 0 whe
   pub arounds : Arounds t outers inners
   pub bounded : BoundsTo t (nodes t) bounds count
 
-abbrev pub SiftedBy : (t outers inners bounds : List ℕ) → Sieve → Type 0
+abbrev pub SiftedBy : (t outers inners bounds : List ℕ) → Residue → Type 0
 SiftedBy t outers inners bounds (Passed count) = Sifted t outers inners bounds count
 SiftedBy t outers inners bounds Failed = Unit {0}
 

@@ -1,6 +1,6 @@
 -- `sweep::counted` meets its contract.
 use native.Mathlib.Omega.{arith}
-use Prim.Native.Nat.{_+_, _*_, _/_, _%_, _≤_}
+use Prim.Native.Nat.{ℕ, _+_, _*_, _/_, _%_, _≤_}
 use lib.ListN.{getD}
 use lib.Dec.{eqb, leb}
 use mathlib.Core.Bool.{_&&_}
@@ -17,14 +17,22 @@ narrow : (s : tie.Start) → getD (s .args .counts .now) (16 * s .args .kind + s
 narrow s = subst (λ l. getD l (16 * s .args .kind + s .args .extra) 0 / 256 ≤ 255) (sym (s .pre .0)) (count-narrow _ _ (s .pre .1) (s .pre .2))
 
 -- what was looked up is 7
-told : (s : tie.Start) → let x = getD (s .args .counts .now) (16 * s .args .kind + s .args .extra) 0 in
-    let m = s .args .params * s .args .call in
-    (leb (x % 256 + m) (s .args .kids) && leb (s .args .kids) (x / 256 + m)) ≡ within (countsOf (s .args .kind) (s .args .extra) (s .args .params))
-    (s .args .kids)
-told s =
-    ap (λ l. let x = getD l (16 * s .args .kind + s .args .extra) 0 in let m = s .args .params * s .args .call in
-    leb (x % 256 + m) (s .args .kids) && leb (s .args .kids) (x / 256 + m)) (s .pre .0)
-    ∙ count-told _ _ _ _ _ (s .pre .1) (s .pre .2) (s .pre .3)
+module _ (s : tie.Start) where
+  abbrev row : ℕ
+  row = getD (s .args .counts .now) (16 * s .args .kind + s .args .extra) 0
+
+  abbrev fewest : ℕ
+  fewest = row % 256 + s .args .params * s .args .call
+
+  abbrev most : ℕ
+  most = row / 256 + s .args .params * s .args .call
+
+  told : (leb fewest (s .args .kids) && leb (s .args .kids) most)
+      ≡ within (countsOf (s .args .kind) (s .args .extra) (s .args .params)) (s .args .kids)
+  told =
+      ap (λ l. let x = getD l (16 * s .args .kind + s .args .extra) 0 in let m = s .args .params * s .args .call in
+      leb (x % 256 + m) (s .args .kids) && leb (s .args .kids) (x / 256 + m)) (s .pre .0)
+      ∙ count-told _ _ _ _ _ (s .pre .1) (s .pre .2) (s .pre .3)
 
 -- what a call has more
 more : (s : tie.Start) → s .args .params * s .args .call ≤ 8
@@ -61,13 +69,13 @@ returns : tie.Need-returns
 returns c =
     let s : tie.Start = search in
     let few : tie.Then1 = search in
-    first-fails (lt-leb _ _ (few .if1 .taken)) (told s)
+    first-fails (leb (fewest s) (s .args .kids)) (leb (s .args .kids) (most s)) _ (lt-leb _ _ (few .if1 .taken)) (told s)
 
 returns-2 : tie.Need-returns-2
 returns-2 c =
     let s : tie.Start = search in
     let enough : tie.Else1 = search in
-    first-holds (le-leb _ _ (enough .if1 .left)) (told s)
+    first-holds (leb (fewest s) (s .args .kids)) (leb (s .args .kids) (most s)) _ (le-leb _ _ (enough .if1 .left)) (told s)
 
 pub counted-spec : {M : Type 1} → statement M
 counted-spec =

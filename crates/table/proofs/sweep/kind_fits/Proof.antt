@@ -1,4 +1,4 @@
--- `sweep::fits` meets its contract: each test fails, or all are those of the kind.
+-- `sweep::kind_fits` meets its contract: each test fails, or all are those of the kind.
 use native.Mathlib.Omega.{arith}
 use Prim.Native.Nat.{_+_, _-_, _*_, _≤_}
 use mathlib.Core.Path.{ap, _∙_}
@@ -8,8 +8,8 @@ use borrow.Author.Tests.{leb-true}
 use Rattle.table.proofs.Tests.{never}
 use Rattle.table.proofs.RuleLaws.{rule-param, rule-below, rule-call, rule-word, one-most, flag-times, fits-told}
 use borrow.Author.Needs.{needs}
-use Rattle.table.proofs.sweep.fits.Statement.{statement}
-use Rattle.table.proofs.sweep.fits.Tie as tie
+use Rattle.table.proofs.sweep.kind_fits.Statement.{statement}
+use Rattle.table.proofs.sweep.kind_fits.Tie as tie
 
 -- what was looked up: a parameter or not, a call or not
 abbrev start : tie.After-rule → tie.Start
@@ -95,8 +95,8 @@ returns-3 c e =
     (ap (λ l. getD l (s .args .kind) 0) (s .pre .1)) (s .pre .3) (s .pre .5) (s .pre .6) (low .if1 .left) (some .if2 .left)
     (leb-true _ _ e)
 
-pub fits-spec : {M : Type 1} → statement M
-fits-spec =
+pub kind-fits-spec : {M : Type 1} → statement M
+kind-fits-spec =
     tie.close
     (tie.spec
     rule-requires
