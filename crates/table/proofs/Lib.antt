@@ -10,6 +10,8 @@ pub mod HandSteps
 pub mod HandEnd
 pub mod SiftLaws
 pub mod SiftLoop
+pub mod ScopeLaws
+pub mod SweepEnd
 pub mod NameLoops
 pub mod KinLoops
 pub mod FaultLaws

@@ -11,7 +11,7 @@ use Rattle.table.specs.declared.sweep.Residue.the-variants.{Passed, Fail
 use Rattle.table.specs.Pick.{pick, Range}
 use Rattle.table.specs.Bytes.{functions, nodes, params, root, kind, extra, word, first, next}
 use Rattle.table.specs.Find.{one, total, highest, back}
-use Rattle.table.specs.Naming.{names, namer, owner, parent, tail, inScope, children}
+use Rattle.table.specs.Naming.{names, namer, owner, parent, tail, underLast, inScope, children}
 use Rattle.table.specs.Check.{rootFits, recordFits, fields, counted}
 use Rattle.table.specs.Working.{IsNode, At, Linked}
 
@@ -115,6 +115,17 @@ boundFits t n = not (eqb (kind t n) 7) || inScope t (word t n) n
 pub record Arounds (t outers inners : List ℕ) : Type 0 where
   pub outer-told : (n : ℕ) → n ≤ nodes t → getD outers n 0 ≡ around t n
   pub inner-told : (n : ℕ) → n ≤ nodes t → getD inners n 0 ≡ inner t n
+
+-- n is in the body of let a; of no let nothing is said
+abbrev pub Encloses : (t : List ℕ) (a n : ℕ) → Type 0
+Encloses t a n = (a ≡ 0 → ⊥) → T (underLast t a n)
+
+-- what is in the body of a is in that of b
+abbrev pub Outward : (t : List ℕ) (a b : ℕ) → Type 0
+Outward t a b = (n : ℕ) → Encloses t a n → Encloses t b n
+
+abbrev pub BoundsFit : List ℕ → Type 0
+BoundsFit t = (n : ℕ) → IsNode t n → T (boundFits t n)
 
 -- the bounds of the nodes up to k are among the first `count` of an array
 pub record BoundsTo (t : List ℕ) (k : ℕ) (bounds : List ℕ) (count : ℕ) : Type 0 where

@@ -9,11 +9,15 @@ mod linking;
 mod names;
 pub mod read;
 mod records;
+mod scope;
 mod sweep;
 
+use crate::sweep::Residue;
 ghost use Rattle.table.specs.Survey.{Surveyed, verdictOf};
 ghost use Rattle.table.specs.Check.{checkOf};
-ghost use Rattle.table.specs.Working.{Framed, Decides};
+ghost use Rattle.table.specs.Working.{Framed, Taken, Decides};
+ghost use Rattle.table.specs.Sweep.{Kin};
+ghost use mathlib.Core.Bool.{true};
 ghost use mathlib.Core.Path.{_≡_};
 ghost use lib.ListN.{replicate};
 
@@ -71,6 +75,28 @@ fn decide(table: &[u8], cells: &mut [u16; 4360]) -> Checked
         return Checked::Refused(number, Node(0));
     }
     inspect(table, cells)
+}
+
+// Whether a table of the right size is accepted, in three loops; its nodes' kin comes with it. What it does not pass is left to `inspect`.
+fn passes(table: &[u8], kin: &mut [u32; 513]) -> bool
+    requires { ⌜ Framed (now table) × (now kin ≡ replicate 513 0) ⌝ }
+    ensures { λ r. ⌜ (r ≡ true → Taken (now (table .entry)) × Kin (now (table .entry)) (now (kin .exit))) ⌝ }
+{
+    if !linking::roots(table, kin) {
+        return false;
+    }
+    let mut kids = [0u16; 513];
+    if !linking::links(table, kin, &mut kids) {
+        return false;
+    }
+    let mut outers = [0u16; 513];
+    let mut inners = [0u16; 513];
+    let mut bounds = [0u16; 513];
+    let residue = sweep::sift(table, kin, &kids, &mut outers, &mut inners, &mut bounds);
+    match residue {
+        Residue::Passed(count) => scope::all_fit(table, kin, &outers, &inners, &bounds, count),
+        Residue::Failed => false,
+    }
 }
 
 // A table of the right size: refusals 4 to 9.

@@ -1,0 +1,122 @@
+// Whether each bound is in the body of a let that has its definiens, by what is around it.
+use crate::Node;
+use crate::frame;
+use crate::records;
+ghost use mathlib.Core.Path.{_≡_};
+ghost use mathlib.Core.Bool.{true};
+ghost use mathlib.Core.Logic.{_⊎_};
+ghost use Prim.Native.Nat.{_≤_};
+ghost use lib.Dec.{T, eqb};
+ghost use Rattle.table.specs.Find.{one};
+ghost use Rattle.table.specs.Bytes.{nodes, word};
+ghost use Rattle.table.specs.Naming.{inScope};
+ghost use Rattle.table.specs.Working.{IsNode, Framed, At, Linked};
+ghost use Rattle.table.specs.Sweep.{around, Kin, Arounds, Encloses, Outward, Sifted, BoundsFit};
+
+fn same(a: u16, b: u16) -> u16
+    ensures { λ r. ⌜ (r ≡ one (eqb a b)) × (r ≤ 1) ⌝ }
+{
+    if a == b { 1 } else { 0 }
+}
+
+// Whether p is one of four, without a branch.
+fn among(a: u16, b: u16, c: u16, d: u16, p: u16) -> bool
+    ensures { λ r. ⌜ (r ≡ true → (a ≡ p) ⊎ ((b ≡ p) ⊎ ((c ≡ p) ⊎ (d ≡ p)))) ⌝ }
+{
+    same(a, p) + same(b, p) + same(c, p) + same(d, p) != 0
+}
+
+// The innermost let around a.
+fn outer(table: &[u8], outers: &[u16; 513], inners: &[u16; 513], a: u16) -> u16
+    requires { ⌜ Framed (now table) × Arounds (now table) (now outers) (now inners) × (a ≤ nodes (now table)) ⌝ }
+    ensures { λ r. ⌜ (r ≡ around (now (table .entry)) a) × (r ≤ nodes (now (table .entry))) ⌝ }
+{
+    outers[a as usize]
+}
+
+// Whether p is `from` or among the lets around it.
+fn climbs(table: &[u8], outers: &[u16; 513], inners: &[u16; 513], p: u16, from: u16) -> bool
+    requires { ⌜ Framed (now table) × Arounds (now table) (now outers) (now inners) × (from ≤ nodes (now table)) ⌝ }
+    ensures { λ r. ⌜ (r ≡ true → Outward (now (table .entry)) from p) ⌝ }
+{
+    let mut a = from;
+    while p < a {
+        a = outer(table, outers, inners, a);
+    }
+    a == p
+}
+
+// Whether n is in the body of let p. The innermost lets are looked at without a branch: how near p is, is hard to foresee.
+fn reaches(table: &[u8], outers: &[u16; 513], inners: &[u16; 513], n: Node, p: u16) -> bool
+    requires { ⌜ Framed (now table) × Arounds (now table) (now outers) (now inners) × IsNode (now table) (n .0) ⌝ }
+    ensures { λ r. ⌜ (r ≡ true → Encloses (now (table .entry)) p (n .0)) ⌝ }
+{
+    let a = outer(table, outers, inners, n.0);
+    let b = outer(table, outers, inners, a);
+    let c = outer(table, outers, inners, b);
+    let d = outer(table, outers, inners, c);
+    if among(a, b, c, d, p) {
+        return true;
+    }
+    climbs(table, outers, inners, p, d)
+}
+
+// 8 at bound n.
+fn bound_fits(
+    table: &[u8],
+    base: usize,
+    last: Node,
+    kin: &[u32; 513],
+    outers: &[u16; 513],
+    inners: &[u16; 513],
+    n: Node,
+) -> bool
+    requires { ⌜ At (now table) base (n .0) × (last .0 ≡ nodes (now table)) × Linked (now table) × Kin (now table) (now kin)
+        × Arounds (now table) (now outers) (now inners) ⌝ }
+    ensures { λ r. ⌜ (r ≡ true → T (inScope (now (table .entry)) (word (now (table .entry)) (n .0)) (n .0))) ⌝ }
+{
+    let word = records::word(table, base, n);
+    if word < 1 {
+        return false;
+    }
+    if (last.0 as u32) < word {
+        return false;
+    }
+    let d = word as u16;
+    let p = (kin[d as usize] / 64 % 1024) as u16;
+    if p == 0 {
+        return false;
+    }
+    if inners[p as usize] != p {
+        return false;
+    }
+    if records::next(table, base, Node(d)).0 == 0 {
+        return false;
+    }
+    reaches(table, outers, inners, n, p)
+}
+
+// 8 at all bounds.
+pub(crate) fn all_fit(
+    table: &[u8],
+    kin: &[u32; 513],
+    outers: &[u16; 513],
+    inners: &[u16; 513],
+    bounds: &[u16; 513],
+    count: usize,
+) -> bool
+    requires { ⌜ Framed (now table) × Linked (now table) × Kin (now table) (now kin)
+        × Sifted (now table) (now outers) (now inners) (now bounds) count ⌝ }
+    ensures { λ r. ⌜ (r ≡ true → BoundsFit (now (table .entry))) ⌝ }
+{
+    let base = frame::base(table);
+    let last = frame::last_node(table);
+    let mut i: usize = 0;
+    while i < count {
+        if !bound_fits(table, base, last, kin, outers, inners, Node(bounds[i])) {
+            return false;
+        }
+        i += 1;
+    }
+    true
+}
