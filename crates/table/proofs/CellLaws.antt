@@ -14,10 +14,9 @@ use Rattle.table.specs.Pick.{pick}
 use Rattle.table.specs.Bytes.{functions, nodes, params, spare, root, kind, extra, word, fourAt, first, next}
 use Rattle.table.specs.Naming.{owner, parent}
 use Rattle.table.specs.Check.{refused, ifAccepted, checkOf}
-use Rattle.table.specs.Decoded.{cellAt, nodeSlot, functionSlot, tableSlot, numberAt, low, high, nodeField, functionField, tableField}
-use Rattle.table.specs.Decoded.{upTo, cellOf, Decoded}
-use Rattle.table.specs.Working.{Taken, IsNode, IsFunction, Framed, CellsTo, Raw, Cells}
-use Rattle.table.specs.Working.{putCell, withNode, withFunction, filledTo, Filled}
+use Rattle.table.specs.Decoded.{cellAt, putCell, nodeSlot, functionSlot, tableSlot, low, high, nodeField, functionField, tableField}
+use Rattle.table.specs.Decoded.{putFields, functionsPut, nodesPut, decodedInto}
+use Rattle.table.specs.Working.{IsNode, IsFunction, Framed, CellsTo, Raw, Cells, numberAt, upTo, filledTo, Filled}
 use Rattle.table.proofs.Loops.{blank-at}
 
 -- by the number of a slot
@@ -33,10 +32,10 @@ by-eight P a b c d e f g h (suc (suc (suc (suc (suc (suc (suc zero))))))) l = h
 by-eight P a b c d e f g h (suc (suc (suc (suc (suc (suc (suc (suc k)))))))) l = absurd (omega arith)
 
 -- slot s of an array becomes W, and the others stay
-record Row (s : ℕ) (W : ℕ → ℕ) (cells cells′ : List ℕ) : Type 0 where
-  size : length cells′ ≡ length cells
-  here : (k : ℕ) → k < 8 → cellAt cells′ s k ≡ W k
-  other : (s′ k : ℕ) → (s′ ≡ s → ⊥) → k < 8 → cellAt cells′ s′ k ≡ cellAt cells s′ k
+pub record Row (s : ℕ) (W : ℕ → ℕ) (cells cells′ : List ℕ) : Type 0 where
+  pub size : length cells′ ≡ length cells
+  pub here : (k : ℕ) → k < 8 → cellAt cells′ s k ≡ W k
+  pub other : (s′ k : ℕ) → (s′ ≡ s → ⊥) → k < 8 → cellAt cells′ s′ k ≡ cellAt cells s′ k
 
 row-start : (s : ℕ) (cells : List ℕ) → Row s (cellAt cells s) cells cells
 row-start s cells = record { size = refl; here = λ k h. refl; other = λ s′ k d h. refl }
@@ -54,10 +53,24 @@ row-put s W cells cells′ z b r j x i = record {
     here k h (yes e) = rw (e, eq-eqb j j refl) (getD-set-same cells′ (8 * s + j) x 0 (omega (arith, r .size)))
     here k h (no e) = rw (ne-eqb k j e) (getD-set-other cells′ (8 * s + j) (8 * s + k) x 0 (λ q. e (omega arith)) ∙ r .here k h)
 
--- the number that has a slot, and the slot that a number has
-number-zero : (m : ℕ) → numberAt m 0 ≡ m
-number-zero m = refl
+row-as : {s : ℕ} {W U : ℕ → ℕ} {cells cells′ : List ℕ} → Row s W cells cells′ → ((k : ℕ) → k < 8 → W k ≡ U k) → Row s U cells cells′
+row-as r f = record { size = r .size; here = λ k h. r .here k h ∙ f k h; other = r .other }
 
+-- the first numbers of a record
+pub row-fields : (k s : ℕ) (g : ℕ → ℕ) (cells : List ℕ) → length cells ≡ 4360 → s < 545 → k ≤ 8
+    → Row s (λ j. pick (ltb j k) (g j) (cellAt cells s j)) cells (putFields k s g cells)
+unfolding putFields
+row-fields zero s g cells z b i = row-as (row-start s cells) (λ j h. sym (ap (λ x. pick x (g j) (cellAt cells s j)) (le-ltb j 0 (omega arith))))
+row-fields (suc k) s g cells z b i =
+    row-as (row-put s _ cells _ z b (row-fields k s g cells z b (omega arith)) k (g k) (omega arith)) (λ j h. one-more j (ℕ-discrete j k) (decLt j k))
+  where
+    one-more : (j : ℕ) → Dec (j ≡ k) → Dec (j < k)
+        → pick (eqb j k) (g k) (pick (ltb j k) (g j) (cellAt cells s j)) ≡ pick (ltb j (suc k)) (g j) (cellAt cells s j)
+    one-more j (yes e) d = rw (eq-eqb j k e, lt-ltb j (suc k) (omega arith)) (ap g (sym e))
+    one-more j (no e) (yes d) = rw (ne-eqb j k e, lt-ltb j k d, lt-ltb j (suc k) (omega arith))
+    one-more j (no e) (no d) = rw (ne-eqb j k e, le-ltb j k (omega arith), le-ltb j (suc k) (omega arith))
+
+-- the number that has a slot, and the slot that a number has
 number-other : (m s : ℕ) → (s ≡ 0 → ⊥) → numberAt m s ≡ s
 number-other m s d = rw (ne-eqb s 0 d)
 
@@ -121,7 +134,7 @@ module _ (t cells cells′ : List ℕ) (f n m f′ n′ m′ s₀ : ℕ) (W : �
 
 -- nothing but the sizes
 pub filled-none : (t cells : List ℕ) → cells ≡ replicate 4360 0 → (cells′ : List ℕ)
-    → cells′ ≡ putCell (putCell cells tableSlot 0 (functions t)) tableSlot 1 (nodes t) → Filled t 0 0 0 cells′
+    → cells′ ≡ putFields 2 tableSlot (tableField t) cells → Filled t 0 0 0 cells′
 unfolding cellAt
 filled-none t cells e cells′ q =
     subst (Filled t 0 0 0) (sym q) (record { size = two .size ∙ size; each = λ s k a b. each s k a b (ℕ-discrete s 544) })
@@ -129,12 +142,8 @@ filled-none t cells e cells′ q =
     size : length cells ≡ 4360
     size = ap length e ∙ length-replicate {A = ℕ} 4360 0
 
-    one : Row 544 (λ k. pick (eqb k 0) (functions t) (cellAt cells 544 k)) cells (putCell cells 544 0 (functions t))
-    one = row-put 544 _ cells cells size (omega arith) (row-start 544 cells) 0 (functions t) (omega arith)
-
-    two : Row 544 (λ k. pick (eqb k 1) (nodes t) (pick (eqb k 0) (functions t) (cellAt cells 544 k))) cells
-        (putCell (putCell cells 544 0 (functions t)) 544 1 (nodes t))
-    two = row-put 544 _ cells _ size (omega arith) one 1 (nodes t) (omega arith)
+    two : Row 544 (λ k. pick (ltb k 2) (tableField t k) (cellAt cells 544 k)) cells (putFields 2 544 (tableField t) cells)
+    two = row-fields 2 544 (tableField t) cells size (omega arith) (omega arith)
 
     zero-at : (i : ℕ) → getD cells i 0 ≡ 0
     zero-at i = ap (λ l. getD l i 0) e ∙ blank-at {A = ℕ} 4360 i 0
@@ -143,8 +152,8 @@ filled-none t cells e cells′ q =
     none true = refl
     none false = refl
 
-    own : (k : ℕ) → k < 8 → pick (eqb k 1) (nodes t) (pick (eqb k 0) (functions t) (cellAt cells 544 k)) ≡ tableField t k
-    own = by-eight (λ k. pick (eqb k 1) (nodes t) (pick (eqb k 0) (functions t) (cellAt cells 544 k)) ≡ tableField t k) refl refl
+    own : (k : ℕ) → k < 8 → pick (ltb k 2) (tableField t k) (cellAt cells 544 k) ≡ tableField t k
+    own = by-eight (λ k. pick (ltb k 2) (tableField t k) (cellAt cells 544 k) ≡ tableField t k) refl refl
         (zero-at _) (zero-at _) (zero-at _) (zero-at _) (zero-at _) (zero-at _)
 
     past : (s k : ℕ) → s < 544 → Dec (s < 512) → filledTo t 0 0 0 s k ≡ 0
@@ -155,19 +164,15 @@ filled-none t cells e cells′ q =
         ∙ upTo-past (λ f. functionField t f k) 0 (numberAt 32 (s - 512)) (numberAt-low 32 (s - 512) (omega arith))
 
     each : (s k : ℕ) → s < 545 → k < 8 → Dec (s ≡ 544)
-        → cellAt (putCell (putCell cells 544 0 (functions t)) 544 1 (nodes t)) s k ≡ filledTo t 0 0 0 s k
+        → cellAt (putFields 2 544 (tableField t) cells) s k ≡ filledTo t 0 0 0 s k
     each s k a b (yes q) = rw q (two .here k b ∙ own k b)
     each s k a b (no q) = two .other s k q b ∙ zero-at _ ∙ sym (past s k (omega arith) (decLt s 512))
 
 -- a function more
 module _ (t cells : List ℕ) (f : ℕ) (l : f < 32) (h : Filled t f 0 0 cells) where
-  function-row : Row (functionSlot (f + 1)) (λ k. pick (eqb k 2) (root t (f + 1)) (pick (eqb k 1) (spare t (f + 1))
-      (pick (eqb k 0) (params t (f + 1)) (cellAt cells (functionSlot (f + 1)) k)))) cells (withFunction t (f + 1) cells)
-  function-row =
-      let s = functionSlot (f + 1) in
-      let b : s < 545 = omega arith in
-      row-put s _ cells _ (h .size) b (row-put s _ cells _ (h .size) b (row-put s _ cells _ (h .size) b (row-start s cells)
-      0 (params t (f + 1)) (omega arith)) 1 (spare t (f + 1)) (omega arith)) 2 (root t (f + 1)) (omega arith)
+  function-row : Row (functionSlot (f + 1)) (λ k. pick (ltb k 3) (functionField t (f + 1) k) (cellAt cells (functionSlot (f + 1)) k)) cells
+      (putFields 3 (functionSlot (f + 1)) (functionField t (f + 1)) cells)
+  function-row = row-fields 3 (functionSlot (f + 1)) (functionField t (f + 1)) cells (h .size) (omega arith) (omega arith)
 
   -- f + 1 is the function whose slot this is
   own-function : (g k : ℕ) → filledTo t g 0 0 (functionSlot (f + 1)) k ≡ upTo g (λ f. functionField t f k) (f + 1)
@@ -179,7 +184,7 @@ module _ (t cells : List ℕ) (f : ℕ) (l : f < 32) (h : Filled t f 0 0 cells) 
       less : functionSlot (f + 1) - 512 ≡ (f + 1) % 32
       less = omega arith
 
-  pub filled-function : (cells′ : List ℕ) → cells′ ≡ withFunction t (f + 1) cells → Filled t (f + 1) 0 0 cells′
+  pub filled-function : (cells′ : List ℕ) → cells′ ≡ putFields 3 (functionSlot (f + 1)) (functionField t (f + 1)) cells → Filled t (f + 1) 0 0 cells′
   filled-function cells′ e = subst (Filled t (f + 1) 0 0) (sym e)
       (filled-row t cells _ f 0 0 (f + 1) 0 0 (functionSlot (f + 1)) _ h function-row
       (λ k b. fits k b ∙ sym (own-function (f + 1) k ∙ upTo-in (λ f. functionField t f k) (f + 1) (f + 1) (omega arith))) on)
@@ -189,11 +194,9 @@ module _ (t cells : List ℕ) (f : ℕ) (l : f < 32) (h : Filled t f 0 0 cells) 
       blank k b = h .each (functionSlot (f + 1)) k (omega arith) b ∙ own-function f k
           ∙ upTo-past (λ f. functionField t f k) f (f + 1) (omega arith)
 
-      fits : (k : ℕ) → k < 8 → pick (eqb k 2) (root t (f + 1)) (pick (eqb k 1) (spare t (f + 1))
-          (pick (eqb k 0) (params t (f + 1)) (cellAt cells (functionSlot (f + 1)) k))) ≡ functionField t (f + 1) k
-      fits = by-eight (λ k. pick (eqb k 2) (root t (f + 1)) (pick (eqb k 1) (spare t (f + 1))
-          (pick (eqb k 0) (params t (f + 1)) (cellAt cells (functionSlot (f + 1)) k))) ≡ functionField t (f + 1) k) refl refl refl
-          (blank 3 (omega arith)) (blank 4 (omega arith)) (blank 5 (omega arith)) (blank 6 (omega arith)) (blank 7 (omega arith))
+      fits : (k : ℕ) → k < 8 → pick (ltb k 3) (functionField t (f + 1) k) (cellAt cells (functionSlot (f + 1)) k) ≡ functionField t (f + 1) k
+      fits = by-eight (λ k. pick (ltb k 3) (functionField t (f + 1) k) (cellAt cells (functionSlot (f + 1)) k) ≡ functionField t (f + 1) k)
+          refl refl refl (blank 3 (omega arith)) (blank 4 (omega arith)) (blank 5 (omega arith)) (blank 6 (omega arith)) (blank 7 (omega arith))
 
       on : (s k : ℕ) → s < 545 → k < 8 → (s ≡ functionSlot (f + 1) → ⊥) → filledTo t f 0 0 s k ≡ filledTo t (f + 1) 0 0 s k
       on s k a b d = go (decLt s 512) (decLt s 544)
@@ -240,26 +243,16 @@ by-part P k n m a b = go (ltb k 6)
     go false = b
 
 pub filled-node : (t cells : List ℕ) (F n : ℕ) → n < 512 → Filled t F n 0 cells
-    → (cells′ : List ℕ) → cells′ ≡ withNode t (n + 1) cells → Filled t F (n + 1) 0 cells′
+    → (cells′ : List ℕ) → cells′ ≡ putFields 6 (nodeSlot (n + 1)) (nodeField t (n + 1)) cells → Filled t F (n + 1) 0 cells′
 filled-node t cells F n l h cells′ e = subst (Filled t F (n + 1) 0) (sym e)
     (filled-row t cells _ F n 0 F (n + 1) 0 (nodeSlot (n + 1)) W h row (λ k b. fits k b ∙ sym (full k))
     (node-on t cells F n 0 (n + 1) (omega arith) (omega arith) h (n + 1) 0 on))
   where
     W : ℕ → ℕ
-    W k = pick (eqb k 5) (next t (n + 1)) (pick (eqb k 4) (first t (n + 1)) (pick (eqb k 3) (high t (n + 1)) (pick (eqb k 2) (low t (n + 1))
-        (pick (eqb k 1) (extra t (n + 1)) (pick (eqb k 0) (kind t (n + 1)) (cellAt cells (nodeSlot (n + 1)) k))))))
+    W k = pick (ltb k 6) (nodeField t (n + 1) k) (cellAt cells (nodeSlot (n + 1)) k)
 
-    row : Row (nodeSlot (n + 1)) W cells (withNode t (n + 1) cells)
-    row =
-        let s = nodeSlot (n + 1) in
-        let b : s < 545 = omega arith in
-        let z = h .size in
-        let r₁ = row-put s _ cells _ z b (row-start s cells) 0 (kind t (n + 1)) (omega arith) in
-        let r₂ = row-put s _ cells _ z b r₁ 1 (extra t (n + 1)) (omega arith) in
-        let r₃ = row-put s _ cells _ z b r₂ 2 (low t (n + 1)) (omega arith) in
-        let r₄ = row-put s _ cells _ z b r₃ 3 (high t (n + 1)) (omega arith) in
-        let r₅ = row-put s _ cells _ z b r₄ 4 (first t (n + 1)) (omega arith) in
-        row-put s _ cells _ z b r₅ 5 (next t (n + 1)) (omega arith)
+    row : Row (nodeSlot (n + 1)) W cells (putFields 6 (nodeSlot (n + 1)) (nodeField t (n + 1)) cells)
+    row = row-fields 6 (nodeSlot (n + 1)) (nodeField t (n + 1)) cells (h .size) (omega arith) (omega arith)
 
     -- its own slot: the record, and nothing yet of function and parent
     own : ℕ → ℕ
@@ -346,8 +339,8 @@ module _ (t cells : List ℕ) (fr : Framed t) where
     size = h .size;
     node = λ n k i b. filled-at t cells (functions t) (nodes t) m n (i .0) (omega (arith, i .1, fr .N-high)) h k (omega arith)
         (rw (lt-ltb k 6 b) (i .1));
-    function = functions-filled (nodes t) m h;
-    own = sizes-filled (functions t) (nodes t) m h;
+    function = λ f k i b. functions-filled (nodes t) m h f k i (omega arith);
+    own = λ k b. sizes-filled (functions t) (nodes t) m h k (omega arith);
   }
 
   pub all-read : Filled t (functions t) (nodes t) (nodes t) cells → Cells t cells
@@ -355,36 +348,9 @@ module _ (t cells : List ℕ) (fr : Framed t) where
     size = h .size;
     node = λ n k i b. filled-at t cells (functions t) (nodes t) (nodes t) n (i .0) (omega (arith, i .1, fr .N-high)) h k b
         (by-part (λ m. n ≤ m) k (nodes t) (nodes t) (i .1) (i .1));
-    function = functions-filled (nodes t) (nodes t) h;
-    own = sizes-filled (functions t) (nodes t) (nodes t) h;
+    function = λ f k i b. functions-filled (nodes t) (nodes t) h f k i (omega arith);
+    own = λ k b. sizes-filled (functions t) (nodes t) (nodes t) h k (omega arith);
   }
-
-  -- an accepted table, decoded
-  module _ (e : Taken t) where
-    pick-same : (x : Bool) (n : ℕ) → pick x n n ≡ n
-    pick-same true n = refl
-    pick-same false n = refl
-
-    all-filled : (s k : ℕ) → filledTo t (functions t) (nodes t) (nodes t) s k ≡ ifAccepted (checkOf t) (cellOf t s k) 0
-    unfolding cellOf
-    all-filled s k = same ∙ sym (ap (λ v. ifAccepted v (cellOf t s k) 0) e)
-      where
-        same : filledTo t (functions t) (nodes t) (nodes t) s k ≡ cellOf t s k
-        same = rw (pick-same (ltb k 6) (nodes t))
-
-    pub decoded : Filled t (functions t) (nodes t) (nodes t) cells → Decoded t cells
-    decoded h = record { size = h .size; each = λ s k a b. h .each s k a b ∙ all-filled s k }
-
-    pub filled : Decoded t cells → Filled t (functions t) (nodes t) (nodes t) cells
-    filled h = record { size = h .size; each = λ s k a b. h .each s k a b ∙ sym (all-filled s k) }
-
--- a refused one, all zeros
-pub decoded-refused : (t : List ℕ) (k p : ℕ) → checkOf t ≡ refused k p → Decoded t (replicate 4360 0)
-unfolding cellAt
-decoded-refused t k p e = record {
-  size = length-replicate {A = ℕ} 4360 0;
-  each = λ s i a b. blank-at {A = ℕ} 4360 (8 * s + i) 0 ∙ sym (ap (λ v. ifAccepted v (cellOf t s i) 0) e);
-}
 
 -- the word is its two halves
 pub word-read : (t cells : List ℕ) (top : ℕ) → 4 ≤ top → CellsTo t cells top → (n : ℕ) → IsNode t n

@@ -3,9 +3,10 @@ use Prim.Native.Nat.{ℕ, _+_, _-_, _*_}
 use mathlib.Core.Path.{_≡_, ap}
 use mathlib.Core.List.{List}
 use native.Mathlib.Omega.{arith}
-use Rattle.table.specs.Bytes.{byteAt, twoAt, functionAt, nodeAt, params, spare, root, kind, extra, first, next}
-use Rattle.table.specs.Decoded.{nodeSlot, functionSlot, tableSlot, low, high}
-use Rattle.table.specs.Working.{IsFunction, At, putCell, withNode, withFunction}
+use Rattle.table.specs.Bytes.{byteAt, twoAt, functions, nodes, functionAt, nodeAt, params, spare, root, kind, extra, first, next}
+use Rattle.table.specs.Decoded.{putCell, putFields, nodeSlot, functionSlot, tableSlot, low, high, nodeField, functionField, tableField}
+use Rattle.table.specs.Working.{IsFunction, At}
+use Rattle.table.specs.Naming.{owner, parent}
 
 -- node n's record begins at `at`
 module _ (t : List ℕ) (base n at : ℕ) (p : At t base n) (e : at ≡ base + 10 * n - 10) where
@@ -57,14 +58,22 @@ module _ (t : List ℕ) (f at : ℕ) (i : IsFunction t f) (e : at ≡ 4 * f) whe
 
 -- numbers put one after the other
 pub function-put : (t : List ℕ) (f s : ℕ) (a b c d : List ℕ) (x y z : ℕ) → s ≡ functionSlot f → b ≡ putCell a s 0 x → x ≡ params t f
-    → c ≡ putCell b s 1 y → y ≡ spare t f → d ≡ putCell c s 2 z → z ≡ root t f → d ≡ withFunction t f a
+    → c ≡ putCell b s 1 y → y ≡ spare t f → d ≡ putCell c s 2 z → z ≡ root t f → d ≡ putFields 3 (functionSlot f) (functionField t f) a
+unfolding putFields
 function-put t f s a b c d x y z es eb ex ec ey ed ez = cc
 
 pub node-put : (t : List ℕ) (n s : ℕ) (a b c d e f g : List ℕ) (u v w x y z : ℕ) → s ≡ nodeSlot n → b ≡ putCell a s 0 u → u ≡ kind t n
     → c ≡ putCell b s 1 v → v ≡ extra t n → d ≡ putCell c s 2 w → w ≡ low t n → e ≡ putCell d s 3 x → x ≡ high t n
-    → f ≡ putCell e s 4 y → y ≡ first t n → g ≡ putCell f s 5 z → z ≡ next t n → g ≡ withNode t n a
+    → f ≡ putCell e s 4 y → y ≡ first t n → g ≡ putCell f s 5 z → z ≡ next t n → g ≡ putFields 6 (nodeSlot n) (nodeField t n) a
+unfolding putFields
 node-put t n s a b c d e f g u v w x y z es eb eu ec ev ed ew ee ex ef ey eg ez = cc
 
-pub sizes-put : (a b c : List ℕ) (x y F N : ℕ) → b ≡ putCell a tableSlot 0 x → x ≡ F → c ≡ putCell b tableSlot 1 y → y ≡ N
-    → c ≡ putCell (putCell a tableSlot 0 F) tableSlot 1 N
-sizes-put a b c x y F N eb ex ec ey = cc
+pub whole-put : (t : List ℕ) (n s : ℕ) (a b c d : List ℕ) (x y : ℕ) → s ≡ nodeSlot n → b ≡ putFields 6 (nodeSlot n) (nodeField t n) a
+    → c ≡ putCell b s 6 x → x ≡ owner t n → d ≡ putCell c s 7 y → y ≡ parent t n → d ≡ putFields 8 (nodeSlot n) (nodeField t n) a
+unfolding putFields
+whole-put t n s a b c d x y es eb ec ex ed ey = cc
+
+pub sizes-put : (t a b c : List ℕ) (x y : ℕ) → b ≡ putCell a tableSlot 0 x → x ≡ functions t → c ≡ putCell b tableSlot 1 y → y ≡ nodes t
+    → c ≡ putFields 2 tableSlot (tableField t) a
+unfolding putFields
+sizes-put t a b c x y eb ex ec ey = cc

@@ -13,8 +13,8 @@ use Rattle.table.specs.Pick.{pick}
 use Rattle.table.specs.Bytes.{functions, nodes, root, first, next}
 use Rattle.table.specs.Find.{one, total, highest, back}
 use Rattle.table.specs.Naming.{mentions, rootOf, names, namer, owner, parent}
-use Rattle.table.specs.Working.{IsNode, Framed}
-use Rattle.table.specs.Sweep.{rank, kinOf, handed, rootKin, kinTo, mentionsTo, Handed, hand, Links}
+use Rattle.table.specs.Working.{IsNode, Framed, Kindred}
+use Rattle.table.specs.Sweep.{rank, kinOf, handed, rootKin, kinTo, mentionsTo, Kin, hand}
 use Rattle.table.proofs.FindLaws.{highest-bound, back-step}
 use Rattle.table.proofs.Links.{namer-lower}
 use Rattle.table.proofs.Family.{owner-step, owner-top, owner-down, parent-step, parent-lower}
@@ -152,3 +152,10 @@ module _ (kin : List ℕ) (v x : ℕ) (size : length kin ≡ 513) (room : v < 51
       go : Dec (v ≡ u) → getD (set kin v x) u 0 ≡ pick (eqb v u) x (getD kin u 0)
       go (yes e) = rw (eq-eqb v u e) (ap (λ w. getD (set kin w x) u 0) e ∙ getD-set-same kin u x 0 (omega (arith, size, e)))
       go (no e) = rw (ne-eqb v u e) (getD-set-other kin v u x 0 (λ q. e (sym q)))
+
+pub kindred : (t kin : List ℕ) → Framed t → Kin t kin → Kindred t kin
+kindred t kin fr h = record {
+  size = h .size;
+  owners = λ n i. kin-owner t fr n i _ (h .each n i);
+  parents = λ n i. kin-parent t fr n i _ (h .each n i);
+}

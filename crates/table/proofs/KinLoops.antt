@@ -1,5 +1,5 @@
 -- what each node is part of, node by node: its function and parent in its slot, its tail position in an array
-use Prim.Native.Nat.{ℕ, _+_, _-_, _≤_, _<_}
+use Prim.Native.Nat.{ℕ, _+_, _-_, _*_, _≤_, _<_}
 use mathlib.Core.Bool.{Bool, true, false, _&&_}
 use mathlib.Core.Path.{_≡_, sym, ap, ap₂, _∙_}
 use mathlib.Core.List.{List}
@@ -12,10 +12,10 @@ use borrow.Author.Tests.{eq-eqb}
 use Rattle.table.specs.Pick.{pick}
 use Rattle.table.specs.Bytes.{nodes, first}
 use Rattle.table.specs.Naming.{rootOf, namer, owner, parent, tailChild, tail}
-use Rattle.table.specs.Decoded.{cellAt, nodeSlot}
-use Rattle.table.specs.Working.{Filled, Tails, putCell}
+use Rattle.table.specs.Decoded.{cellAt, putCell, nodeSlot}
+use Rattle.table.specs.Working.{Filled, Tails, Framed, Linked, Kindred}
 use Rattle.table.proofs.Links.{namer-lower}
-use Rattle.table.proofs.Family.{owner-step, parent-step, parent-lower, tail-step}
+use Rattle.table.proofs.Family.{owner-step, parent-step, parent-lower, tail-step, owner-in}
 use Rattle.table.proofs.CellLaws.{filled-at, filled-kin}
 
 -- node n, of which the lower ones have their function and parent in their slots
@@ -80,3 +80,29 @@ module _ (t : List ℕ) (l : List Bool) (n : ℕ) (h : TailsTo t l n) (room : n 
 
 pub tails-all : (t : List ℕ) (l : List Bool) → TailsTo t l (nodes t) → Tails t l
 tails-all t l h n i = h .tails n (i .0) (i .1)
+
+-- function and parent of the nodes up to n in one number
+pub record RecalledTo (t : List ℕ) (n : ℕ) (kin : List ℕ) : Type 0 where
+  pub size : length kin ≡ 513
+  pub told : (m : ℕ) → 1 ≤ m → m ≤ n → getD kin m 0 ≡ owner t m + 64 * parent t m
+
+pub recalled-none : (t : List ℕ) → RecalledTo t 0 (replicate 513 0)
+recalled-none t = record { size = length-replicate {A = ℕ} 513 0; told = λ m a b. absurd (omega arith) }
+
+pub recalled-more : (t : List ℕ) (n : ℕ) (kin : List ℕ) → RecalledTo t n kin → n < 512 → (x y : ℕ) → x ≡ owner t (n + 1) → y ≡ parent t (n + 1)
+    → RecalledTo t (n + 1) (set kin (n + 1) (x + 64 * y))
+recalled-more t n kin h room x y ex ey = record {
+  size = length-set kin (n + 1) _ ∙ h .size;
+  told = λ m a b. go m a b (ℕ-discrete m (n + 1));
+}
+  where
+    go : (m : ℕ) → 1 ≤ m → m ≤ n + 1 → Dec (m ≡ n + 1) → getD (set kin (n + 1) (x + 64 * y)) m 0 ≡ owner t m + 64 * parent t m
+    go m a b (yes q) = rw q (getD-set-same kin (n + 1) _ 0 (omega (arith, h .size)) ∙ ap₂ (λ x y. x + 64 * y) ex ey)
+    go m a b (no q) = getD-set-other kin (n + 1) m _ 0 q ∙ h .told m a (omega arith)
+
+pub recalled-all : (t : List ℕ) (n : ℕ) (kin : List ℕ) → Framed t → Linked t → n ≡ nodes t → RecalledTo t n kin → Kindred t kin
+recalled-all t n kin fr lk e h = record {
+  size = h .size;
+  owners = λ m i. omega (arith, h .told m (i .0) (omega (arith, i .1)), owner-in t lk m i .1, fr .F-high);
+  parents = λ m i. omega (arith, h .told m (i .0) (omega (arith, i .1)), owner-in t lk m i .1, fr .F-high, parent-lower t m (i .0), i .1, fr .N-high);
+}

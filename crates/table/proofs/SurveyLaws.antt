@@ -1,29 +1,28 @@
 -- the survey of a table, from what its parts give
 use Prim.Native.Nat.{ℕ, zero, suc, _≤_}
 use mathlib.Core.Bool.{Bool, true, false}
-use mathlib.Core.Path.{_≡_, refl, sym, ap, ap₂, _∙_}
+use mathlib.Core.Path.{_≡_, refl, subst, sym, ap, ap₂, _∙_}
 use mathlib.Core.List.{List}
 use native.Mathlib.Omega.{arith}
 use lib.Dec.{leb, eqb→eq}
-use lib.ListN.{length, replicate}
+use lib.ListN.{length}
 use borrow.Author.Tests.{le-leb, eq-eqb, ne-eqb}
 use Rattle.table.proofs.Tests.{true-T}
 use Rattle.table.specs.declared.Function.{Function}
 use Rattle.table.specs.declared.Node.{Node}
 use Rattle.table.specs.declared.faults.Fault.{Fault}
-use Rattle.table.specs.declared.Findings.{Findings}
 use Rattle.table.specs.declared.Checked.{Checked}
 use Rattle.table.specs.declared.Checked.the-variants.{Accepted, Refused}
 use Rattle.table.specs.Pick.{pick}
 use Rattle.table.specs.Bytes.{functions, nodes, root}
 use Rattle.table.specs.Find.{all, lowest}
-use Rattle.table.specs.Check.{among, Verdict, accepted, refused, stage, sizes, whole, rootFits, linked, recordFits, checkOf}
-use Rattle.table.specs.Working.{Framed, Linked, Taken, Filled, Decides, Read, frameNumber, checkNodes, faultVerdict}
-use Rattle.table.specs.Survey.{verdictOf, Surveyed}
-use Rattle.table.specs.Decoded.{Decoded}
+use Rattle.table.specs.Check.{among, Verdict, accepted, refused, stage, sizes, whole, rootFits, linked, recordFits, ifAccepted, checkOf}
+use Rattle.table.specs.Working.{Framed, Linked, Taken, Cells, Kindred, Decides, Read, frameNumber, checkNodes, faultVerdict}
+use Rattle.table.specs.Survey.{verdictOf}
+use Rattle.table.specs.Decoded.{decodedInto, surveyed}
 use Rattle.table.proofs.FindLaws.{both, all-passes, lowest-passes}
 use Rattle.table.proofs.Passed.{in-range, passed}
-use Rattle.table.proofs.CellLaws.{decoded, decoded-refused, all-read, filled}
+use Rattle.table.proofs.DecodedLaws.{decoded-read}
 
 -- what the nodes' part found
 pub fault-refused : (t : List ℕ) (r : Fault) → faultVerdict t r ≡ checkNodes t → (r .number ≡ 10 → ⊥) → checkNodes t ≡ refused
@@ -129,13 +128,13 @@ verdict-apart (Accepted f n) (Refused k p) e = absurd (let z : _≡_ {A = ℕ} 0
 verdict-apart (Refused k p) (Accepted f n) e = absurd (let z : _≡_ {A = ℕ} 0 1 = cc in omega arith)
 verdict-apart (Refused k p) (Refused j q) e = let x : k ≡ j = cc in let y : p .0 ≡ q .0 = cc in λ i. Refused (x i) (record { 0 = y i })
 
--- the check's answer, with cells that are nothing where it is a refusal
-pub refuses : (t cells : List ℕ) (k : ℕ) (p : Node) → checkOf t ≡ refused k (p .0) → Decides t (Refused k p) cells
-refuses t cells k p e = record { told = sym e; filled = λ q. absurd (let z : _≡_ {A = ℕ} 0 1 = cc in omega arith) }
+-- the check's answer, with kin that is nothing where it is a refusal
+pub refuses : (t kin : List ℕ) (k : ℕ) (p : Node) → checkOf t ≡ refused k (p .0) → Decides t (Refused k p) kin
+refuses t kin k p e = record { told = sym e; kindred = λ q. absurd (let z : _≡_ {A = ℕ} 0 1 = cc in omega arith) }
 
-pub accepts : (t cells : List ℕ) (f : Function) (n : Node) → Taken t → f .0 ≡ functions t
-    → n .0 ≡ nodes t → Filled t (functions t) (nodes t) (nodes t) cells → Decides t (Accepted f n) cells
-accepts t cells f n e ef en h = record { told = ap₂ accepted ef en ∙ sym e; filled = λ q. h }
+pub accepts : (t kin : List ℕ) (f : Function) (n : Node) → Taken t → f .0 ≡ functions t → n .0 ≡ nodes t → Kindred t kin
+    → Decides t (Accepted f n) kin
+accepts t kin f n e ef en h = record { told = ap₂ accepted ef en ∙ sym e; kindred = λ q. h }
 
 -- an accepted table: its answer names F and N, and its records can be read
 pub taken-by : (t : List ℕ) (F N : ℕ) → accepted F N ≡ checkOf t → Taken t × (F ≡ functions t) × (N ≡ nodes t)
@@ -148,27 +147,20 @@ taken-framed t e =
     let p = passed t (functions t) (nodes t) e .0 in
     record { F-low = p .F-low; F-high = p .F-high; N-low = p .N-low; N-high = p .N-high; size = p .size }
 
--- and the survey's
-pub surveyed : (t cells : List ℕ) (f : Function) (n : Node) → Decides t (Accepted f n) cells
-    → Surveyed t (record { checked = Accepted f n; cells = cells })
-surveyed t cells f n d =
-    let e = taken-by t (f .0) (n .0) (d .told) .0 in
-    record { checked = d .told; cells = decoded t cells (taken-framed t e) e (d .filled e) }
+-- the cells of an accepted table are filled, those of a refused one kept
+pub surveyed-in : (t cells cells′ : List ℕ) → Taken t → cells′ ≡ decodedInto t cells → cells′ ≡ surveyed t cells
+unfolding surveyed
+surveyed-in t cells cells′ e q = q ∙ sym (ap (λ v. ifAccepted v (decodedInto t cells) cells) e)
 
-pub surveyed-refused : (t cells : List ℕ) (k : ℕ) (p : Node) → Decides t (Refused k p) cells
-    → Surveyed t (record { checked = Refused k p; cells = replicate 4360 0 })
-surveyed-refused t cells k p d = record { checked = d .told; cells = decoded-refused t k (p .0) (sym (d .told)) }
+pub surveyed-out : (t cells : List ℕ) (k p : ℕ) → refused k p ≡ checkOf t → cells ≡ surveyed t cells
+unfolding surveyed
+surveyed-out t cells k p e = ap (λ v. ifAccepted v (decodedInto t cells) cells) e
 
--- what the cells of an accepted table say
-pub cells-read : (t cells : List ℕ) → Taken t → Decoded t cells → Read t cells
-cells-read t cells e d = record { taken = e; told = all-read t cells fr (filled t cells fr e d) }
-  where
-    fr : Framed t
-    fr = taken-framed t e
-
--- a survey that says accepted
-pub survey-taken : (t : List ℕ) (r : Findings) (f : Function) (n : Node) → Surveyed t r → r .checked ≡ Accepted f n
-    → Read t (r .cells) × (f .0 ≡ functions t) × (n .0 ≡ nodes t)
-survey-taken t r f n s e =
-    let k = taken-by t (f .0) (n .0) (sym (ap verdictOf e) ∙ s .checked) in
-    (cells-read t (r .cells) (k .0) (s .cells), k .1, k .2)
+-- what a survey says: an accepted table can be read
+pub survey-taken : (t cells cells′ : List ℕ) (r : Checked) (f : Function) (n : Node) → length cells ≡ 4360 → verdictOf r ≡ checkOf t
+    → cells′ ≡ surveyed t cells → r ≡ Accepted f n → Read t cells′ × (f .0 ≡ functions t) × (n .0 ≡ nodes t)
+unfolding surveyed
+survey-taken t cells cells′ r f n size told q e =
+    let k = taken-by t (f .0) (n .0) (sym (ap verdictOf e) ∙ told) in
+    let into = q ∙ ap (λ v. ifAccepted v (decodedInto t cells) cells) (k .0) in
+    (record { taken = k .0; told = subst (Cells t) (sym into) (decoded-read t cells (taken-framed t (k .0)) size) }, k .1, k .2)

@@ -1,9 +1,8 @@
--- a table decoded: 545 slots of 8 numbers, all 0 where the table is refused
-use Prim.Native.Nat.{ℕ, _+_, _-_, _*_, _%_, _<_}
-use mathlib.Core.Path.{_≡_}
+-- a table decoded: 545 slots of 8 numbers, into which its records are put; what no record is put into keeps its content
+use Prim.Native.Nat.{ℕ, zero, suc, _+_, _*_, _%_}
 use mathlib.Core.List.{List}
-use lib.Dec.{eqb, ltb, leb}
-use lib.ListN.{length, getD}
+use lib.Dec.{eqb}
+use lib.ListN.{getD, set}
 use Rattle.table.specs.Pick.{pick}
 use Rattle.table.specs.Bytes.{twoAt, functions, nodes, nodeAt, params, spare, root, kind, extra, first, next}
 use Rattle.table.specs.Naming.{owner, parent}
@@ -12,6 +11,10 @@ use Rattle.table.specs.Check.{ifAccepted, checkOf}
 -- number k of slot s
 unfoldable pub cellAt : List ℕ → ℕ → ℕ → ℕ
 cellAt cells s k = getD cells (8 * s + k) 0
+
+-- it becomes x
+unfoldable pub putCell : List ℕ → ℕ → ℕ → ℕ → List ℕ
+putCell cells s k x = set cells (8 * s + k) x
 
 -- the slots of node n, 1 to 512, and of function f, 1 to 32; the last slot is the table's own
 abbrev pub nodeSlot : ℕ → ℕ
@@ -22,10 +25,6 @@ functionSlot f = 512 + f % 32
 
 abbrev pub tableSlot : ℕ
 tableSlot = 544
-
--- the number from 1 to m whose slot is s: m itself has slot 0
-abbrev pub numberAt : ℕ → ℕ → ℕ
-numberAt m s = pick (eqb s 0) m s
 
 -- the halves of a node's word
 unfoldable pub low : List ℕ → ℕ → ℕ
@@ -54,17 +53,23 @@ functionField t f k = pick (eqb k 0) (params t f) (pick (eqb k 1) (spare t f) (p
 abbrev pub tableField : List ℕ → ℕ → ℕ
 tableField t k = pick (eqb k 0) (functions t) (pick (eqb k 1) (nodes t) 0)
 
--- of a number above the last: 0
-abbrev pub upTo : ℕ → (ℕ → ℕ) → ℕ → ℕ
-upTo m g n = pick (leb n m) (g n) 0
+-- the first k of the numbers of a record put into slot s
+unfoldable pub putFields : (k : ℕ) → (s : ℕ) → (ℕ → ℕ) → List ℕ → List ℕ
+putFields zero s g cells = cells
+putFields (suc k) s g cells = putCell (putFields k s g cells) s k (g k)
 
-unfoldable pub cellOf : List ℕ → ℕ → ℕ → ℕ
-cellOf t s k =
-    pick (ltb s 512) (upTo (nodes t) (λ n. nodeField t n k) (numberAt 512 s))
-    (pick (ltb s 544) (upTo (functions t) (λ f. functionField t f k) (numberAt 32 (s - 512)))
-    (tableField t k))
+-- the records of the functions up to k, of the nodes up to k, each in its slot
+unfoldable pub functionsPut : List ℕ → ℕ → List ℕ → List ℕ
+functionsPut t zero cells = cells
+functionsPut t (suc k) cells = putFields 3 (functionSlot (suc k)) (functionField t (suc k)) (functionsPut t k cells)
 
--- every number of every slot
-pub record Decoded (t cells : List ℕ) : Type 0 where
-  pub size : length cells ≡ 4360
-  pub each : (s k : ℕ) → s < 545 → k < 8 → cellAt cells s k ≡ ifAccepted (checkOf t) (cellOf t s k) 0
+unfoldable pub nodesPut : List ℕ → ℕ → List ℕ → List ℕ
+nodesPut t zero cells = cells
+nodesPut t (suc k) cells = putFields 8 (nodeSlot (suc k)) (nodeField t (suc k)) (nodesPut t k cells)
+
+unfoldable pub decodedInto : List ℕ → List ℕ → List ℕ
+decodedInto t cells = nodesPut t (nodes t) (functionsPut t (functions t) (putFields 2 tableSlot (tableField t) cells))
+
+-- cells that are lent to the survey: those of a refused table stay as they are
+unfoldable pub surveyed : List ℕ → List ℕ → List ℕ
+surveyed t cells = ifAccepted (checkOf t) (decodedInto t cells) cells

@@ -1,18 +1,18 @@
 -- what the parts of the check ask of each other: the sizes, the links, and the arrays filled in ascending order of the nodes
-use Prim.Native.Nat.{ℕ, _+_, _-_, _*_, _≤_, _<_}
+use Prim.Native.Nat.{ℕ, _+_, _-_, _*_, _/_, _%_, _≤_, _<_}
 use mathlib.Core.Bool.{Bool, true, false, _&&_, _||_}
 use mathlib.Core.Path.{_≡_}
 use mathlib.Core.List.{List}
 use lib.Dec.{T, eqb, ltb, leb}
-use lib.ListN.{length, getD, set}
+use lib.ListN.{length, getD}
 use Rattle.table.specs.declared.Checked.{Checked}
 use Rattle.table.specs.Survey.{verdictOf}
 use Rattle.table.specs.declared.faults.Fault.{Fault}
 use Rattle.table.specs.Pick.{pick}
-use Rattle.table.specs.Bytes.{functions, nodes, params, spare, root, kind, extra, word, first, next}
+use Rattle.table.specs.Bytes.{functions, nodes, root, kind, extra, word}
 use Rattle.table.specs.Find.{one, total, lowest}
-use Rattle.table.specs.Naming.{mentions, rootOf, namer, tail}
-use Rattle.table.specs.Decoded.{cellAt, nodeSlot, functionSlot, tableSlot, numberAt, low, high, upTo}
+use Rattle.table.specs.Naming.{mentions, rootOf, namer, owner, parent, tail}
+use Rattle.table.specs.Decoded.{cellAt, nodeSlot, functionSlot, tableSlot}
 use Rattle.table.specs.Decoded.{nodeField, functionField, tableField}
 use Rattle.table.specs.Check.{Verdict, accepted, refused, stage, checkOf, sizes, whole, linked}
 use Rattle.table.specs.Check.{formed, calleeFits, counted, scoped, tailed}
@@ -47,8 +47,8 @@ pub record At (t : List ℕ) (base n : ℕ) : Type 0 where
 pub record CellsTo (t cells : List ℕ) (top : ℕ) : Type 0 where
   pub size : length cells ≡ 4360
   pub node : (n k : ℕ) → IsNode t n → k < top → cellAt cells (nodeSlot n) k ≡ nodeField t n k
-  pub function : (f k : ℕ) → IsFunction t f → k < 8 → cellAt cells (functionSlot f) k ≡ functionField t f k
-  pub own : (k : ℕ) → k < 8 → cellAt cells tableSlot k ≡ tableField t k
+  pub function : (f k : ℕ) → IsFunction t f → k < 3 → cellAt cells (functionSlot f) k ≡ functionField t f k
+  pub own : (k : ℕ) → k < 2 → cellAt cells tableSlot k ≡ tableField t k
 
 -- decoded from the bytes alone: no function and no parent yet
 abbrev pub Raw : List ℕ → List ℕ → Type 0
@@ -57,23 +57,15 @@ Raw t cells = CellsTo t cells 6
 abbrev pub Cells : List ℕ → List ℕ → Type 0
 Cells t cells = CellsTo t cells 8
 
--- number k of slot s is x
-unfoldable pub putCell : List ℕ → ℕ → ℕ → ℕ → List ℕ
-putCell cells s k x = set cells (8 * s + k) x
+-- the number from 1 to m whose slot is s: m itself has slot 0
+abbrev pub numberAt : ℕ → ℕ → ℕ
+numberAt m s = pick (eqb s 0) m s
 
--- node n's record, function f's, the table's sizes, put into their slots
-abbrev pub withNode : List ℕ → ℕ → List ℕ → List ℕ
-withNode t n cells =
-    let s = nodeSlot n in
-    putCell (putCell (putCell (putCell (putCell (putCell cells s 0 (kind t n)) s 1 (extra t n)) s 2 (low t n)) s 3 (high t n))
-    s 4 (first t n)) s 5 (next t n)
+-- of a number above the last: 0
+abbrev pub upTo : ℕ → (ℕ → ℕ) → ℕ → ℕ
+upTo m g n = pick (leb n m) (g n) 0
 
-abbrev pub withFunction : List ℕ → ℕ → List ℕ → List ℕ
-withFunction t f cells =
-    let s = functionSlot f in
-    putCell (putCell (putCell cells s 0 (params t f)) s 1 (spare t f)) s 2 (root t f)
-
--- how far an array of cells is filled: functions up to f, of the nodes up to n what their records say, up to m function and parent
+-- how far an array of zeros is filled: functions up to f, of the nodes up to n what their records say, up to m function and parent
 abbrev pub filledTo : List ℕ → (f n m s k : ℕ) → ℕ
 filledTo t f n m s k =
     pick (ltb s 512) (upTo (pick (ltb k 6) n m) (λ n. nodeField t n k) (numberAt 512 s))
@@ -180,10 +172,16 @@ checkNodes t =
 abbrev pub faultVerdict : List ℕ → Fault → Verdict
 faultVerdict t r = pick (eqb (r .number) 10) (accepted (functions t) (nodes t)) (refused (r .number) (r .place .0))
 
--- the check's answer, and the cells that it leaves: filled where the table is accepted
-pub record Decides (t : List ℕ) (r : Checked) (cells : List ℕ) : Type 0 where
+-- of each node its function and parent in one number
+pub record Kindred (t kin : List ℕ) : Type 0 where
+  pub size : length kin ≡ 513
+  pub owners : (n : ℕ) → IsNode t n → getD kin n 0 % 64 ≡ owner t n
+  pub parents : (n : ℕ) → IsNode t n → getD kin n 0 / 64 % 1024 ≡ parent t n
+
+-- the check's answer, and what it leaves where the table is accepted
+pub record Decides (t : List ℕ) (r : Checked) (kin : List ℕ) : Type 0 where
   pub told : verdictOf r ≡ checkOf t
-  pub filled : Taken t → Filled t (functions t) (nodes t) (nodes t) cells
+  pub kindred : Taken t → Kindred t kin
 
 -- the cells of a table that the check takes
 pub record Read (t cells : List ℕ) : Type 0 where

@@ -3,12 +3,14 @@ use crate::Function;
 use crate::Node;
 use crate::decoded;
 use crate::decoded::Cells;
+use crate::frame;
 ghost use mathlib.Core.Path.{_≡_};
-ghost use Prim.Native.Nat.{_+_, _*_, _<_};
+ghost use Prim.Native.Nat.{_+_, _*_, _/_, _%_, _<_};
 ghost use lib.ListN.{length};
-ghost use Rattle.table.specs.Bytes.{twoAt, functions, nodes};
-ghost use Rattle.table.specs.Decoded.{tableSlot};
-ghost use Rattle.table.specs.Working.{Framed, IsFunction, At, putCell, withNode, withFunction};
+ghost use Rattle.table.specs.Naming.{owner, parent};
+ghost use Rattle.table.specs.Bytes.{twoAt, functions};
+ghost use Rattle.table.specs.Decoded.{putFields, nodeSlot, nodeField, functionSlot, functionField, tableSlot, tableField, functionsPut, decodedInto};
+ghost use Rattle.table.specs.Working.{Framed, IsFunction, At, Kindred};
 
 pub(crate) fn wide(x: u8) -> u16
     ensures { λ r. ⌜ r ≡ x ⌝ }
@@ -34,8 +36,7 @@ pub(crate) fn two_at(table: &[u8], at: usize) -> u16
 // F and N.
 pub(crate) fn sizes(table: &[u8], cells: &mut Cells)
     requires { ⌜ Framed (now table) ⌝ }
-    ensures { λ _. ⌜ now (cells .exit)
-        ≡ putCell (putCell (now (cells .entry)) tableSlot 0 (functions (now (table .entry)))) tableSlot 1 (nodes (now (table .entry))) ⌝ }
+    ensures { λ _. ⌜ now (cells .exit) ≡ putFields 2 tableSlot (tableField (now (table .entry))) (now (cells .entry)) ⌝ }
 {
     decoded::put(cells, 544, 0, two_at(table, 0));
     decoded::put(cells, 544, 1, two_at(table, 2));
@@ -43,7 +44,7 @@ pub(crate) fn sizes(table: &[u8], cells: &mut Cells)
 
 pub(crate) fn function(table: &[u8], f: Function, cells: &mut Cells)
     requires { ⌜ Framed (now table) × IsFunction (now table) (f .0) ⌝ }
-    ensures { λ _. ⌜ now (cells .exit) ≡ withFunction (now (table .entry)) (f .0) (now (cells .entry)) ⌝ }
+    ensures { λ _. ⌜ now (cells .exit) ≡ putFields 3 (functionSlot (f .0)) (functionField (now (table .entry)) (f .0)) (now (cells .entry)) ⌝ }
 {
     let at = 4 * (f.0 as usize);
     let slot = decoded::function_slot(f);
@@ -55,7 +56,7 @@ pub(crate) fn function(table: &[u8], f: Function, cells: &mut Cells)
 // Node n, of a table whose node records begin at `base`.
 pub(crate) fn node(table: &[u8], base: usize, n: Node, cells: &mut Cells)
     requires { ⌜ At (now table) base (n .0) ⌝ }
-    ensures { λ _. ⌜ now (cells .exit) ≡ withNode (now (table .entry)) (n .0) (now (cells .entry)) ⌝ }
+    ensures { λ _. ⌜ now (cells .exit) ≡ putFields 6 (nodeSlot (n .0)) (nodeField (now (table .entry)) (n .0)) (now (cells .entry)) ⌝ }
 {
     let k = n.0 as usize;
     let at = base + 10 * k - 10;
@@ -66,4 +67,44 @@ pub(crate) fn node(table: &[u8], base: usize, n: Node, cells: &mut Cells)
     decoded::put(cells, slot, 3, two_at(table, at + 4));
     decoded::put(cells, slot, 4, two_at(table, at + 6));
     decoded::put(cells, slot, 5, two_at(table, at + 8));
+}
+
+// Node n, with its function and parent from its kin.
+fn whole(table: &[u8], base: usize, n: Node, own: u32, cells: &mut Cells)
+    requires { ⌜ At (now table) base (n .0) × (own % 64 ≡ owner (now table) (n .0)) × (own / 64 % 1024 ≡ parent (now table) (n .0)) ⌝ }
+    ensures { λ _. ⌜ now (cells .exit) ≡ putFields 8 (nodeSlot (n .0)) (nodeField (now (table .entry)) (n .0)) (now (cells .entry)) ⌝ }
+{
+    node(table, base, n, cells);
+    let slot = decoded::node_slot(n);
+    decoded::put(cells, slot, 6, (own % 64) as u16);
+    decoded::put(cells, slot, 7, (own / 64 % 1024) as u16);
+}
+
+// All functions.
+fn functions(table: &[u8], main: Function, cells: &mut Cells)
+    requires { ⌜ Framed (now table) × (main .0 ≡ functions (now table)) ⌝ }
+    ensures { λ _. ⌜ now (cells .exit) ≡ functionsPut (now (table .entry)) (functions (now (table .entry))) (now (cells .entry)) ⌝ }
+{
+    let end = main.0;
+    let mut f: u16 = 0;
+    while f < end {
+        f += 1;
+        function(table, Function(f), cells);
+    }
+}
+
+// The whole of an accepted table.
+pub(crate) fn fill(table: &[u8], kin: &[u32; 513], cells: &mut Cells)
+    requires { ⌜ Framed (now table) × Kindred (now table) (now kin) ⌝ }
+    ensures { λ _. ⌜ now (cells .exit) ≡ decodedInto (now (table .entry)) (now (cells .entry)) ⌝ }
+{
+    sizes(table, cells);
+    functions(table, frame::last_function(table), cells);
+    let base = frame::base(table);
+    let end = frame::last_node(table).0;
+    let mut n: u16 = 0;
+    while n < end {
+        n += 1;
+        whole(table, base, Node(n), kin[n as usize], cells);
+    }
 }

@@ -5,8 +5,7 @@ use crate::Function;
 use crate::Node;
 ghost use mathlib.Core.Path.{_≡_};
 ghost use Prim.Native.Nat.{_+_, _*_, _<_};
-ghost use Rattle.table.specs.Decoded.{cellAt, nodeSlot, functionSlot, tableSlot};
-ghost use Rattle.table.specs.Working.{putCell};
+ghost use Rattle.table.specs.Decoded.{cellAt, putCell, nodeSlot, functionSlot, tableSlot};
 
 pub type Cells = [u16; 4360];
 
@@ -70,14 +69,14 @@ pub fn word(cells: &Cells, n: Node) -> u32
     (low as u32) + 65536 * (high as u32)
 }
 
-// The function that a call calls, which is its word.
+// The function that a call calls: the low half of its word.
 pub fn callee(cells: &Cells, n: Node) -> Function
     ensures { λ r. ⌜ r .0 ≡ cellAt (now (cells .entry)) (nodeSlot (n .0)) 2 ⌝ }
 {
     Function(node_cell(cells, n, 2))
 }
 
-// The definiens of a bound, which is its word.
+// The definiens of a bound: the low half of its word.
 pub fn definiens(cells: &Cells, n: Node) -> Node
     ensures { λ r. ⌜ r .0 ≡ cellAt (now (cells .entry)) (nodeSlot (n .0)) 2 ⌝ }
 {

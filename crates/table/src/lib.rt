@@ -13,8 +13,9 @@ mod scope;
 mod sweep;
 
 use crate::sweep::Residue;
-ghost use Rattle.table.specs.Survey.{Surveyed, verdictOf};
+ghost use Rattle.table.specs.Survey.{verdictOf};
 ghost use Rattle.table.specs.Check.{checkOf};
+ghost use Rattle.table.specs.Decoded.{surveyed};
 ghost use Rattle.table.specs.Working.{Framed, Taken, Decides};
 ghost use Rattle.table.specs.Sweep.{Kin};
 ghost use mathlib.Core.Bool.{true};
@@ -33,48 +34,42 @@ pub enum Checked {
     Refused(u8, Node),
 }
 
-// A checked table, decoded.
-pub struct Findings {
-    pub checked: Checked,
-    pub cells: [u16; 4360],
-}
-
 // Refusals 1 to 9, by rising number over the whole table.
 pub fn check(table: &[u8]) -> Checked
     ensures { λ r. ⌜ verdictOf r ≡ checkOf (now (table .entry)) ⌝ }
 {
-    let mut cells = [0u16; 4360];
-    decide(table, &mut cells)
+    let mut kin = [0u32; 513];
+    decide(table, &mut kin)
 }
 
-// The check, and an accepted table decoded, with each node's function and parent; of a refused one zeros.
-pub fn survey(table: &[u8]) -> Findings
-    ensures { λ r. ⌜ Surveyed (now (table .entry)) r ⌝ }
+// The check, and an accepted table decoded into lent cells, with each node's function and parent; refused, they stay as they are.
+pub fn survey(table: &[u8], cells: &mut [u16; 4360]) -> Checked
+    ensures { λ r. ⌜ (verdictOf r ≡ checkOf (now (table .entry))) × (now (cells .exit) ≡ surveyed (now (table .entry)) (now (cells .entry))) ⌝ }
 {
-    let mut cells = [0u16; 4360];
-    let checked = decide(table, &mut cells);
+    let mut kin = [0u32; 513];
+    let checked = decide(table, &mut kin);
     match checked {
-        Checked::Accepted(main, last) => Findings {
-            checked: Checked::Accepted(main, last),
-            cells,
-        },
-        Checked::Refused(number, place) => Findings {
-            checked: Checked::Refused(number, place),
-            cells: [0u16; 4360],
-        },
+        Checked::Accepted(main, last) => {
+            decode::fill(table, &kin, cells);
+            Checked::Accepted(main, last)
+        }
+        Checked::Refused(number, place) => Checked::Refused(number, place),
     }
 }
 
-// Fills cells that are zero, all of them where the table is accepted.
-fn decide(table: &[u8], cells: &mut [u16; 4360]) -> Checked
-    requires { ⌜ now cells ≡ replicate 4360 0 ⌝ }
-    ensures { λ r. ⌜ Decides (now (table .entry)) r (now (cells .exit)) ⌝ }
+// The check, and of an accepted table each node's function and parent.
+fn decide(table: &[u8], kin: &mut [u32; 513]) -> Checked
+    requires { ⌜ now kin ≡ replicate 513 0 ⌝ }
+    ensures { λ r. ⌜ Decides (now (table .entry)) r (now (kin .exit)) ⌝ }
 {
     let number = frame::number(table);
     if number != 0 {
         return Checked::Refused(number, Node(0));
     }
-    inspect(table, cells)
+    if passes(table, kin) {
+        return Checked::Accepted(frame::last_function(table), frame::last_node(table));
+    }
+    inspect(table, kin)
 }
 
 // Whether a table of the right size is accepted, in three loops; its nodes' kin comes with it. What it does not pass is left to `inspect`.
@@ -100,31 +95,33 @@ fn passes(table: &[u8], kin: &mut [u32; 513]) -> bool
 }
 
 // A table of the right size: refusals 4 to 9.
-fn inspect(table: &[u8], cells: &mut [u16; 4360]) -> Checked
-    requires { ⌜ Framed (now table) × (now cells ≡ replicate 4360 0) ⌝ }
-    ensures { λ r. ⌜ Decides (now (table .entry)) r (now (cells .exit)) ⌝ }
+fn inspect(table: &[u8], kin: &mut [u32; 513]) -> Checked
+    requires { ⌜ Framed (now table) ⌝ }
+    ensures { λ r. ⌜ Decides (now (table .entry)) r (now (kin .exit)) ⌝ }
 {
-    decode::sizes(table, cells);
+    let mut cells = [0u16; 4360];
+    decode::sizes(table, &mut cells);
     let mut mentions = [0u16; 513];
     let mut tops = [0u16; 513];
-    names::roots(table, cells, &mut mentions, &mut tops);
-    if !frame::roots_fit(table, cells) {
+    names::roots(table, &mut cells, &mut mentions, &mut tops);
+    if !frame::roots_fit(table, &cells) {
         return Checked::Refused(4, Node(0));
     }
     let mut namers = [0u16; 513];
-    names::links(table, cells, &mut mentions, &mut namers);
-    let place = names::lowest_unlinked(table, cells, &mentions, &tops);
+    names::links(table, &mut cells, &mut mentions, &mut namers);
+    let place = names::lowest_unlinked(table, &cells, &mentions, &tops);
     if place.0 != 0 {
         return Checked::Refused(4, place);
     }
-    if !frame::records_fit(table, cells) {
+    if !frame::records_fit(table, &cells) {
         return Checked::Refused(5, Node(0));
     }
-    let tails = kin::collect(table, cells, &tops, &namers);
-    let fault = faults::lowest(table, cells, tails);
+    let tails = kin::collect(table, &mut cells, &tops, &namers);
+    let fault = faults::lowest(table, &cells, tails);
     if fault.number != 10 {
         let at = fault.place;
         return Checked::Refused(fault.number, at);
     }
-    Checked::Accepted(decoded::main(cells), decoded::last(cells))
+    *kin = kin::recall(table, &cells);
+    Checked::Accepted(decoded::main(&cells), decoded::last(&cells))
 }

@@ -62,77 +62,77 @@ rest c =
     let told = fits c in
     let e = unlinked told in
     let s = start (on (links-on e)) in
-    nodes-checked _ (s .pre .0) (rooted (on (links-on e))) (linked-all e) (sym (told .records-fit .ensures) ∙ not-false _ (c .if3 .left))
+    nodes-checked _ (s .pre) (rooted (on (links-on e))) (linked-all e) (sym (told .records-fit .ensures) ∙ not-false _ (c .if3 .left))
 
 sizes-requires : tie.Need-sizes-requires
 sizes-requires c κs =
     let s : tie.Start = search in
-    s .pre .0
+    s .pre
 
 roots-requires : tie.Need-roots-requires
 roots-requires c κs =
     let s : tie.Start = search in
     let one : tie.After-sizes = search in
-    (s .pre .0, filled-none _ _ (s .pre .1) _ (one .sizes .ensures), refl, refl)
+    (s .pre, filled-none _ _ refl _ (one .sizes .ensures), refl, refl)
 
 roots-fit-requires : tie.Need-roots-fit-requires
 roots-fit-requires c κs =
     let s : tie.Start = search in
     let tops : tie.After-roots = search in
-    (s .pre .0, tops .roots .ensures .1)
+    (s .pre, tops .roots .ensures .1)
 
 returns : tie.Need-returns
 returns c =
     let told : tie.After-roots-fit = search in
     let s : tie.Start = search in
-    refuses _ _ 4 _ (roots-refused _ (s .pre .0) (sym (told .roots-fit .ensures) ∙ not-true _ (c .if1 .taken)))
+    refuses _ _ 4 _ (roots-refused _ (s .pre) (sym (told .roots-fit .ensures) ∙ not-true _ (c .if1 .taken)))
 
 links-requires : tie.Need-links-requires
 links-requires c κs =
     let tops : tie.After-roots = search in
     let s : tie.Start = search in
-    (s .pre .0, tops .roots .ensures .0 .mentioned, refl, tops .roots .ensures .1)
+    (s .pre, tops .roots .ensures .0 .mentioned, refl, tops .roots .ensures .1)
 
 lowest-unlinked-requires : tie.Need-lowest-unlinked-requires
 lowest-unlinked-requires c κs =
     let l : tie.After-links = search in
     let tops = rooting (on l) in
     let s = start (on l) in
-    (s .pre .0, raw _ _ (s .pre .0) _ (l .links .ensures .1), l .links .ensures .0 .counts, tops .roots .ensures .0 .tops)
+    (s .pre, raw _ _ (s .pre) _ (l .links .ensures .1), l .links .ensures .0 .counts, tops .roots .ensures .0 .tops)
 
 returns-2 : tie.Need-returns-2
 returns-2 c =
     let told : tie.After-lowest-unlinked = search in
     let e = on (linking told) in
-    refuses _ _ 4 _ (unlinked-refused _ (start e .pre .0) _ (rooted e) (told .lowest-unlinked .ensures) (c .if2 .taken))
+    refuses _ _ 4 _ (unlinked-refused _ (start e .pre) _ (rooted e) (told .lowest-unlinked .ensures) (c .if2 .taken))
 
 records-fit-requires : tie.Need-records-fit-requires
 records-fit-requires c κs =
     let l = links-on (search) in
     let s = start (on l) in
-    (s .pre .0, raw _ _ (s .pre .0) _ (l .links .ensures .1))
+    (s .pre, raw _ _ (s .pre) _ (l .links .ensures .1))
 
 returns-3 : tie.Need-returns-3
 returns-3 c =
     let told : tie.After-records-fit = search in
     let e = unlinked told in
     let s = start (on (links-on e)) in
-    refuses _ _ 5 _ (records-refused _ (s .pre .0) (rooted (on (links-on e))) (linked-all e)
+    refuses _ _ 5 _ (records-refused _ (s .pre) (rooted (on (links-on e))) (linked-all e)
     (sym (told .records-fit .ensures) ∙ not-true _ (c .if3 .taken)))
 
 collect-requires : tie.Need-collect-requires
 collect-requires c κs =
     let l = links-on (unlinked (fits (search))) in
-    (start (on l) .pre .0, rooting (on l) .roots .ensures .0 .tops, l .links .ensures .0 .holders, l .links .ensures .1)
+    (start (on l) .pre, rooting (on l) .roots .ensures .0 .tops, l .links .ensures .0 .holders, l .links .ensures .1)
 
 lowest-requires : tie.Need-lowest-requires
 lowest-requires c κs =
     let k : tie.After-collect = search in
     let e = unlinked (fits (records k)) in
     let s = start (on (links-on e)) in (
-      s .pre .0,
-      links-pass _ (s .pre .0) (rooted (on (links-on e))) (linked-all e),
-      all-read _ _ (s .pre .0) (k .collect .ensures .1),
+      s .pre,
+      links-pass _ (s .pre) (rooted (on (links-on e))) (linked-all e),
+      all-read _ _ (s .pre) (k .collect .ensures .1),
       k .collect .ensures .0,
     )
 
@@ -148,17 +148,26 @@ main-requires c κs = search needs
 last-requires : tie.Need-last-requires
 last-requires c κs = search needs
 
+recall-requires : tie.Need-recall-requires
+recall-requires c κs =
+    let none : tie.Else4 = search in
+    let k = kin (fault none) in
+    let e = unlinked (fits (records k)) in
+    let s = start (on (links-on e)) in
+    (s .pre, all-read _ _ (s .pre) (k .collect .ensures .1), links-pass _ (s .pre) (rooted (on (links-on e))) (linked-all e))
+
 returns-5 : tie.Need-returns-5
 returns-5 c =
     let main : tie.After-main = search in
+    let again : tie.After-recall = search in
     let none : tie.Else4 = search in
     let told = fault none in
     let k = kin told in
     let s = start (on (links-on (unlinked (fits (records k))))) in
-    let size = sizes-filled _ _ (s .pre .0) _ _ _ (k .collect .ensures .1) in
+    let size = sizes-filled _ _ (s .pre) _ _ _ (k .collect .ensures .1) in
     accepts _ _ _ _ (rest (records k) ∙ fault-none _ _ (told .lowest .ensures) (none .if4 .left))
     (main .main .ensures ∙ size 0 (omega arith))
-    (c .last .ensures ∙ size 1 (omega arith)) (k .collect .ensures .1)
+    (c .last .ensures ∙ size 1 (omega arith)) (again .recall .ensures)
 
 pub inspect-spec : {M : Type 1} → statement M
 inspect-spec =
@@ -176,6 +185,7 @@ inspect-spec =
     collect-requires
     lowest-requires
     returns-4
+    recall-requires
     main-requires
     last-requires
     returns-5)

@@ -20,10 +20,11 @@ put-requires-2 c κs = search needs
 returns : tie.Need-returns
 unfolding functions nodes
 returns c =
+    let s : tie.Start = search in
     let f : tie.After-two-at = search in
     let one : tie.After-put = search in
     let n : tie.After-two-at2 = search in
-    sizes-put _ _ _ _ _ _ _ (one .put .ensures) (f .two-at .ensures) (c .put2 .ensures) (n .two-at2 .ensures)
+    sizes-put (s .args .table .now) _ _ _ _ _ (one .put .ensures) (f .two-at .ensures) (c .put2 .ensures) (n .two-at2 .ensures)
 
 pub sizes-spec : {M : Type 1} → statement M
 sizes-spec =

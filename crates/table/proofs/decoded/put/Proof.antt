@@ -1,6 +1,6 @@
 -- `decoded::put` meets its contract.
 use mathlib.Core.Path.{refl}
-use Rattle.table.specs.Working.{putCell}
+use Rattle.table.specs.Decoded.{putCell}
 use borrow.Author.Needs.{needs}
 use Rattle.table.proofs.decoded.put.Statement.{statement}
 use Rattle.table.proofs.decoded.put.Tie as tie

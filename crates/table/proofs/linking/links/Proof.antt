@@ -95,9 +95,12 @@ hand-on-requires c κs =
     let t : Turn = search in
     let base : tie.After-base Inv-loop μ-loop = search in
     let last : tie.After-last-node Inv-loop μ-loop = search in
-    let f = s t .pre .0 in
-    (record { framed = f; start = base .base .ensures; low = node t .0; high = node t .1 }, last .last-node .ensures, l t .loop .inv .1 .handed .size,
-    own-small _ _ f _ (node t) (l t .loop .inv .1 .handed))
+    let f = s t .pre .0 in (
+      record { framed = f; start = base .base .ensures; low = node t .0; high = node t .1 },
+      last .last-node .ensures,
+      l t .loop .inv .1 .handed .size,
+      own-small _ _ f _ (node t) (l t .loop .inv .1 .handed),
+    )
 
 returns : tie.Need-returns Inv-loop μ-loop
 returns c = never
@@ -130,7 +133,7 @@ loop-again c =
     let fr = s t .pre .0 in (
       omega (arith, t .loop-test .taken),
       linked-more _ _ _ _ fr _ (node t) (l t .loop .inv .1) (links h) _ _ (kin-parent _ fr _ (node t) _ (own h))
-      (kin-rank _ fr _ (node t) _ (own h)),
+          (kin-rank _ fr _ (node t) _ (own h)),
       l t .loop .inv .2,
     )
 

@@ -200,9 +200,13 @@ counted-requires : tie.Need-counted-requires
 counted-requires c κs =
     let a : tie.After-arguments = search in
     let k : Called = search in
-    let r = read (fitting k) in
-    (s r .pre .3, kinds r, fits k .small, calls k,
-    λ e. omega (arith, a .arguments .ensures e, params-few _ (node r .roots) _ (callee k e)))
+    let r = read (fitting k) in (
+      s r .pre .3,
+      kinds r,
+      fits k .small,
+      calls k,
+      λ e. omega (arith, a .arguments .ensures e, params-few _ (node r .roots) _ (callee k e)),
+    )
 
 failed-requires-3 : tie.Need-failed-requires-3
 failed-requires-3 c κs = search needs
@@ -233,11 +237,14 @@ returns-4 c e =
     let o : tie.After-scope-at = search in
     let d : tie.After-hand-down = search in
     let kids = counted-told _ _ _ _ _ _ _ (of r .kind .ensures) (extras r .extra .ensures) (words r .word .ensures) (node r .children)
-        (λ e. a .arguments .ensures (calls k ∙ ap (λ x. one (eqb x 4)) e))
-        (sym (n .counted .ensures) ∙ not-false _ (m .if3 .left)) in
+    (λ e. a .arguments .ensures (calls k ∙ ap (λ x. one (eqb x 4)) e))
+    (sym (n .counted .ensures) ∙ not-false _ (m .if3 .left)) in
     sifts-told _ _ (is r .0) _ (of r .kind .ensures) _ _ (around-told o) (tail-known p) _ (d .hand-down .ensures)
-    (record { fits = fits-here _ _ _ _ _ _ _ _ (of r .kind .ensures) (extras r .extra .ensures) (words r .word .ensures) (owns r)
-    (p .params .ensures) (tail-known p) (fits k); counts = kids })
+    (record {
+      fits = fits-here _ _ _ _ _ _ _ _ (of r .kind .ensures) (extras r .extra .ensures) (words r .word .ensures) (owns r)
+          (p .params .ensures) (tail-known p) (fits k);
+      counts = kids;
+    })
 
 pub node-spec : {M : Type 1} → statement M
 node-spec =
