@@ -14,6 +14,9 @@ pub mod NodeLaws
 pub mod OntoLaws
 pub mod SiblingLaws
 pub mod ChainLaws
+pub mod Chains
+pub mod NodeCalls
+pub mod DueLaws
 pub mod ListLaws
 pub mod SiteLaws
 pub mod NodeWalks
