@@ -1,7 +1,7 @@
 -- what is due at each node, in words: from its parent, and from the calls of its function
 use Prim.Native.Nat.{ℕ, _+_, _≤_, _<_}
 use mathlib.Core.Path.{_≡_, refl, subst, sym, ap, ap₂, _∙_}
-use mathlib.Core.Bool.{Bool, true, false, _&&_, _||_, not}
+use mathlib.Core.Bool.{Bool, true, false, _&&_, _||_, not, true≢false}
 use mathlib.Core.List.{List}
 use native.Mathlib.Omega.{arith}
 use native.Mathlib.Decide.{ℕ-discrete}
@@ -21,95 +21,112 @@ use Rattle.list.specs.Arbiters.{anyUpTo}
 use Rattle.list.specs.Tags.{calleeOf}
 use Rattle.list.specs.Working.{bitAt, Callee, has, twiceIn, metBy, metAt, Rows, SureTo, dueTo}
 use Rattle.list.specs.Working.{NeedsTo}
-use Rattle.list.proofs.Truths.{or-swap, any-same, any-next}
+use Rattle.list.proofs.Truths.{or-no, or-swap, any-same, any-next}
 use Rattle.list.proofs.ArbiterFacts.{and-both}
 use Rattle.list.proofs.BitLaws.{zeros-at, zero-bit, or-bit}
 use Rattle.list.proofs.DueLaws.{all-passed, first-of-let}
 use Rattle.list.proofs.RowLaws.{twice-link}
 use Rattle.list.proofs.WordLaws.{has-same, has-other}
 
--- the choice by a parent's kind, one test after the other
-pub met-choice : (a b c d e : Bool) (w p : ℕ)
-    → pick a 0 (pick b w (pick c w (pick d (pick e 0 p) 0))) ≡ pick a 0 (pick (b || c) w (pick (d && not e) p 0))
-met-choice true b c d e w p = refl
-met-choice false true c d e w p = refl
-met-choice false false true d e w p = refl
-met-choice false false false true true w p = refl
-met-choice false false false true false w p = refl
-met-choice false false false false e w p = refl
+-- the choices of a place, one test after the other
+pub all-choice : (a b c : Bool) (x : ℕ) → pick a 0 (pick b x (pick c x 0)) ≡ pick a 0 (pick (b || c) x 0)
+all-choice true b c x = refl
+all-choice false true c x = refl
+all-choice false false c x = refl
 
--- its bits
-choice-bit : (a b : Bool) (w q h : ℕ) (x y : Bool) → bitAt w h ≡ x → (b ≡ true → bitAt q h ≡ y)
-    → bitAt (pick a w (pick b q 0)) h ≡ pick a x (pick b y false)
-choice-bit true b w q h x y e f = e
-choice-bit false true w q h x y e f = f refl
-choice-bit false false w q h x y e f = zero-bit h
+pub defs-choice : (a b c : Bool) (x : ℕ) → pick a 0 (pick b (pick c 0 x) 0) ≡ pick a 0 (pick (b && not c) x 0)
+defs-choice true b c x = refl
+defs-choice false true true x = refl
+defs-choice false true false x = refl
+defs-choice false false c x = refl
 
 module _ (t : List ℕ) (ok : Taken t) where
   abbrev lk : Linked t
   lk = all-passed t ok .linking
 
-  -- the node that is read for n's parent: n's own where there is none
-  pub up-node : (n : ℕ) → IsNode t n → (p u : ℕ) → p ≡ parent t n → u ≡ pick (eqb p 0) n p → IsNode t u
-  up-node n i p u pe ue = subst (IsNode t) (sym ue) (go (ℕ-discrete p 0))
+  -- a parent that is there is a node
+  pub parent-is : (n p : ℕ) → IsNode t n → p ≡ parent t n → (p ≡ 0 → ⊥) → IsNode t p
+  parent-is n p i e z = subst (IsNode t) (sym e) (parent-node t lk n i (λ y. z (e ∙ y)))
+
+  -- the places are of nodes, or 0
+  place-few : (p c i : ℕ) (b : Bool) → ((p ≡ 0 → ⊥) → c ≤ 512) → i ≡ pick (eqb p 0) 0 (pick b c 0) → i ≤ 512
+  place-few p c i b l e = go (ℕ-discrete p 0) b e
     where
-      go : Dec (p ≡ 0) → IsNode t (pick (eqb p 0) n p)
-      go (yes z) = rw (eq-eqb p 0 z) i
-      go (no z) = rw (ne-eqb p 0 z) (subst (IsNode t) (sym pe) (parent-node t lk n i (λ y. z (pe ∙ y))))
+      go : Dec (p ≡ 0) → (b : Bool) → i ≡ pick (eqb p 0) 0 (pick b c 0) → i ≤ 512
+      go (yes z) b e = omega (arith, e ∙ ap (λ x. pick x 0 (pick b c 0)) (eq-eqb p 0 z))
+      go (no z) true e = omega (arith, e ∙ ap (λ x. pick x 0 c) (ne-eqb p 0 z), l z)
+      go (no z) false e = omega (arith, e ∙ ap (λ x. pick x 0 0) (ne-eqb p 0 z))
+
+  pub all-few : (p k c i : ℕ) → ((p ≡ 0 → ⊥) → c ≤ 512) → i ≡ pick (eqb p 0) 0 (pick (eqb k 3 || eqb k 4) c 0) → i ≤ 512
+  all-few p k c i = place-few p c i (eqb k 3 || eqb k 4)
+
+  pub defs-few : (p k c d i : ℕ) → ((p ≡ 0 → ⊥) → c ≤ 512) → i ≡ pick (eqb p 0) 0 (pick (eqb k 6 && not (eqb d 0)) c 0) → i ≤ 512
+  defs-few p k c d i = place-few p c i (eqb k 6 && not (eqb d 0))
 
   -- what two of the nodes side by side with n call, from what was read of its parent
-  pub met-word : (n : ℕ) → IsNode t n → (all twice defs pairs : List ℕ) → Rows t 0 all twice defs pairs → (p u k c d x h : ℕ)
-      → p ≡ parent t n → u ≡ pick (eqb p 0) n p → k ≡ kind t u → c ≡ first t u → d ≡ next t n
-      → x ≡ pick (eqb p 0) 0 (pick (eqb k 3 || eqb k 4) (getD twice c 0) (pick (eqb k 6 && not (eqb d 0)) (getD pairs c 0) 0))
-      → Callee h → bitAt x h ≡ metAt t n h
-  unfolding metAt metBy
-  met-word n i all twice defs pairs r p u k c d x h pe ue ke ce de xe j = ap (λ y. bitAt y h) xe ∙ go (ℕ-discrete p 0)
-    where
-      side : ℕ
-      side = pick (eqb k 3 || eqb k 4) (getD twice c 0) (pick (eqb k 6 && not (eqb d 0)) (getD pairs c 0) 0)
+  module _ (n : ℕ) (i : IsNode t n) (all twice defs pairs : List ℕ) (r : Rows t 0 all twice defs pairs) (p k c d h : ℕ)
+      (up : p ≡ parent t n) (kinded : (p ≡ 0 → ⊥) → k ≡ kind t p) (linked : (p ≡ 0 → ⊥) → c ≡ first t p) (on : d ≡ next t n)
+      (j : Callee h) where
+    -- entry 0 has nothing
+    twice-none : (x : ℕ) → x ≡ 0 → has twice x h ≡ false
+    twice-none x z = ap (λ y. bitAt y h) (ap (λ y. getD twice y 0) z ∙ r .shared .none) ∙ zero-bit h
 
-      go : Dec (p ≡ 0) → bitAt (pick (eqb p 0) 0 side) h ≡ pick (eqb (parent t n) 0) false (metBy t (eqb (next t n) 0) (parent t n) h)
-      go (yes z) =
-          ap (λ b. bitAt (pick b 0 side) h) (eq-eqb p 0 z) ∙ zero-bit h
-          ∙ sym (ap (λ b. pick b false (metBy t (eqb (next t n) 0) (parent t n) h)) (eq-eqb (parent t n) 0 (sym pe ∙ z)))
-      go (no z) =
-          ap (λ b. bitAt (pick b 0 side) h) (ne-eqb p 0 z)
-          ∙ choice-bit (eqb k 3 || eqb k 4) (eqb k 6 && not (eqb d 0)) (getD twice c 0) (getD pairs c 0) h
-          (twiceIn t (exprsAt t (first t q)) h) (twiceIn t (defsAt t (first t q)) h)
-          (ap (λ y. has twice y h) ce′ ∙ twice-here) (λ b. ap (λ y. has pairs y h) ce′ ∙ pairs-here (let-parent b))
-          ∙ ap₂ (λ y e. pick (eqb y 3 || eqb y 4) (twiceIn t (exprsAt t (first t q)) h)
-          (pick (eqb y 6 && not (eqb e 0)) (twiceIn t (defsAt t (first t q)) h) false)) ke′ de
-          ∙ sym (ap (λ b. pick b false (metBy t (eqb (next t n) 0) q h)) (ne-eqb q 0 some-parent))
-        where
-          q : ℕ
-          q = parent t n
+    pairs-none : (x : ℕ) → x ≡ 0 → has pairs x h ≡ false
+    pairs-none x z = ap (λ y. bitAt y h) (ap (λ y. getD pairs y 0) z ∙ r .shared-defs .none) ∙ zero-bit h
 
-          some-parent : parent t n ≡ 0 → ⊥
-          some-parent y = z (pe ∙ y)
+    module _ (z : p ≡ 0 → ⊥) where
+      parent-there : IsNode t p
+      parent-there = parent-is n p i up z
 
-          is-node : IsNode t q
-          is-node = parent-node t lk n i some-parent
+      past : (first t p ≡ 0 → ⊥) → (0 < first t p) × (first t p ≤ nodes t)
+      past y = let l = link t lk p parent-there .first-on y in (omega (arith, l .0), l .1)
 
-          up : u ≡ q
-          up = ue ∙ ap (λ b. pick b n p) (ne-eqb p 0 z) ∙ pe
+      twice-here : has twice c h ≡ twiceIn t (exprsAt t (first t p)) h
+      twice-here = ap (λ y. has twice y h) (linked z) ∙ twice-link t ok 0 twice (r .shared) (first t p) past h j
 
-          ke′ : k ≡ kind t q
-          ke′ = ke ∙ ap (kind t) up
+      pairs-here : kind t p ≡ 6 → has pairs c h ≡ twiceIn t (defsAt t (first t p)) h
+      pairs-here b =
+          let l = past (first-of-let t ok p parent-there b) in
+          ap (λ y. has pairs y h) (linked z) ∙ r .shared-defs .each (first t p) h (l .0) (l .1) j
 
-          ce′ : c ≡ first t q
-          ce′ = ce ∙ ap (first t) up
+    side : (a b : Bool) (x y : Bool) → (a ≡ true → b ≡ false) → (a ≡ true → has twice c h ≡ x) → (b ≡ true → has pairs c h ≡ y)
+        → has twice (pick a c 0) h || has pairs (pick b c 0) h ≡ pick a x (pick b y false)
+    side true true x y e f g = absurd (true≢false (e refl))
+    side true false x y e f g = ap₂ (λ p q. p || q) (f refl) (pairs-none 0 refl) ∙ or-no x
+    side false true x y e f g = ap₂ (λ p q. p || q) (twice-none 0 refl) (g refl)
+    side false false x y e f g = ap₂ (λ p q. p || q) (twice-none 0 refl) (pairs-none 0 refl)
 
-          past : (first t q ≡ 0 → ⊥) → (0 < first t q) × (first t q ≤ nodes t)
-          past y = let l = link t lk q is-node .first-on y in (omega (arith, l .0), l .1)
+    pub met-word : (u v : ℕ) → u ≡ pick (eqb p 0) 0 (pick (eqb k 3 || eqb k 4) c 0)
+        → v ≡ pick (eqb p 0) 0 (pick (eqb k 6 && not (eqb d 0)) c 0) → bitAt (bitOr (getD twice u 0) (getD pairs v 0)) h ≡ metAt t n h
+    unfolding metAt metBy
+    met-word u v ue ve =
+        or-bit (getD twice u 0) (getD pairs v 0) h ∙ ap₂ (λ x y. has twice x h || has pairs y h) ue ve ∙ go (ℕ-discrete p 0)
+        ∙ ap₂ (λ q e. pick (eqb q 0) false (metBy t (eqb e 0) q h)) up on
+      where
+        A : Bool
+        A = eqb k 3 || eqb k 4
 
-          twice-here : has twice (first t q) h ≡ twiceIn t (exprsAt t (first t q)) h
-          twice-here = twice-link t ok 0 twice (r .shared) (first t q) past h j
+        B : Bool
+        B = eqb k 6 && not (eqb d 0)
 
-          let-parent : eqb k 6 && not (eqb d 0) ≡ true → kind t q ≡ 6
-          let-parent b = sym ke′ ∙ eqb-true k 6 (and-both (eqb k 6) (not (eqb d 0)) b .0)
+        apart : (x : ℕ) → Dec (x ≡ 6) → eqb x 3 || eqb x 4 ≡ true → eqb x 6 && not (eqb d 0) ≡ false
+        apart x (yes e) f = absurd (true≢false (sym f ∙ ap (λ x. eqb x 3 || eqb x 4) e))
+        apart x (no e) f = ap (λ b. b && not (eqb d 0)) (ne-eqb x 6 e)
 
-          pairs-here : kind t q ≡ 6 → has pairs (first t q) h ≡ twiceIn t (defsAt t (first t q)) h
-          pairs-here b = let l = past (first-of-let t ok q is-node b) in r .shared-defs .each (first t q) h (l .0) (l .1) j
+        go : Dec (p ≡ 0) → has twice (pick (eqb p 0) 0 (pick A c 0)) h || has pairs (pick (eqb p 0) 0 (pick B c 0)) h
+            ≡ pick (eqb p 0) false (metBy t (eqb d 0) p h)
+        go (yes z) =
+            ap₂ (λ x y. x || y) (twice-none _ (ap (λ b. pick b 0 (pick A c 0)) (eq-eqb p 0 z)))
+            (pairs-none _ (ap (λ b. pick b 0 (pick B c 0)) (eq-eqb p 0 z)))
+            ∙ sym (ap (λ b. pick b false (metBy t (eqb d 0) p h)) (eq-eqb p 0 z))
+        go (no z) =
+            ap (λ b. has twice (pick b 0 (pick A c 0)) h || has pairs (pick b 0 (pick B c 0)) h) (ne-eqb p 0 z)
+            ∙ side A B (twiceIn t (exprsAt t (first t p)) h) (twiceIn t (defsAt t (first t p)) h) (apart k (ℕ-discrete k 6))
+            (λ _. twice-here z)
+            (λ b. pairs-here z (sym (kinded z) ∙ eqb-true k 6 (and-both (eqb k 6) (not (eqb d 0)) b .0)))
+            ∙ ap (λ y. pick (eqb y 3 || eqb y 4) (twiceIn t (exprsAt t (first t p)) h)
+            (pick (eqb y 6 && not (eqb d 0)) (twiceIn t (defsAt t (first t p)) h) false)) (kinded z)
+            ∙ sym (ap (λ b. pick b false (metBy t (eqb d 0) p h)) (ne-eqb p 0 z))
 
   -- node by node
   pub sure-none : SureTo t 0 (replicate 513 0)

@@ -6,7 +6,7 @@ use mathlib.Core.Logic.{inl, inr}
 use mathlib.Core.List.{List}
 use native.Mathlib.Omega.{arith}
 use native.Mathlib.Nat.{pow-suc}
-use native.Mathlib.Decide.{ℕ-discrete, decLe}
+use native.Mathlib.Decide.{ℕ-discrete, decLe, decLt}
 use lib.Bits.{bitOr}
 use lib.Dec.{eqb}
 use lib.Pow.{pow-lt}
@@ -24,12 +24,19 @@ use Rattle.list.specs.Tags.{tagged, calleeOf, listed, bitsFrom}
 use Rattle.list.specs.Working.{bitAt, Bit, Callee, has, metAt, Due, beside, below, entered, Callees, SureTo, HandedTo}
 use Rattle.list.proofs.Truths.{or-left, or-right, or-out, by-true}
 use Rattle.list.proofs.ArbiterFacts.{any-out, any-in, and-both, both-and}
-use Rattle.list.proofs.BitLaws.{zero-bit, or-bit}
+use Rattle.list.proofs.BitLaws.{zeros-at, zero-bit, or-bit}
 use Rattle.list.proofs.CallLaws.{listed-called}
 use Rattle.list.proofs.DueLaws.{all-passed, callee-below, listed-is-due, due-is-listed}
 use Rattle.list.proofs.BodyCalls.{root-of}
 use Rattle.list.proofs.CallTables.{callee-few}
 use Rattle.list.proofs.TagFacts.{listed-call, byte-is, tagged-is}
+
+not-listed : (t : List ℕ) (n : ℕ) → (listed t n ≡ true → ⊥) → listed t n ≡ false
+not-listed t n f = by-true (listed t n) false (λ e. absurd (f e)) (λ e. absurd (true≢false (sym e)))
+
+-- nothing past the last node is listed
+pub listed-past : (t : List ℕ) → Taken t → (n : ℕ) → nodes t < n → listed t n ≡ false
+listed-past t ok n l = not-listed t n (λ e. omega (arith, l, listed-call t (functions t) (nodes t) ok n e .0 .1))
 
 module _ (t : List ℕ) (ok : Taken t) (sure needs : List ℕ) (w : SureTo t (nodes t) sure) (d : HandedTo t sure 0 needs) where
   abbrev lk : Linked t
@@ -110,9 +117,6 @@ module _ (t : List ℕ) (ok : Taken t) (sure needs : List ℕ) (w : SureTo t (no
       word : ℕ
       word = bitOr (getD sure n 0) (getD needs o 0)
 
-      unlisted : (listed t n ≡ true → ⊥) → listed t n ≡ false
-      unlisted f = by-true (listed t n) false (λ e. absurd (f e)) (λ e. absurd (true≢false (sym e)))
-
       nothing : g ≡ 0 → listed t n ≡ false → pick (eqb g 0) 0 (word / 2 ^ g % 2) ≡ one (listed t n)
       nothing z u = ap (λ p. pick p 0 (word / 2 ^ g % 2)) (eq-eqb g 0 z) ∙ sym (ap one u)
 
@@ -122,7 +126,7 @@ module _ (t : List ℕ) (ok : Taken t) (sure needs : List ℕ) (w : SureTo t (no
       one-bit (suc (suc y)) l = absurd (omega arith)
 
       a-call : (i : IsNode t n) → g ≡ calleeOf t n → Dec (g ≡ 0) → pick (eqb g 0) 0 (word / 2 ^ g % 2) ≡ one (listed t n)
-      a-call i f (yes z) = nothing z (unlisted (λ u. omega (arith, listed-called t ok n u .0, f, z)))
+      a-call i f (yes z) = nothing z (not-listed t n (λ u. omega (arith, listed-called t ok n u .0, f, z)))
       a-call i f (no z) =
           ap (λ p. pick p 0 (word / 2 ^ g % 2)) (ne-eqb g 0 z) ∙ one-bit (word / 2 ^ g % 2) (omega arith)
           ∙ ap one (or-bit (getD sure n 0) (getD needs o 0) g
@@ -130,8 +134,7 @@ module _ (t : List ℕ) (ok : Taken t) (sure needs : List ℕ) (w : SureTo t (no
 
       go : Dec (n ≤ nodes t) → pick (eqb g 0) 0 (word / 2 ^ g % 2) ≡ one (listed t n)
       go (yes l) = a-call (b .0, l) (e ∙ c .here n (b .0) l) (ℕ-discrete g 0)
-      go (no l) = nothing (e ∙ c .past n (omega arith))
-          (unlisted (λ u. l (listed-call t (functions t) (nodes t) ok n u .0 .1)))
+      go (no l) = nothing (e ∙ c .past n (omega arith)) (listed-past t ok n (omega arith))
 
 -- bits from the highest of a byte down
 pub bits-none : (s : Test) (n : ℕ) → 0 ≡ bitsFrom s 0 n
@@ -191,31 +194,49 @@ bits-all s n k sum z e = e ∙ ap₂ (bitsFrom s) (whole k z) (same n k z)
     same : (n k : ℕ) → k ≡ 0 → n + k + 1 ≡ n + 1
     same n k z = omega arith
 
--- bytes one after the other
+-- no bits
+bits-zero : (s : Test) (k n : ℕ) → ((m : ℕ) → n ≤ m → s m ≡ false) → 0 ≡ bitsFrom s k n
+unfolding bitsFrom
+bits-zero s zero n f = refl
+bits-zero s (suc k) n f = ap₂ (λ b x. one b + 2 * x) (sym (f n (omega arith))) (bits-zero s k (suc n) (λ m l. f m (omega (arith, l))))
+
+-- bytes one after the other; those to come are 0
 pub record BytesTo (s : Test) (k : ℕ) (l : List ℕ) : Type 0 where
   pub size : length l ≡ 64
   pub each : (j : ℕ) → j < k → getD l j 0 ≡ bitsFrom s 8 (8 * j + 1)
+  pub rest : (j : ℕ) → k ≤ j → getD l j 0 ≡ 0
 
 pub bytes-none : (s : Test) → BytesTo s 0 (replicate 64 0)
-bytes-none s = record { size = refl; each = λ j l. absurd (omega (arith, l)) }
+bytes-none s = record { size = refl; each = λ j l. absurd (omega (arith, l)); rest = λ j l. zeros-at 64 j }
 
 pub bytes-next : (s : Test) (k x : ℕ) (l : List ℕ) → BytesTo s k l → k < 64 → x ≡ bitsFrom s 8 (8 * k + 1) → BytesTo s (k + 1) (set l k x)
-bytes-next s k x l b room e = record { size = length-set l k x ∙ b .size; each = λ j a. at j a (ℕ-discrete j k) }
+bytes-next s k x l b room e = record {
+  size = length-set l k x ∙ b .size;
+  each = λ j a. at j a (ℕ-discrete j k);
+  rest = λ j a. getD-set-other l k j x 0 (λ z. omega (arith, z, a)) ∙ b .rest j (omega arith);
+}
   where
     at : (j : ℕ) → j < k + 1 → Dec (j ≡ k) → getD (set l k x) j 0 ≡ bitsFrom s 8 (8 * j + 1)
     at j a (yes z) = ap (λ i. getD (set l k x) i 0) z ∙ getD-set-same l k x 0 (omega (arith, room, b .size)) ∙ e
         ∙ ap (λ i. bitsFrom s 8 (8 * i + 1)) (sym z)
     at j a (no z) = getD-set-other l k j x 0 z ∙ b .each j (omega arith)
 
-pub bytes-all : (s : Test) (l : List ℕ) → BytesTo s 64 l → (m : ℕ) → Bit m → tagged l m ≡ s m
+-- where nothing passes past the last of them
+pub bytes-all : (s : Test) (k : ℕ) (l : List ℕ) → BytesTo s k l → ((m : ℕ) → 8 * k < m → s m ≡ false) → (m : ℕ) → Bit m → tagged l m ≡ s m
 unfolding tagged
-bytes-all s l b m c =
-    ap (λ x. eqb (x / 2 ^ ((m - 1) % 8) % 2) 1) (b .each ((m - 1) / 8) at ∙ ap (bitsFrom s 8) (turn ((m - 1) / 8))
-    ∙ sym (byte-is s 64 1 ((m - 1) / 8) at))
+bytes-all s k l b none-past m c =
+    ap (λ x. eqb (x / 2 ^ ((m - 1) % 8) % 2) 1) (byte (decLt j k) ∙ ap (bitsFrom s 8) (turn j) ∙ sym (byte-is s 64 1 j few))
     ∙ tagged-is s 64 m (c .0) (omega (arith, c .1))
   where
-    at : (m - 1) / 8 < 64
-    at = omega (arith, c .0, c .1)
+    j : ℕ
+    j = (m - 1) / 8
+
+    few : (m - 1) / 8 < 64
+    few = omega (arith, c .0, c .1)
+
+    byte : Dec (j < k) → getD l j 0 ≡ bitsFrom s 8 (8 * j + 1)
+    byte (yes d) = b .each j d
+    byte (no d) = b .rest j (omega arith) ∙ bits-zero s 8 (8 * j + 1) (λ i e. none-past i (omega arith))
 
     turn : (j : ℕ) → 8 * j + 1 ≡ 1 + 8 * j
     turn j = omega arith

@@ -51,9 +51,10 @@ pub(crate) fn arbiters(table: &[u8], cells: &Cells) -> [u8; 64]
         &mut needs,
     );
     dues::hand_on(table, &direct, main, &sure, &mut needs);
+    let last = decoded::last(cells).0;
     let mut found = [0u8; 64];
     let mut i: u16 = 0;
-    while i < 64 {
+    while 8 * i < last {
         let at = i as usize;
         found[at] = marked::byte(table, cells, &callees, &sure, &needs, i);
         i += 1;

@@ -14,29 +14,29 @@ ghost use Rattle.table.specs.Bytes.{functions, nodes};
 ghost use Rattle.table.specs.Working.{Read, Taken};
 ghost use Rattle.list.specs.Working.{Callees, Direct, Rows, SureTo, NeedsTo, Hands, HandedTo};
 
-// A choice of two words that are there: no branch.
-fn choose(first: bool, a: u32, b: u32) -> u32
+// A choice of two places that are there: no branch.
+fn choose(first: bool, a: u16, b: u16) -> u16
     ensures { λ r. ⌜ r ≡ pick first a b ⌝ }
 {
     if first { a } else { b }
 }
 
-// What two of the nodes side by side with a node call, by its parent's kind: of a let the last child has no part.
-fn met_of(parent: u16, kind: u16, next: u16, twice: u32, pairs: u32) -> u32
-    ensures { λ r. ⌜ r ≡ pick (eqb parent 0) 0 (pick (eqb kind 3 || eqb kind 4) twice (pick (eqb kind 6 && not (eqb next 0)) pairs 0)) ⌝ }
+// The place of what two of a node's children call, by its kind: all are side by side. Entry 0, for no such node, has nothing.
+fn all_of(node: u16, kind: u16, first: u16) -> u16
+    ensures { λ r. ⌜ r ≡ pick (eqb node 0) 0 (pick (eqb kind 3 || eqb kind 4) first 0) ⌝ }
 {
-    let defs = choose(next == 0, 0, pairs);
-    let bound = choose(kind == 6, defs, 0);
-    let call = choose(kind == 4, twice, bound);
-    let side = choose(kind == 3, twice, call);
-    choose(parent == 0, 0, side)
+    let call = choose(kind == 4, first, 0);
+    let side = choose(kind == 3, first, call);
+    choose(node == 0, 0, side)
 }
 
-// A root has no parent: its own record is read then, and what was read is not used.
-fn or_own(parent: Node, n: Node) -> Node
-    ensures { λ r. ⌜ r .0 ≡ pick (eqb (parent .0) 0) (n .0) (parent .0) ⌝ }
+// The same of a let, where the last child, its body, has no part.
+fn defs_of(node: u16, kind: u16, first: u16, next: u16) -> u16
+    ensures { λ r. ⌜ r ≡ pick (eqb node 0) 0 (pick (eqb kind 6 && not (eqb next 0)) first 0) ⌝ }
 {
-    if parent.0 == 0 { n } else { parent }
+    let other = choose(next == 0, 0, first);
+    let bound = choose(kind == 6, other, 0);
+    choose(node == 0, 0, bound)
 }
 
 // What is due at each node from its parent, which is lower; and by function what is due at its calls.
@@ -63,11 +63,12 @@ pub(crate) fn fill(
         n += 1;
         let node = Node(n);
         let parent = decoded::parent(cells, node);
-        let up = or_own(parent, node);
-        let kind = decoded::kind(cells, up);
-        let first = decoded::first(cells, up).0 as usize;
+        let kind = decoded::kind(cells, parent);
+        let first = decoded::first(cells, parent).0;
         let next = decoded::next(cells, node).0;
-        let met = met_of(parent.0, kind, next, twice[first], pairs[first]);
+        let side = all_of(parent.0, kind, first) as usize;
+        let bound = defs_of(parent.0, kind, first, next) as usize;
+        let met = twice[side] | pairs[bound];
         let from = parent.0 as usize;
         let own = sure[from] | met;
         let at = n as usize;

@@ -4,8 +4,9 @@ use borrow.Author.Needs.{needs}
 use Prim.Native.Nat.{ℕ, _+_, _-_, _≤_, _<_}
 use mathlib.Core.Path.{_≡_, refl, _∙_}
 use native.Mathlib.Omega.{arith}
+use lib.Bits.{bitOr}
 use lib.ListN.{getD}
-use Rattle.table.specs.Bytes.{nodes, first}
+use Rattle.table.specs.Bytes.{nodes, kind, first}
 use Rattle.table.specs.Naming.{parent}
 use Rattle.table.specs.Working.{IsNode}
 use Rattle.table.proofs.Family.{parent-lower}
@@ -13,7 +14,7 @@ use Rattle.list.specs.Tags.{calleeOf}
 use Rattle.list.specs.Working.{bitAt, Callee, metAt, SureTo, NeedsTo}
 use Rattle.list.proofs.DueLaws.{all-passed}
 use Rattle.list.proofs.CallTables.{callee-few, link-few}
-use Rattle.list.proofs.DueWords.{up-node, met-word, sure-none, sure-next, needs-none, needs-next}
+use Rattle.list.proofs.DueWords.{parent-is, all-few, defs-few, met-word, sure-none, sure-next, needs-none, needs-next}
 use Rattle.list.proofs.dues.fill.Statement.{statement}
 use Rattle.list.proofs.dues.fill.Tie as tie
 
@@ -46,56 +47,79 @@ module _ (c : Turn) where
   callee-room : getD (s .args .callees .now) (l .loop .n + 1) 0 ≤ 31
   callee-room = omega (arith, callee-read, callee-few _ (s .pre .0 .0 .taken) _ node)
 
--- its parent, and the node that is read for it
-abbrev parent-turn : tie.After-parent Inv-loop μ-loop → Turn
-parent-turn c = search
+-- its parent, if it has one
+abbrev turn : tie.After-parent Inv-loop μ-loop → Turn
+turn c = search
 
-parent-read : (c : tie.After-parent Inv-loop μ-loop) → let t = parent-turn c in
-    c .parent .result .0 ≡ parent (s t .args .table .now) (l t .loop .n + 1)
-parent-read c = let t = parent-turn c in c .parent .ensures ∙ s t .pre .0 .0 .told .node _ 7 (node t) (omega arith)
+module _ (c : tie.After-parent Inv-loop μ-loop) where
+  parent-read : c .parent .result .0 ≡ parent (s (turn c) .args .table .now) (l (turn c) .loop .n + 1)
+  parent-read = let t = turn c in c .parent .ensures ∙ s t .pre .0 .0 .told .node _ 7 (node t) (omega arith)
 
-parent-room : (c : tie.After-parent Inv-loop μ-loop) → c .parent .result .0 ≤ l (parent-turn c) .loop .n
-parent-room c = let t = parent-turn c in omega (arith, parent-read c, parent-lower (s t .args .table .now) (l t .loop .n + 1) (omega arith))
+  parent-room : c .parent .result .0 ≤ l (turn c) .loop .n
+  parent-room =
+      let t = turn c in
+      omega (arith, parent-read, parent-lower (s t .args .table .now) (l t .loop .n + 1) (omega arith))
 
-abbrev parent-place : tie.After-or-own Inv-loop μ-loop → tie.After-parent Inv-loop μ-loop
-parent-place c = search
+  parent-node : (c .parent .result .0 ≡ 0 → ⊥) → IsNode (s (turn c) .args .table .now) (c .parent .result .0)
+  parent-node = let t = turn c in parent-is _ (s t .pre .0 .0 .taken) _ _ (node t) parent-read
 
-up : (c : tie.After-or-own Inv-loop μ-loop) → IsNode (s (parent-turn (parent-place c)) .args .table .now) (c .or-own .result .0)
-up c =
-    let p = parent-place c in
-    let t = parent-turn p in
-    up-node _ (s t .pre .0 .0 .taken) _ (node t) _ _ (parent-read p) (c .or-own .ensures)
+-- the parent's kind and first child
+abbrev kind-up : tie.After-kind Inv-loop μ-loop → tie.After-parent Inv-loop μ-loop
+kind-up c = search
 
--- the first child of that one, and the next sibling
-abbrev up-place : tie.After-first Inv-loop μ-loop → tie.After-or-own Inv-loop μ-loop
-up-place c = search
+kind-read : (c : tie.After-kind Inv-loop μ-loop) → let p = kind-up c in
+    (p .parent .result .0 ≡ 0 → ⊥) → c .kind .result ≡ kind (s (turn p) .args .table .now) (p .parent .result .0)
+kind-read c z =
+    let p = kind-up c in
+    c .kind .ensures ∙ s (turn p) .pre .0 .0 .told .node _ 0 (parent-node p z) (omega arith)
+
+abbrev first-up : tie.After-first Inv-loop μ-loop → tie.After-parent Inv-loop μ-loop
+first-up c = search
 
 module _ (c : tie.After-first Inv-loop μ-loop) where
-  abbrev t : Turn
-  t = parent-turn (parent-place (up-place c))
+  abbrev p : tie.After-parent Inv-loop μ-loop
+  p = first-up c
 
-  first-read : c .first .result .0 ≡ first (s t .args .table .now) (up-place c .or-own .result .0)
-  first-read = c .first .ensures ∙ s t .pre .0 .0 .told .node _ 4 (up (up-place c)) (omega arith)
+  first-read : (p .parent .result .0 ≡ 0 → ⊥) → c .first .result .0 ≡ first (s (turn p) .args .table .now) (p .parent .result .0)
+  first-read z = c .first .ensures ∙ s (turn p) .pre .0 .0 .told .node _ 4 (parent-node p z) (omega arith)
 
-  first-room : c .first .result .0 ≤ 512
-  first-room = omega (arith, first-read, link-few _ (s t .pre .0 .0 .taken) _ (up (up-place c)) .0)
+  first-room : (p .parent .result .0 ≡ 0 → ⊥) → c .first .result .0 ≤ 512
+  first-room z = omega (arith, first-read z, link-few _ (s (turn p) .pre .0 .0 .taken) _ (parent-node p z) .0)
+
+-- the two places that are read
+abbrev side-first : tie.After-all-of Inv-loop μ-loop → tie.After-first Inv-loop μ-loop
+side-first c = search
+
+side-room : (c : tie.After-all-of Inv-loop μ-loop) → c .all-of .result ≤ 512
+side-room c =
+    let f = side-first c in
+    let kinded : tie.After-kind Inv-loop μ-loop = search in
+    all-few _ (s (turn (p f)) .pre .0 .0 .taken) _ (kinded .kind .result) _ _ (first-room f) (c .all-of .ensures)
+
+abbrev bound-side : tie.After-defs-of Inv-loop μ-loop → tie.After-all-of Inv-loop μ-loop
+bound-side c = search
+
+bound-room : (c : tie.After-defs-of Inv-loop μ-loop) → c .defs-of .result ≤ 512
+bound-room c =
+    let f = side-first (bound-side c) in
+    let kinded : tie.After-kind Inv-loop μ-loop = search in
+    let on : tie.After-next Inv-loop μ-loop = search in
+    defs-few _ (s (turn (p f)) .pre .0 .0 .taken) _ (kinded .kind .result) _ (on .next .result .0) _ (first-room f) (c .defs-of .ensures)
 
 -- what two of the nodes side by side with it call
-abbrev first-place : tie.After-met-of Inv-loop μ-loop → tie.After-first Inv-loop μ-loop
-first-place c = search
-
-met-read : (c : tie.After-met-of Inv-loop μ-loop) → let u = t (first-place c) in
-    (h : ℕ) → Callee h → bitAt (c .met-of .result) h ≡ metAt (s u .args .table .now) (l u .loop .n + 1) h
+met-read : (c : tie.After-defs-of Inv-loop μ-loop) → let b = bound-side c in let u = turn (p (side-first b)) in
+    (h : ℕ) → Callee h
+    → bitAt (bitOr (getD (s u .args .twice .now) (b .all-of .result) 0) (getD (s u .args .pairs .now) (c .defs-of .result) 0)) h
+    ≡ metAt (s u .args .table .now) (l u .loop .n + 1) h
 met-read c h k =
     let next-place : tie.After-next Inv-loop μ-loop = search in
     let kind-place : tie.After-kind Inv-loop μ-loop = search in
-    let first = first-place c in
-    let above = up-place first in
-    let u = t first in
-    let told = s u .pre .0 .0 .told in
-    met-word _ (s u .pre .0 .0 .taken) _ (node u) _ _ _ _ (s u .pre .0 .2) _ _ _ _ _ _ h (parent-read (parent-place above))
-    (above .or-own .ensures) (kind-place .kind .ensures ∙ told .node _ 0 (up above) (omega arith)) (first-read first)
-    (next-place .next .ensures ∙ told .node _ 5 (node u) (omega arith)) (c .met-of .ensures) k
+    let b = bound-side c in
+    let f = side-first b in
+    let u = turn (p f) in
+    let pre = s u .pre .0 in
+    met-word _ (pre .0 .taken) _ (node u) _ _ _ _ (pre .2) _ _ _ _ h (parent-read (p f)) (kind-read kind-place) (first-read f)
+    (next-place .next .ensures ∙ pre .0 .told .node _ 5 (node u) (omega arith)) k _ _ (b .all-of .ensures) (c .defs-of .ensures)
 
 last-requires : tie.Need-last-requires Inv-loop μ-loop
 last-requires c κs = search needs
@@ -117,35 +141,38 @@ add-n c = omega (arith, room c)
 parent-requires : tie.Need-parent-requires Inv-loop μ-loop
 parent-requires c κs = search needs
 
-or-own-requires : tie.Need-or-own-requires Inv-loop μ-loop
-or-own-requires c κs = search needs
-
 kind-requires : tie.Need-kind-requires Inv-loop μ-loop
 kind-requires c κs = search needs
 
 first-requires : tie.Need-first-requires Inv-loop μ-loop
 first-requires c κs = search needs
 
-cast-first : tie.Need-cast-first Inv-loop μ-loop
-cast-first c = omega (arith, first-room (search))
-
 next-requires : tie.Need-next-requires Inv-loop μ-loop
 next-requires c κs = search needs
 
-mul-met-of : tie.Need-mul-met-of Inv-loop μ-loop
-mul-met-of c = omega (arith, first-room (search))
+all-of-requires : tie.Need-all-of-requires Inv-loop μ-loop
+all-of-requires c κs = search needs
 
-element-copy-out-met-of : tie.Need-element-copy-out-met-of Inv-loop μ-loop
-element-copy-out-met-of c = omega (arith, first-room (search))
+cast-side : tie.Need-cast-side Inv-loop μ-loop
+cast-side c = omega (arith, side-room (search))
 
-mul-met-of-2 : tie.Need-mul-met-of-2 Inv-loop μ-loop
-mul-met-of-2 c = omega (arith, first-room (search))
+defs-of-requires : tie.Need-defs-of-requires Inv-loop μ-loop
+defs-of-requires c κs = search needs
 
-element-copy-out-met-of-2 : tie.Need-element-copy-out-met-of-2 Inv-loop μ-loop
-element-copy-out-met-of-2 c = omega (arith, first-room (search))
+cast-bound : tie.Need-cast-bound Inv-loop μ-loop
+cast-bound c = omega (arith, bound-room (search))
 
-met-of-requires : tie.Need-met-of-requires Inv-loop μ-loop
-met-of-requires c κs = search needs
+mul-met : tie.Need-mul-met Inv-loop μ-loop
+mul-met c = omega (arith, side-room (search))
+
+element-copy-out-met : tie.Need-element-copy-out-met Inv-loop μ-loop
+element-copy-out-met c = omega (arith, side-room (search))
+
+mul-met-2 : tie.Need-mul-met-2 Inv-loop μ-loop
+mul-met-2 c = omega (arith, bound-room (search))
+
+element-copy-out-met-2 : tie.Need-element-copy-out-met-2 Inv-loop μ-loop
+element-copy-out-met-2 c = omega (arith, bound-room (search))
 
 cast-from : tie.Need-cast-from Inv-loop μ-loop
 cast-from c = omega (arith, parent-room (search), room (search))
@@ -203,12 +230,12 @@ loop-less c =
 
 loop-again : tie.Need-loop-again Inv-loop μ-loop
 loop-again c =
-    let met : tie.After-met-of Inv-loop μ-loop = search in
+    let bound : tie.After-defs-of Inv-loop μ-loop = search in
     let u : Turn = search in
     let inv = l u .loop .inv in
     let ok = s u .pre .0 .0 .taken in (
       node u .1,
-      sure-next _ ok _ (node u) _ _ (inv .1) _ _ (parent-read (search)) refl (met-read met),
+      sure-next _ ok _ (node u) _ _ (inv .1) _ _ (parent-read (search)) refl (met-read bound),
       needs-next _ ok _ (node u) _ _ (inv .1) _ _ (inv .2) (callee-read u) (omega (arith, callee-room u)),
       inv .3,
     )
@@ -230,16 +257,17 @@ fill-spec =
     loop-holds
     add-n
     parent-requires
-    or-own-requires
     kind-requires
     first-requires
-    cast-first
     next-requires
-    mul-met-of
-    element-copy-out-met-of
-    mul-met-of-2
-    element-copy-out-met-of-2
-    met-of-requires
+    all-of-requires
+    cast-side
+    defs-of-requires
+    cast-bound
+    mul-met
+    element-copy-out-met
+    mul-met-2
+    element-copy-out-met-2
     cast-from
     mul-own
     element-copy-out-own
