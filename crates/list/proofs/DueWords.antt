@@ -1,9 +1,10 @@
 -- what is due at each node, in words: from its parent, and from the calls of its function
-use Prim.Native.Nat.{ℕ, _+_, _≤_, _<_}
+use Prim.Native.Nat.{ℕ, zero, suc, _*_, _%_, _+_, _≤_, _<_}
 use mathlib.Core.Path.{_≡_, refl, subst, sym, ap, ap₂, _∙_}
 use mathlib.Core.Bool.{Bool, true, false, _&&_, _||_, not, true≢false}
-use mathlib.Core.List.{List}
+use mathlib.Core.List.{List, [], _∷_}
 use native.Mathlib.Omega.{arith}
+use native.Mathlib.Nat.{mod-eq-of-lt, mul-one, mul-zero}
 use native.Mathlib.Decide.{ℕ-discrete}
 use lib.Bits.{bitOr}
 use lib.Dec.{eqb}
@@ -11,6 +12,7 @@ use lib.ListN.{length, getD, set, replicate, length-set}
 use lib.Seq.{getD-set-other}
 use borrow.Author.Tests.{eq-eqb, ne-eqb, eqb-true}
 use Rattle.table.specs.Pick.{pick}
+use Rattle.table.specs.Find.{one}
 use Rattle.table.specs.Bytes.{nodes, kind, first, next}
 use Rattle.table.specs.Naming.{parent}
 use Rattle.table.specs.Expressions.{exprsAt, defsAt}
@@ -28,17 +30,70 @@ use Rattle.list.proofs.DueLaws.{all-passed, first-of-let}
 use Rattle.list.proofs.RowLaws.{twice-link}
 use Rattle.list.proofs.WordLaws.{has-same, has-other}
 
--- the choices of a place, one test after the other
-pub all-choice : (a b c : Bool) (x : ℕ) → pick a 0 (pick b x (pick c x 0)) ≡ pick a 0 (pick (b || c) x 0)
-all-choice true b c x = refl
-all-choice false true c x = refl
-all-choice false false c x = refl
+-- what is looked up by a kind
+pub all-side : (k : ℕ) → k < 8 → getD (0 ∷ 0 ∷ 0 ∷ 1 ∷ 1 ∷ 0 ∷ 0 ∷ 0 ∷ []) k 0 ≡ one (eqb k 3 || eqb k 4)
+all-side zero l = refl
+all-side (suc zero) l = refl
+all-side (suc (suc zero)) l = refl
+all-side (suc (suc (suc zero))) l = refl
+all-side (suc (suc (suc (suc zero)))) l = refl
+all-side (suc (suc (suc (suc (suc zero))))) l = refl
+all-side (suc (suc (suc (suc (suc (suc zero)))))) l = refl
+all-side (suc (suc (suc (suc (suc (suc (suc zero))))))) l = refl
+all-side (suc (suc (suc (suc (suc (suc (suc (suc k)))))))) l = absurd (omega arith)
 
-pub defs-choice : (a b c : Bool) (x : ℕ) → pick a 0 (pick b (pick c 0 x) 0) ≡ pick a 0 (pick (b && not c) x 0)
-defs-choice true b c x = refl
-defs-choice false true true x = refl
-defs-choice false true false x = refl
-defs-choice false false c x = refl
+pub defs-side : (k : ℕ) → k < 8 → getD (0 ∷ 0 ∷ 0 ∷ 0 ∷ 0 ∷ 0 ∷ 1 ∷ 0 ∷ []) k 0 ≡ one (eqb k 6)
+defs-side zero l = refl
+defs-side (suc zero) l = refl
+defs-side (suc (suc zero)) l = refl
+defs-side (suc (suc (suc zero))) l = refl
+defs-side (suc (suc (suc (suc zero)))) l = refl
+defs-side (suc (suc (suc (suc (suc zero))))) l = refl
+defs-side (suc (suc (suc (suc (suc (suc zero)))))) l = refl
+defs-side (suc (suc (suc (suc (suc (suc (suc zero))))))) l = refl
+defs-side (suc (suc (suc (suc (suc (suc (suc (suc k)))))))) l = absurd (omega arith)
+
+pub one-few : (b : Bool) → one b ≤ 1
+one-few true = omega arith
+one-few false = omega arith
+
+-- a number taken once or not at all
+scaled : (x f : ℕ) (b : Bool) → f ≡ one b → x * f ≡ pick b x 0
+scaled x f true e = ap (λ y. x * y) e ∙ mul-one x
+scaled x f false e = ap (λ y. x * y) e ∙ mul-zero x
+
+pub scaled-few : (x f : ℕ) (b : Bool) → f ≡ one b → x * f ≤ x
+scaled-few x f b e = go b (scaled x f b e)
+  where
+    go : (b : Bool) → x * f ≡ pick b x 0 → x * f ≤ x
+    go true q = omega (arith, q)
+    go false q = omega (arith, q)
+
+-- the places chosen: of a node that is there, its kind is below 8
+pub all-place : (p k c f x y : ℕ) → ((p ≡ 0 → ⊥) → k < 8) → f ≡ one (eqb (k % 8) 3 || eqb (k % 8) 4) → x ≡ c * f → y ≡ pick (eqb p 0) 0 x
+    → y ≡ pick (eqb p 0) 0 (pick (eqb k 3 || eqb k 4) c 0)
+all-place p k c f x y l e q r = r ∙ go (ℕ-discrete p 0)
+  where
+    go : Dec (p ≡ 0) → pick (eqb p 0) 0 x ≡ pick (eqb p 0) 0 (pick (eqb k 3 || eqb k 4) c 0)
+    go (yes z) = rw (eq-eqb p 0 z) refl
+    go (no z) =
+        ap (pick (eqb p 0) 0) (q ∙ scaled c f (eqb (k % 8) 3 || eqb (k % 8) 4) e
+        ∙ ap (λ k. pick (eqb k 3 || eqb k 4) c 0) (mod-eq-of-lt (l z)))
+
+pub defs-place : (p k c d f o x y : ℕ) → ((p ≡ 0 → ⊥) → k < 8) → f ≡ one (eqb (k % 8) 6) → o ≡ pick (eqb d 0) 0 c → x ≡ o * f
+    → y ≡ pick (eqb p 0) 0 x → y ≡ pick (eqb p 0) 0 (pick (eqb k 6 && not (eqb d 0)) c 0)
+defs-place p k c d f o x y l e g q r = r ∙ go (ℕ-discrete p 0)
+  where
+    both : (a b : Bool) → pick a (pick b 0 c) 0 ≡ pick (a && not b) c 0
+    both true true = refl
+    both true false = refl
+    both false b = refl
+
+    go : Dec (p ≡ 0) → pick (eqb p 0) 0 x ≡ pick (eqb p 0) 0 (pick (eqb k 6 && not (eqb d 0)) c 0)
+    go (yes z) = rw (eq-eqb p 0 z) refl
+    go (no z) =
+        ap (pick (eqb p 0) 0) (q ∙ scaled o f (eqb (k % 8) 6) e ∙ ap₂ (λ k o. pick (eqb k 6) o 0) (mod-eq-of-lt (l z)) g
+        ∙ both (eqb k 6) (eqb d 0))
 
 module _ (t : List ℕ) (ok : Taken t) where
   abbrev lk : Linked t

@@ -1,5 +1,5 @@
 -- how many functions and nodes an accepted table has, and that a call's word fits its low half
-use Prim.Native.Nat.{ℕ, _+_, _*_, _≤_}
+use Prim.Native.Nat.{ℕ, _+_, _*_, _≤_, _<_}
 use mathlib.Core.Path.{_≡_, refl}
 use mathlib.Core.List.{List}
 use native.Mathlib.Omega.{arith}
@@ -38,3 +38,17 @@ call-low t ok n i k = omega (arith, word-few t ok n i k, halves)
   where
     halves : word t n ≡ low t n + 65536 * high t n
     halves = unfold word fourAt low high in refl
+
+-- there are seven kinds
+pub kind-few : (t : List ℕ) → Taken t → (n : ℕ) → IsNode t n → kind t n < 8
+kind-few t ok n i = go (node-case t (passed t (functions t) (nodes t) ok .0) n i)
+  where
+    go : NodeCase t n → kind t n < 8
+    go (is-const k z e) = omega (arith, k)
+    go (is-param k z l e) = omega (arith, k)
+    go (is-prim k q e) = omega (arith, k)
+    go (is-call k l h q e) = omega (arith, k)
+    go (is-self k w l q e) = omega (arith, k)
+    go (is-cond k x y w z e) = omega (arith, k)
+    go (is-bind k x y q e) = omega (arith, k)
+    go (is-bound k z s e) = omega (arith, k)

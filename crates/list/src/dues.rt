@@ -6,11 +6,12 @@ use table::decoded;
 use table::decoded::Cells;
 ghost use mathlib.Core.Path.{_≡_};
 ghost use mathlib.Core.Bool.{_&&_, _||_, not};
-ghost use Prim.Native.Nat.{_≤_};
+ghost use Prim.Native.Nat.{_≤_, _<_};
 ghost use lib.Dec.{eqb};
 ghost use lib.ListN.{replicate};
 ghost use Rattle.table.specs.Pick.{pick};
 ghost use Rattle.table.specs.Bytes.{functions, nodes};
+ghost use Rattle.table.specs.Find.{one};
 ghost use Rattle.table.specs.Working.{Read, Taken};
 ghost use Rattle.list.specs.Working.{Callees, Direct, Rows, SureTo, NeedsTo, Hands, HandedTo};
 
@@ -21,21 +22,42 @@ fn choose(first: bool, a: u16, b: u16) -> u16
     if first { a } else { b }
 }
 
-// The place of what two of a node's children call, by its kind: all are side by side. Entry 0, for no such node, has nothing.
+// Whether the children of a node of a kind are side by side, as a number. It is looked up, and below multiplied by: a test would branch.
+fn all_side(kind: u16) -> u16
+    requires { ⌜ kind < 8 ⌝ }
+    ensures { λ r. ⌜ r ≡ one (eqb kind 3 || eqb kind 4) ⌝ }
+{
+    let sides = b"\x00\x00\x00\x01\x01\x00\x00\x00";
+    let at = kind as usize;
+    sides[at] as u16
+}
+
+// The same of a let's definientia.
+fn defs_side(kind: u16) -> u16
+    requires { ⌜ kind < 8 ⌝ }
+    ensures { λ r. ⌜ r ≡ one (eqb kind 6) ⌝ }
+{
+    let sides = b"\x00\x00\x00\x00\x00\x00\x01\x00";
+    let at = kind as usize;
+    sides[at] as u16
+}
+
+// The place of what two of a node's children call: its first child, if all are side by side. Entry 0, for no such node, has nothing.
 fn all_of(node: u16, kind: u16, first: u16) -> u16
+    requires { ⌜ ((node ≡ 0 → ⊥) → kind < 8) ⌝ }
     ensures { λ r. ⌜ r ≡ pick (eqb node 0) 0 (pick (eqb kind 3 || eqb kind 4) first 0) ⌝ }
 {
-    let call = choose(kind == 4, first, 0);
-    let side = choose(kind == 3, first, call);
+    let side = first * all_side(kind % 8);
     choose(node == 0, 0, side)
 }
 
 // The same of a let, where the last child, its body, has no part.
 fn defs_of(node: u16, kind: u16, first: u16, next: u16) -> u16
+    requires { ⌜ ((node ≡ 0 → ⊥) → kind < 8) ⌝ }
     ensures { λ r. ⌜ r ≡ pick (eqb node 0) 0 (pick (eqb kind 6 && not (eqb next 0)) first 0) ⌝ }
 {
     let other = choose(next == 0, 0, first);
-    let bound = choose(kind == 6, other, 0);
+    let bound = other * defs_side(kind % 8);
     choose(node == 0, 0, bound)
 }
 

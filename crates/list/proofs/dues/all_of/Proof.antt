@@ -1,30 +1,31 @@
--- `dues::all_of` meets its contract, test by test.
+-- `dues::all_of` meets its contract: the number that is looked up takes the first child or nothing.
 use borrow.Author.Needs.{needs}
-use mathlib.Core.Path.{_∙_, ap}
+use mathlib.Core.Path.{refl}
+use mathlib.Core.Bool.{_||_}
+use Prim.Native.Nat.{_%_}
+use native.Mathlib.Omega.{arith}
 use lib.Dec.{eqb}
-use Rattle.table.specs.Pick.{pick}
-use Rattle.list.proofs.DueWords.{all-choice}
+use Rattle.list.proofs.DueWords.{scaled-few, all-place}
 use Rattle.list.proofs.dues.all_of.Statement.{statement}
 use Rattle.list.proofs.dues.all_of.Tie as tie
+
+all-side-requires : tie.Need-all-side-requires
+all-side-requires c κs = omega arith
+
+mul-side : tie.Need-mul-side
+mul-side c =
+    let s : tie.Start = search in
+    let k = s .args .kind % 8 in
+    omega (arith, scaled-few (s .args .first) _ (eqb k 3 || eqb k 4) (c .all-side .ensures))
 
 choose-requires : tie.Need-choose-requires
 choose-requires c κs = search needs
 
-choose-requires-2 : tie.Need-choose-requires-2
-choose-requires-2 c κs = search needs
-
-choose-requires-3 : tie.Need-choose-requires-3
-choose-requires-3 c κs = search needs
-
 returns : tie.Need-returns
 returns c =
-    let call : tie.After-choose = search in
-    let side : tie.After-choose2 = search in
+    let flag : tie.After-all-side = search in
     let s : tie.Start = search in
-    let a = s .args in
-    c .choose3 .ensures
-    ∙ ap (pick (eqb (a .node) 0) 0) (side .choose2 .ensures ∙ ap (pick (eqb (a .kind) 3) (a .first)) (call .choose .ensures))
-    ∙ all-choice (eqb (a .node) 0) (eqb (a .kind) 3) (eqb (a .kind) 4) (a .first)
+    all-place _ (s .args .kind) (s .args .first) _ _ _ (s .pre) (flag .all-side .ensures) refl (c .choose .ensures)
 
 pub all-of-spec : {M : Type 1} → statement M
-all-of-spec = tie.close (tie.spec choose-requires choose-requires-2 choose-requires-3 returns)
+all-of-spec = tie.close (tie.spec all-side-requires mul-side choose-requires returns)

@@ -12,6 +12,7 @@ use Rattle.table.specs.Working.{IsNode}
 use Rattle.table.proofs.Family.{parent-lower}
 use Rattle.list.specs.Tags.{calleeOf}
 use Rattle.list.specs.Working.{bitAt, Callee, metAt, SureTo, NeedsTo}
+use Rattle.list.proofs.Limits.{kind-few}
 use Rattle.list.proofs.DueLaws.{all-passed}
 use Rattle.list.proofs.CallTables.{callee-few, link-few}
 use Rattle.list.proofs.DueWords.{parent-is, all-few, defs-few, met-word, sure-none, sure-next, needs-none, needs-next}
@@ -72,6 +73,9 @@ kind-read : (c : tie.After-kind Inv-loop μ-loop) → let p = kind-up c in
 kind-read c z =
     let p = kind-up c in
     c .kind .ensures ∙ s (turn p) .pre .0 .0 .told .node _ 0 (parent-node p z) (omega arith)
+
+kind-room : (c : tie.After-kind Inv-loop μ-loop) → (kind-up c .parent .result .0 ≡ 0 → ⊥) → c .kind .result < 8
+kind-room c z = let p = kind-up c in omega (arith, kind-read c z, kind-few _ (s (turn p) .pre .0 .0 .taken) _ (parent-node p z))
 
 abbrev first-up : tie.After-first Inv-loop μ-loop → tie.After-parent Inv-loop μ-loop
 first-up c = search
@@ -151,13 +155,13 @@ next-requires : tie.Need-next-requires Inv-loop μ-loop
 next-requires c κs = search needs
 
 all-of-requires : tie.Need-all-of-requires Inv-loop μ-loop
-all-of-requires c κs = search needs
+all-of-requires c κs = kind-room (search)
 
 cast-side : tie.Need-cast-side Inv-loop μ-loop
 cast-side c = omega (arith, side-room (search))
 
 defs-of-requires : tie.Need-defs-of-requires Inv-loop μ-loop
-defs-of-requires c κs = search needs
+defs-of-requires c κs = kind-room (search)
 
 cast-bound : tie.Need-cast-bound Inv-loop μ-loop
 cast-bound c = omega (arith, bound-room (search))
