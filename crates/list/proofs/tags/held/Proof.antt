@@ -4,7 +4,7 @@ use native.Mathlib.Omega.{arith}
 use borrow.Author.Tests.{not-true, not-false}
 use Rattle.table.specs.Bytes.{nodes}
 use Rattle.table.specs.Check.{accepted}
-use Rattle.list.proofs.NodeLaws.{few}
+use Rattle.list.proofs.Limits.{few}
 use Rattle.list.proofs.TagVerdicts.{wrong-length, past-is, past-last, unfit, held-fit}
 use borrow.Author.Needs.{needs}
 use Rattle.list.proofs.tags.held.Statement.{statement}

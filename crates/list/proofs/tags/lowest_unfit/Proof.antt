@@ -10,8 +10,8 @@ use Rattle.table.specs.Find.{lowest}
 use Rattle.table.specs.Working.{IsNode}
 use Rattle.table.proofs.Loops.{lowest-more, lowest-found}
 use Rattle.list.specs.Tags.{tagFits, tagged}
-use Rattle.list.proofs.NodeLaws.{few}
-use Rattle.list.proofs.SiteLaws.{call-low}
+use Rattle.list.proofs.Limits.{few}
+use Rattle.list.proofs.Limits.{call-low}
 use Rattle.list.proofs.TagLoops.{lowest-none}
 use Rattle.list.proofs.TagsFit.{untagged, tag-other, tag-again, tag-call}
 use Rattle.list.proofs.tags.lowest_unfit.Statement.{statement}

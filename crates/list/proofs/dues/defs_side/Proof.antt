@@ -1,0 +1,23 @@
+-- `dues::defs_side` meets its contract, kind by kind.
+use borrow.Author.Needs.{needs}
+use native.Mathlib.Omega.{arith}
+use lib.Dec.{eqb}
+use Rattle.list.proofs.DueWords.{defs-side, one-few}
+use Rattle.list.proofs.dues.defs_side.Statement.{statement}
+use Rattle.list.proofs.dues.defs_side.Tie as tie
+
+element-copy-out-result : tie.Need-element-copy-out-result
+element-copy-out-result c = search needs
+
+cast-result : tie.Need-cast-result
+cast-result c =
+    let s : tie.Start = search in
+    omega (arith, defs-side (s .args .kind) (s .pre), one-few (eqb (s .args .kind) 6))
+
+returns : tie.Need-returns
+returns c =
+    let s : tie.Start = search in
+    defs-side _ (s .pre)
+
+pub defs-side-spec : {M : Type 1} → statement M
+defs-side-spec = tie.close (tie.spec element-copy-out-result cast-result returns)
