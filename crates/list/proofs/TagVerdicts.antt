@@ -1,71 +1,104 @@
 -- refusal 10, case by case, and what a lent tag list holds then
-use Prim.Native.Nat.{ℕ, zero, suc, _+_, _-_, _*_, _/_, _<_}
+use Prim.Native.Nat.{ℕ, zero, suc, _+_, _-_, _*_, _/_, _≤_, _<_}
 use mathlib.Core.Path.{_≡_, refl, sym, subst, ap, ap₂, _∙_}
-use mathlib.Core.Bool.{Bool, true, false, _&&_, not}
+use mathlib.Core.Bool.{Bool, true, false, _&&_, _||_, not}
 use mathlib.Core.List.{List}
 use native.Mathlib.Omega.{arith}
 use lib.Dec.{eqb}
 use lib.ListN.{length, getD, take}
 use lib.Seq.{getD-take}
 use borrow.Author.Tests.{eq-eqb, ne-eqb}
-use Rattle.table.specs.Bytes.{functions, nodes}
+use Rattle.table.specs.Pick.{pick}
+use Rattle.table.specs.Bytes.{functions, nodes, kind, word}
+use Rattle.table.specs.Naming.{owner}
+use Rattle.table.specs.Decoded.{cellAt, nodeSlot, tableSlot}
+use native.Mathlib.Decide.{ℕ-discrete}
 use Rattle.table.specs.Find.{lowest, all}
 use Rattle.table.specs.Check.{Verdict, accepted, refused, stage, checkOf}
 use Rattle.table.specs.Check.{ifAccepted}
-use Rattle.list.specs.Tags.{tagged, listed, tagLength, nonePast, tagFits, tagsRefusal, tagsOf, after, checkWith, fillVerdict}
+use Rattle.list.specs.Arbiters.{Test}
+use Rattle.list.specs.Tags.{tagged, listed, isCall, tagLength, nonePast, tagFits, tagsRefusal, cellFits, heldBy, tagsOf, after}
+use Rattle.list.specs.Tags.{checkWith, fillVerdict}
+use Rattle.list.proofs.Limits.{call-low}
 use Rattle.list.specs.Tags.{filledTags}
-use Rattle.table.specs.Working.{Taken}
-use Rattle.table.proofs.Passed.{passes}
+use Rattle.table.specs.Working.{IsNode, Taken, Read}
 use Rattle.list.specs.Working.{Bit}
 use Rattle.list.proofs.ListLaws.{tags-are}
 
--- the accepted table's own numbers
+module _ (cells tags : List ℕ) where
+  abbrev N : ℕ
+  N = cellAt cells tableSlot 1
 
-module _ (t tags : List ℕ) where
+  abbrev told : Verdict
+  told = accepted (cellAt cells tableSlot 0) N
+
+  abbrev none : Bool
+  none = all (λ i. not (tagged tags (N + i))) (8 * length tags - N)
+
   -- a tag list that was handed in
-  at-length : (length tags ≡ tagLength t → ⊥) → refused 10 0 ≡ tagsRefusal t tags
-  unfolding tagsRefusal stage
-  at-length h =
-      ap (λ b. stage 10 (b && nonePast t tags) (lowest (tagFits t tags) (nodes t)) λ _. accepted (functions t) (nodes t))
-      (sym (ne-eqb (length tags) (tagLength t) h))
+  pub wrong-length : (k : ℕ) → k ≡ N → (length tags ≡ (k + 7) / 8 → ⊥) → refused 10 0 ≡ heldBy cells tags
+  unfolding heldBy stage
+  wrong-length k e h =
+      ap (λ b. stage 10 (b && none) (lowest (cellFits cells tags) N) λ _. told)
+      (sym (ne-eqb (length tags) ((N + 7) / 8) (λ q. h (q ∙ ap (λ n. (n + 7) / 8) (sym e)))))
 
-  pub wrong-length : (k : ℕ) → k ≡ nodes t → (length tags ≡ (k + 7) / 8 → ⊥) → refused 10 0 ≡ tagsRefusal t tags
-  unfolding tagLength
-  wrong-length k e h = at-length (λ q. h (q ∙ ap (λ n. (n + 7) / 8) (sym e)))
+  stage-by : (k : ℕ) → k ≡ N → (b : Bool) (place : ℕ) → length tags ≡ (k + 7) / 8 → none ≡ b → lowest (cellFits cells tags) N ≡ place
+      → heldBy cells tags ≡ stage 10 b place (λ _. told)
+  unfolding heldBy
+  stage-by k e b place l p q =
+      ap₂ (λ a c. stage 10 (a && c) (lowest (cellFits cells tags) N) (λ _. told))
+      (eq-eqb (length tags) ((N + 7) / 8) (l ∙ ap (λ n. (n + 7) / 8) e)) p
+      ∙ ap (λ c. stage 10 b c (λ _. told)) q
 
-  right-length : (k : ℕ) → k ≡ nodes t → length tags ≡ (k + 7) / 8 → length tags ≡ tagLength t
-  unfolding tagLength
-  right-length k e h = h ∙ ap (λ n. (n + 7) / 8) e
-
-  stage-by : (b : Bool) (place : ℕ) → length tags ≡ tagLength t → nonePast t tags ≡ b → lowest (tagFits t tags) (nodes t) ≡ place
-      → tagsRefusal t tags ≡ stage 10 b place (λ _. accepted (functions t) (nodes t))
-  unfolding tagsRefusal
-  stage-by b place l p q =
-      ap₂ (λ a c. stage 10 (a && c) (lowest (tagFits t tags) (nodes t)) (λ _. accepted (functions t) (nodes t)))
-      (eq-eqb (length tags) (tagLength t) l) p
-      ∙ ap (λ c. stage 10 b c (λ _. accepted (functions t) (nodes t))) q
-
-  at-place : (n : ℕ) → (n ≡ 0 → ⊥) → refused 10 n ≡ stage 10 true n (λ _. accepted (functions t) (nodes t))
+  at-place : (n : ℕ) → (n ≡ 0 → ⊥) → refused 10 n ≡ stage 10 true n (λ _. told)
   unfolding stage
   at-place zero z = absurd (z refl)
   at-place (suc n) z = refl
 
-  pub past-last : (k : ℕ) → k ≡ nodes t → length tags ≡ (k + 7) / 8 → nonePast t tags ≡ false → refused 10 0 ≡ tagsRefusal t tags
+  pub past-last : (k : ℕ) → k ≡ N → length tags ≡ (k + 7) / 8 → none ≡ false → refused 10 0 ≡ heldBy cells tags
   unfolding stage
-  past-last k e l p = sym (stage-by false (lowest (tagFits t tags) (nodes t)) (right-length k e l) p refl)
+  past-last k e l p = sym (stage-by k e false (lowest (cellFits cells tags) N) l p refl)
 
-  pub unfit : (k place : ℕ) → k ≡ nodes t → length tags ≡ (k + 7) / 8 → nonePast t tags ≡ true → place ≡ lowest (tagFits t tags) (nodes t)
-      → (place ≡ 0 → ⊥) → refused 10 place ≡ tagsRefusal t tags
-  unfit k place e l p q z = at-place place z ∙ sym (stage-by true place (right-length k e l) p (sym q))
+  pub unfit : (k place : ℕ) → k ≡ N → length tags ≡ (k + 7) / 8 → none ≡ true → place ≡ lowest (cellFits cells tags) N → (place ≡ 0 → ⊥)
+      → refused 10 place ≡ heldBy cells tags
+  unfit k place e l p q z = at-place place z ∙ sym (stage-by k e true place l p (sym q))
 
-  pub held-fit : (k : ℕ) → k ≡ nodes t → length tags ≡ (k + 7) / 8 → nonePast t tags ≡ true → lowest (tagFits t tags) (nodes t) ≡ 0
-      → accepted (functions t) (nodes t) ≡ tagsRefusal t tags
+  pub held-fit : (k f : ℕ) → k ≡ N → f ≡ cellAt cells tableSlot 0 → length tags ≡ (k + 7) / 8 → none ≡ true
+      → lowest (cellFits cells tags) N ≡ 0 → accepted f k ≡ heldBy cells tags
   unfolding stage
-  held-fit k e l p q = sym (stage-by true 0 (right-length k e l) p q)
+  held-fit k f e ef l p q = ap₂ accepted ef e ∙ sym (stage-by k e true 0 l p q)
 
-  pub past-is : (k : ℕ) → k ≡ nodes t → all (λ i. not (tagged tags (k + i))) (8 * length tags - k) ≡ nonePast t tags
-  unfolding nonePast
+  pub past-is : (k : ℕ) → k ≡ N → all (λ i. not (tagged tags (k + i))) (8 * length tags - k) ≡ none
   past-is k e = ap (λ n. all (λ i. not (tagged tags (n + i))) (8 * length tags - n)) e
+
+-- tests that agree find the same
+lowest-same : (p q : Test) (k : ℕ) → ((n : ℕ) → 1 ≤ n → n ≤ k → p n ≡ q n) → lowest p k ≡ lowest q k
+unfolding lowest
+lowest-same p q zero f = refl
+lowest-same p q (suc k) f =
+    ap₂ (λ r b. pick (eqb r 0) (pick b 0 (suc k)) r) (lowest-same p q k (λ n a b. f n a (omega arith))) (f (suc k) (omega arith) (omega arith))
+
+cell-same : (t cells tags : List ℕ) → Read t cells → (n : ℕ) → IsNode t n → cellFits cells tags n ≡ tagFits t tags n
+unfolding cellFits tagFits isCall
+cell-same t cells tags h n i =
+    ap₂ (λ k o. not (tagged tags n) || (eqb k 4 && not (eqb (cellAt cells (nodeSlot n) 2) o))) (h .told .node n 0 i (omega arith))
+    (h .told .node n 6 i (omega arith))
+    ∙ go (ℕ-discrete (kind t n) 4)
+  where
+    go : Dec (kind t n ≡ 4) → (not (tagged tags n) || (eqb (kind t n) 4 && not (eqb (cellAt cells (nodeSlot n) 2) (owner t n))))
+        ≡ (not (tagged tags n) || (eqb (kind t n) 4 && not (eqb (word t n) (owner t n))))
+    go (yes k) = ap (λ w. not (tagged tags n) || (eqb (kind t n) 4 && not (eqb w (owner t n))))
+        (h .told .node n 2 i (omega arith) ∙ call-low t (h .taken) n i k)
+    go (no k) = rw (ne-eqb (kind t n) 4 k)
+
+-- of an accepted table, what is read off its cells is what the rules ask
+pub held-read : (t cells tags : List ℕ) → Read t cells → heldBy cells tags ≡ tagsRefusal t tags
+unfolding heldBy tagsRefusal tagLength nonePast
+held-read t cells tags h =
+    ap₂ (λ f n. stage 10 (eqb (length tags) ((n + 7) / 8) && all (λ i. not (tagged tags (n + i))) (8 * length tags - n))
+    (lowest (cellFits cells tags) n) (λ _. accepted f n)) (h .told .own 0 (omega arith)) (h .told .own 1 (omega arith))
+    ∙ ap (λ x. stage 10 (eqb (length tags) ((nodes t + 7) / 8) && all (λ i. not (tagged tags (nodes t + i))) (8 * length tags - nodes t)) x
+    (λ _. accepted (functions t) (nodes t))) (lowest-same (cellFits cells tags) (tagFits t tags) (nodes t) (λ n a b. cell-same t cells tags h n (a, b)))
 
 -- the table first
 pub after-check : (t tags : List ℕ) (r : Verdict) → Taken t → r ≡ tagsRefusal t tags → r ≡ checkWith t tags
@@ -75,17 +108,6 @@ after-check t tags r ok e = e ∙ sym (ap (λ v. after v (λ _. tagsRefusal t ta
 pub at-check : (t tags : List ℕ) (number place : ℕ) → refused number place ≡ checkOf t → refused number place ≡ checkWith t tags
 unfolding checkWith after
 at-check t tags number place e = ap (λ v. after v (λ _. tagsRefusal t tags)) e
-
--- accepted, it names F and N
-pub held-same : (t tags : List ℕ) (F N : ℕ) → accepted F N ≡ checkWith t tags → accepted (functions t) (nodes t) ≡ checkWith t tags
-unfolding checkWith after tagsRefusal
-held-same t tags F N e = go (checkOf t) refl e
-  where
-    go : (v : Verdict) → checkOf t ≡ v → accepted F N ≡ after v (λ _. tagsRefusal t tags)
-        → accepted (functions t) (nodes t) ≡ after (checkOf t) (λ _. tagsRefusal t tags)
-    go (accepted F′ N′) q h = passes 10 (eqb (length tags) (tagLength t) && nonePast t tags) _ _ F N (sym h) .2 ∙ h
-        ∙ sym (ap (λ v. after v (λ _. tagsRefusal t tags)) q)
-    go (refused k p) q h = absurd (let z : _≡_ {A = ℕ} 0 1 = cc in omega arith)
 
 -- a lent tag list
 pub record Filled (t old new : List ℕ) (v : Verdict) : Type 0 where

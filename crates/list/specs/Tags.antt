@@ -11,10 +11,8 @@ use Rattle.list.specs.Arbiters.{Test, listedIn}
 use Rattle.table.specs.Bytes.{functions, nodes, kind, word}
 use Rattle.table.specs.Find.{one, lowest, all}
 use Rattle.table.specs.Naming.{owner}
-use Rattle.table.specs.declared.Findings.{Findings}
 use Rattle.table.specs.Check.{Verdict, accepted, refused, stage, ifAccepted, checkOf}
-use Rattle.table.specs.Decoded.{Decoded}
-use Rattle.table.specs.Survey.{verdictOf}
+use Rattle.table.specs.Decoded.{cellAt, nodeSlot, tableSlot}
 use Rattle.table.specs.Expressions.{bodyOf}
 
 -- node n is bit (n - 1) mod 8 of byte (n - 1) / 8; past the end every byte reads 0
@@ -61,6 +59,18 @@ tagsRefusal t tags =
     stage 10 (eqb (length tags) (tagLength t) && nonePast t tags) (lowest (tagFits t tags) (nodes t)) λ _.
     accepted (functions t) (nodes t)
 
+-- the same, read off a decoded table
+unfoldable pub cellFits : (cells tags : List ℕ) → Test
+cellFits cells tags n =
+    not (tagged tags n)
+    || (eqb (cellAt cells (nodeSlot n) 0) 4 && not (eqb (cellAt cells (nodeSlot n) 2) (cellAt cells (nodeSlot n) 6)))
+
+unfoldable pub heldBy : (cells tags : List ℕ) → Verdict
+heldBy cells tags =
+    let N = cellAt cells tableSlot 1 in
+    stage 10 (eqb (length tags) ((N + 7) / 8) && all (λ i. not (tagged tags (N + i))) (8 * length tags - N)) (lowest (cellFits cells tags) N) λ _.
+    accepted (cellAt cells tableSlot 0) N
+
 -- what comes after waits for what comes before
 unfoldable pub after : Verdict → (Unit {0} → Verdict) → Verdict
 after (accepted F N) rest = rest tt
@@ -69,11 +79,6 @@ after (refused number place) rest = refused number place
 -- the table, then its tags
 unfoldable pub checkWith : List ℕ → List ℕ → Verdict
 checkWith t tags = after (checkOf t) λ _. tagsRefusal t tags
-
--- both checked, and the table decoded
-pub record SurveyedWith (t tags : List ℕ) (r : Findings) : Type 0 where
-  pub checked : verdictOf (r .checked) ≡ checkWith t tags
-  pub cells : Decoded t (r .cells)
 
 -- a tag list that is lent to be filled: 10 looks at its length alone
 unfoldable pub fillVerdict : List ℕ → ℕ → Verdict

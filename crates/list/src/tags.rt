@@ -7,15 +7,14 @@ ghost use mathlib.Core.Path.{_≡_};
 ghost use mathlib.Core.Bool.{not};
 ghost use Prim.Native.Nat.{_+_, _-_, _*_, _≤_};
 ghost use lib.ListN.{length, take};
-ghost use Rattle.table.specs.Bytes.{nodes};
+ghost use Rattle.table.specs.Decoded.{cellAt, tableSlot};
 ghost use Rattle.table.specs.Find.{lowest, all};
 ghost use Rattle.table.specs.Survey.{verdictOf};
-ghost use Rattle.table.specs.Working.{Read};
-ghost use Rattle.list.specs.Tags.{tagged, tagFits, tagsRefusal};
+ghost use Rattle.list.specs.Tags.{tagged, cellFits, heldBy};
 
 // Whether no bit past the last node is set.
 fn none_past(tags: &[u8], last: Node) -> bool
-    requires { ⌜ (last .0 ≤ 512) × (length (now tags) ≤ 64) ⌝ }
+    requires { ⌜ length (now tags) ≤ 8192 ⌝ }
     ensures { λ r. ⌜ r ≡ all (λ i. not (tagged (now (tags .entry)) (last .0 + i))) (8 * length (now (tags .entry)) - last .0) ⌝ }
 {
     let end = 8 * tags.len();
@@ -23,8 +22,7 @@ fn none_past(tags: &[u8], last: Node) -> bool
     let mut i: usize = 0;
     while count + i < end {
         i += 1;
-        let n = (count + i) as u16;
-        if crate::marks(tags, Node(n)) {
+        if crate::bit_at(tags, count + i - 1) {
             return false;
         }
     }
@@ -32,13 +30,13 @@ fn none_past(tags: &[u8], last: Node) -> bool
 }
 
 // The lowest node that is tagged and is no call, or is a self call; 0 where there is none.
-fn lowest_unfit(table: &[u8], cells: &Cells, tags: &[u8]) -> Node
-    requires { ⌜ Read (now table) (now cells) ⌝ }
-    ensures { λ r. ⌜ r .0 ≡ lowest (tagFits (now (table .entry)) (now (tags .entry))) (nodes (now (table .entry))) ⌝ }
+fn lowest_unfit(cells: &Cells, tags: &[u8]) -> Node
+    ensures { λ r. ⌜ r .0 ≡ lowest (cellFits (now (cells .entry)) (now (tags .entry))) (cellAt (now (cells .entry)) tableSlot 1) ⌝ }
 {
     let last = decoded::last(cells);
+    let end = last.0;
     let mut n: u16 = 0;
-    while n < last.0 {
+    while n < end {
         n += 1;
         if crate::marks(tags, Node(n)) {
             if decoded::kind(cells, Node(n)) != 4 {
@@ -52,10 +50,9 @@ fn lowest_unfit(table: &[u8], cells: &Cells, tags: &[u8]) -> Node
     Node(0)
 }
 
-// A tag list beside an accepted table: 10, all its cases.
-pub(crate) fn held(table: &[u8], cells: &Cells, tags: &[u8]) -> Checked
-    requires { ⌜ Read (now table) (now cells) ⌝ }
-    ensures { λ r. ⌜ verdictOf r ≡ tagsRefusal (now (table .entry)) (now (tags .entry)) ⌝ }
+// A tag list beside a decoded table: 10, all its cases.
+pub(crate) fn held(cells: &Cells, tags: &[u8]) -> Checked
+    ensures { λ r. ⌜ verdictOf r ≡ heldBy (now (cells .entry)) (now (tags .entry)) ⌝ }
 {
     let last = decoded::last(cells);
     let count = last.0 as usize;
@@ -65,7 +62,7 @@ pub(crate) fn held(table: &[u8], cells: &Cells, tags: &[u8]) -> Checked
     if !none_past(tags, last) {
         return Checked::Refused(10, Node(0));
     }
-    let place = lowest_unfit(table, cells, tags);
+    let place = lowest_unfit(cells, tags);
     if place.0 != 0 {
         return Checked::Refused(10, place);
     }

@@ -6,8 +6,8 @@ use borrow.Author.Needs.{needs}
 use Rattle.list.proofs.bit_at.Statement.{statement}
 use Rattle.list.proofs.bit_at.Tie as tie
 
-cast-at : tie.Need-cast-at
-cast-at c = search needs
+cast-k : tie.Need-cast-k
+cast-k c = search needs
 
 shared-slice-read-x : tie.Need-shared-slice-read-x
 shared-slice-read-x c = search needs
@@ -27,4 +27,4 @@ returns-2 c =
     rw (List·getD-eq-default (s .args .tags .now) 0 (c .if1 .left), zero-div)
 
 pub bit-at-spec : {M : Type 1} → statement M
-bit-at-spec = tie.close (tie.spec cast-at shared-slice-read-x cast-y shr-y returns returns-2)
+bit-at-spec = tie.close (tie.spec cast-k shared-slice-read-x cast-y shr-y returns returns-2)

@@ -1,5 +1,5 @@
 -- `fill_tags` meets its contract, by the check's answer and the lent list's length.
-use mathlib.Core.Path.{_≡_, sym, ap, _∙_}
+use mathlib.Core.Path.{_≡_, refl, sym, ap, _∙_}
 use native.Mathlib.Omega.{arith}
 use Rattle.table.specs.Bytes.{functions, nodes}
 use Rattle.table.specs.Survey.{verdictOf}
@@ -17,10 +17,12 @@ start c = search
 abbrev found : tie.After-checked2 → tie.After-survey
 found c = search
 
-taken : (c : tie.After-checked2) → Read (start c .args .table .now) (found c .survey .result .cells)
+taken : (c : tie.After-checked2) → Read (start c .args .table .now) (found c .survey .last .1 .0)
     × (c .checked2 .given .0 .0 .0 ≡ functions (start c .args .table .now))
     × (c .checked2 .given .0 .1 .0 .0 ≡ nodes (start c .args .table .now))
-taken c = survey-taken _ _ _ _ (found c .survey .ensures) (c .checked2 .given .1)
+taken c =
+    let told = found c .survey .ensures in
+    survey-taken _ _ _ _ _ _ refl (told .0) (told .1) (c .checked2 .given .1)
 
 survey-requires : tie.Need-survey-requires
 survey-requires c κs = search needs
@@ -57,7 +59,7 @@ returns-2 : tie.Need-returns-2
 returns-2 c =
     let is : tie.After-checked = search in
     let found : tie.After-survey = search in
-    let r = fill-refused _ _ _ _ (sym (ap verdictOf (is .checked .given .1)) ∙ found .survey .ensures .checked) in
+    let r = fill-refused _ _ _ _ (sym (ap verdictOf (is .checked .given .1)) ∙ found .survey .ensures .0) in
     (r .verdict, r .tags)
 
 same-length : tie.Need-same-length

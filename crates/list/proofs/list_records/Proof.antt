@@ -1,5 +1,5 @@
 -- `list_records` meets its contract, by the check's answer.
-use mathlib.Core.Path.{sym, ap, _∙_}
+use mathlib.Core.Path.{refl, sym, ap, _∙_}
 use Rattle.table.specs.Survey.{verdictOf}
 use Rattle.table.specs.Working.{Read}
 use Rattle.table.proofs.SurveyLaws.{survey-taken}
@@ -14,8 +14,10 @@ start c = search
 abbrev found : tie.After-enum-told → tie.After-survey
 found c = search
 
-taken : (c : tie.After-enum-told) → Read (start c .args .table .now) (found c .survey .result .cells)
-taken c = survey-taken _ _ _ _ (found c .survey .ensures) (c .enum-told .given .1) .0
+taken : (c : tie.After-enum-told) → Read (start c .args .table .now) (found c .survey .last .1 .0)
+taken c =
+    let told = found c .survey .ensures in
+    survey-taken _ _ _ _ _ _ refl (told .0) (told .1) (c .enum-told .given .1) .0
 
 survey-requires : tie.Need-survey-requires
 survey-requires c κs = search needs
@@ -43,7 +45,7 @@ returns c =
     let is : tie.After-checked = search in
     let found : tie.After-survey = search in
     let r = c .blank .ensures in
-    arrange-none _ _ _ _ (r .0) (r .1) (ap verdictOf (r .2)) (sym (ap verdictOf (is .checked .given .1)) ∙ found .survey .ensures .checked)
+    arrange-none _ _ _ _ (r .0) (r .1) (ap verdictOf (r .2)) (sym (ap verdictOf (is .checked .given .1)) ∙ found .survey .ensures .0)
 
 returns-2 : tie.Need-returns-2
 returns-2 c =

@@ -18,6 +18,9 @@ returns c =
 sub-bit-at : tie.Need-sub-bit-at
 sub-bit-at c = search needs
 
+cast-bit-at : tie.Need-cast-bit-at
+cast-bit-at c = search needs
+
 bit-at-requires-2 : tie.Need-bit-at-requires-2
 bit-at-requires-2 c κs = search needs
 
@@ -26,4 +29,5 @@ unfolding tagged
 returns-2 c = c .bit-at2 .ensures
 
 pub marks-spec : {M : Type 1} → statement M
-marks-spec = tie.close (tie.spec bit-at-requires returns sub-bit-at bit-at-requires-2 returns-2)
+marks-spec =
+    tie.close (tie.spec bit-at-requires returns sub-bit-at cast-bit-at bit-at-requires-2 returns-2)

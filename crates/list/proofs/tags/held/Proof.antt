@@ -1,20 +1,11 @@
 -- `tags::held` meets its contract, one cause of refusal 10 after the other.
-use mathlib.Core.Path.{_≡_, sym, ap₂, _∙_}
+use mathlib.Core.Path.{sym, _∙_}
 use native.Mathlib.Omega.{arith}
 use borrow.Author.Tests.{not-true, not-false}
-use Rattle.table.specs.Bytes.{nodes}
-use Rattle.table.specs.Check.{accepted}
-use Rattle.list.proofs.Limits.{few}
 use Rattle.list.proofs.TagVerdicts.{wrong-length, past-is, past-last, unfit, held-fit}
 use borrow.Author.Needs.{needs}
 use Rattle.list.proofs.tags.held.Statement.{statement}
 use Rattle.list.proofs.tags.held.Tie as tie
-
-abbrev start : tie.After-last → tie.Start
-start c = search
-
-last : (c : tie.After-last) → c .last .result .0 ≡ nodes (start c .args .table .now)
-last c = c .last .ensures ∙ start c .pre .told .own 1 (omega arith)
 
 last-requires : tie.Need-last-requires
 last-requires c κs = search needs
@@ -26,26 +17,26 @@ add-if1 : tie.Need-add-if1
 add-if1 c = search needs
 
 returns : tie.Need-returns
-returns c = wrong-length _ _ _ (last (search)) (c .if1 .taken)
+returns c =
+    let last : tie.After-last = search in
+    wrong-length _ _ _ (last .last .ensures) (c .if1 .taken)
 
 none-past-requires : tie.Need-none-past-requires
 none-past-requires c κs =
-    let s : tie.Start = search in
     let long : tie.Else1 = search in
-    let n = few _ (s .pre .taken) .1 in
-    (omega (arith, n, last (search)), omega (arith, n, last (search), long .if1 .left))
+    let last : tie.After-last = search in
+    omega (arith, long .if1 .left)
 
 returns-2 : tie.Need-returns-2
 returns-2 c =
     let told : tie.After-none-past = search in
     let long : tie.Else1 = search in
-    let e = last (search) in
+    let last : tie.After-last = search in
+    let e = last .last .ensures in
     past-last _ _ _ e (long .if1 .left) (sym (past-is _ _ _ e) ∙ sym (told .none-past .ensures) ∙ not-true _ (c .if2 .taken))
 
 lowest-unfit-requires : tie.Need-lowest-unfit-requires
-lowest-unfit-requires c κs =
-    let s : tie.Start = search in
-    s .pre
+lowest-unfit-requires c κs = search needs
 
 returns-3 : tie.Need-returns-3
 returns-3 c =
@@ -53,7 +44,8 @@ returns-3 c =
     let fit : tie.Else2 = search in
     let past : tie.After-none-past = search in
     let long : tie.Else1 = search in
-    let e = last (search) in
+    let last : tie.After-last = search in
+    let e = last .last .ensures in
     unfit _ _ _ _ e (long .if1 .left) (sym (past-is _ _ _ e) ∙ sym (past .none-past .ensures) ∙ not-false _ (fit .if2 .left))
     (told .lowest-unfit .ensures) (c .if3 .taken)
 
@@ -67,9 +59,9 @@ returns-4 c =
     let fit : tie.Else2 = search in
     let past : tie.After-none-past = search in
     let long : tie.Else1 = search in
-    let s : tie.Start = search in
-    let e = last (search) in
-    ap₂ accepted (c .main .ensures ∙ s .pre .told .own 0 (omega arith)) e ∙ held-fit _ _ _ e (long .if1 .left)
+    let last : tie.After-last = search in
+    let e = last .last .ensures in
+    held-fit _ _ _ _ e (c .main .ensures) (long .if1 .left)
     (sym (past-is _ _ _ e) ∙ sym (past .none-past .ensures) ∙ not-false _ (fit .if2 .left))
     (sym (told .lowest-unfit .ensures) ∙ all .if3 .left)
 

@@ -8,7 +8,7 @@ use lib.ListN.{length}
 use Rattle.table.specs.Find.{all}
 use Rattle.list.specs.Tags.{tagged}
 use Rattle.table.proofs.Loops.{all-more, all-fails}
-use Rattle.list.proofs.TagLoops.{all-none}
+use Rattle.list.proofs.TagLoops.{all-none, bit-is}
 use Rattle.list.proofs.tags.none_past.Statement.{statement}
 use Rattle.list.proofs.tags.none_past.Tie as tie
 
@@ -21,7 +21,7 @@ abbrev μ-loop : tie.MeasureT-loop
 mul-end : tie.Need-mul-end Inv-loop μ-loop
 mul-end c =
     let start : tie.Start Inv-loop μ-loop = search in
-    omega (arith, start .pre .1)
+    omega (arith, start .pre)
 
 cast-count : tie.Need-cast-count Inv-loop μ-loop
 cast-count c = search needs
@@ -32,49 +32,46 @@ loop-holds c = (omega arith, all-none _)
 add-loop : tie.Need-add-loop Inv-loop μ-loop
 add-loop c =
     let start : tie.Start Inv-loop μ-loop = search in
-    omega (arith, c .loop .inv .0, start .pre .0, start .pre .1)
+    omega (arith, c .loop .inv .0, start .pre)
 
 add-i : tie.Need-add-i Inv-loop μ-loop
 add-i c =
     let at-loop : tie.At-loop Inv-loop μ-loop = search in
     let start : tie.Start Inv-loop μ-loop = search in
-    omega (arith, at-loop .loop .inv .0, start .pre .1)
+    omega (arith, at-loop .loop .inv .0, start .pre)
 
-add-n : tie.Need-add-n Inv-loop μ-loop
-add-n c =
+add-bit-at : tie.Need-add-bit-at Inv-loop μ-loop
+add-bit-at c =
     let at-loop : tie.At-loop Inv-loop μ-loop = search in
     let start : tie.Start Inv-loop μ-loop = search in
-    omega (arith, at-loop .loop .inv .0, start .pre .0, start .pre .1)
+    omega (arith, at-loop .loop .inv .0, start .pre)
 
-cast-n : tie.Need-cast-n Inv-loop μ-loop
-cast-n c =
-    let at-loop : tie.At-loop Inv-loop μ-loop = search in
-    let start : tie.Start Inv-loop μ-loop = search in
-    omega (arith, at-loop .loop .inv .0, start .pre .0, start .pre .1)
+sub-bit-at : tie.Need-sub-bit-at Inv-loop μ-loop
+sub-bit-at c = omega arith
 
-marks-requires : tie.Need-marks-requires Inv-loop μ-loop
-marks-requires c κs = omega arith
+bit-at-requires : tie.Need-bit-at-requires Inv-loop μ-loop
+bit-at-requires c κs = search needs
 
 returns : tie.Need-returns Inv-loop μ-loop
 returns c =
-    let after-marks : tie.After-marks Inv-loop μ-loop = search in
+    let told : tie.After-bit-at Inv-loop μ-loop = search in
     let at-loop : tie.At-loop Inv-loop μ-loop = search in
     let start : tie.Start Inv-loop μ-loop = search in
     let a = start .args in
     sym (all-fails (λ j. not (tagged _ (a .last .0 + j))) _ (at-loop .loop .i + 1) (omega arith) (omega arith) (ap not (sym
-    (after-marks .marks .ensures) ∙ c .if1 .taken)))
+    (bit-is _ _ _ _ (told .bit-at .ensures)) ∙ c .if1 .taken)))
 
 loop-less : tie.Need-loop-less Inv-loop μ-loop
 loop-less c = omega arith
 
 loop-again : tie.Need-loop-again Inv-loop μ-loop
 loop-again c =
-    let after-marks : tie.After-marks Inv-loop μ-loop = search in
+    let told : tie.After-bit-at Inv-loop μ-loop = search in
     let at-loop : tie.At-loop Inv-loop μ-loop = search in
     let start : tie.Start Inv-loop μ-loop = search in
     let a = start .args in (
       omega arith,
-      all-more (λ j. not (tagged _ (a .last .0 + j))) _ (at-loop .loop .inv .1) (ap not (sym (after-marks .marks .ensures) ∙ c
+      all-more (λ j. not (tagged _ (a .last .0 + j))) _ (at-loop .loop .inv .1) (ap not (sym (bit-is _ _ _ _ (told .bit-at .ensures)) ∙ c
           .if1 .left)),
     )
 
@@ -97,9 +94,9 @@ none-past-spec =
     loop-holds
     add-loop
     add-i
-    add-n
-    cast-n
-    marks-requires
+    add-bit-at
+    sub-bit-at
+    bit-at-requires
     returns
     loop-less
     loop-again
