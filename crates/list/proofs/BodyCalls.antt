@@ -89,7 +89,8 @@ module _ (t : List ℕ) (ok : Taken t) where
       go n i f e = elim (calling t ok m n i e) [
         | itself l q ↦ record { at = n; node = i; own = refl; calls = l; way = inl q }
         | callees l p ↦
-            record { at = n; node = i; own = refl; calls = l; way = inr (root-calls t ok m (calleeOf t n) (callee-function t ok n i l) ∙ p) }
+            let q = root-calls t ok m (calleeOf t n) (callee-function t ok n i l) ∙ p in
+            record { at = n; node = i; own = refl; calls = l; way = inr q }
         | childs x ↦
             let some-parent : parent t (x .at) ≡ 0 → ⊥ = λ z. omega (arith, z, x .up, i .0) in
             subst (Entry m) (sym (owner-parent t lk (x .at) (x .node) some-parent) ∙ ap (owner t) (x .up))
@@ -169,7 +170,8 @@ module _ (t : List ℕ) (ok : Taken t) where
           (λ g p q. ap₂ (λ a b. a && b) (d .each f g i (p, omega (arith, q, l))) (b .each g h (p, q) k))
           ∙ body-called f h i
 
-      at : (g h : ℕ) → Range (f + 1 - 1) g → Callee h → Dec (g ≡ f) → has (set bodies f (bitOr below x)) g h ≡ eqb g h || calledIn t (callsBy t g) h
+      at : (g h : ℕ) → Range (f + 1 - 1) g → Callee h → Dec (g ≡ f)
+          → has (set bodies f (bitOr below x)) g h ≡ eqb g h || calledIn t (callsBy t g) h
       at g h s k (yes z) =
           ap (λ y. has (set bodies f (bitOr below x)) y h) z ∙ has-same bodies f (bitOr below x) (omega (arith, b .size, l)) h
           ∙ ap (λ y. bitAt (bitOr below y) h) e ∙ one-more below f h ∙ or-swap (bitAt below h) (eqb f h)

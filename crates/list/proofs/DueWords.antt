@@ -53,10 +53,6 @@ defs-side (suc (suc (suc (suc (suc (suc zero)))))) l = refl
 defs-side (suc (suc (suc (suc (suc (suc (suc zero))))))) l = refl
 defs-side (suc (suc (suc (suc (suc (suc (suc (suc k)))))))) l = absurd (omega arith)
 
-pub one-few : (b : Bool) → one b ≤ 1
-one-few true = omega arith
-one-few false = omega arith
-
 -- a number taken once or not at all
 scaled : (x f : ℕ) (b : Bool) → f ≡ one b → x * f ≡ pick b x 0
 scaled x f true e = ap (λ y. x * y) e ∙ mul-one x

@@ -169,10 +169,6 @@ bits-room s k n l = go (ℕ-discrete k 7) (bits-small s k n)
     go (yes e) b = omega (arith, b, ap (λ j. 2 ^ j) e)
     go (no e) b = let p : 2 ^ k < 2 ^ 7 = pow-lt {i = k} {j = 7} (omega arith) in omega (arith, b, p)
 
-pub one-few : (b : Bool) → one b ≤ 1
-one-few true = omega arith
-one-few false = omega arith
-
 -- the bits of the nodes past k of the eight from n on
 pub bits-more : (s : Test) (n k sum bit : ℕ) → 1 ≤ k → k ≤ 8 → sum ≡ bitsFrom s (8 - k) (n + k + 1) → bit ≡ one (s (n + k))
     → 2 * sum + bit ≡ bitsFrom s (8 - (k - 1)) (n + (k - 1) + 1)

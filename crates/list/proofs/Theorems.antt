@@ -1,21 +1,28 @@
--- the theorems on the arbiter list, for a reader
-use mathlib.Core.Path.{_≡_}
+-- the theorems on the arbiter list, for a reader: of every table that the check accepts
+use Prim.Native.Nat.{ℕ, _%_, _^_, _≤_}
+use mathlib.Core.Bool.{true}
 use mathlib.Core.List.{List}
-use Prim.Native.Nat.{ℕ, _≤_}
+use mathlib.Core.Path.{_≡_, sym}
 use lib.ListN.{length}
-use Rattle.table.specs.Bytes.{nodes}
+use Rattle.table.specs.Pick.{Range}
+use Rattle.table.specs.Bytes.{functions, nodes}
 use Rattle.table.specs.Check.{checkOf, accepted}
-use Rattle.table.specs.Working.{Taken}
-use Rattle.list.specs.Tags.{Holding, bitsSet, listed, tagged, tagsOf}
+use Rattle.table.proofs.SurveyLaws.{taken-by}
+use Rattle.list.specs.Tags.{Holding, bitsSet, checkWith, isCall, listed, tagged, tagsOf}
 use Rattle.list.specs.Records.{recordsOf}
 use Rattle.list.proofs.PaperList.{PaperList}
 use Rattle.list.proofs.PaperList as Paper
 use Rattle.list.proofs.TagFacts as TagFacts
 use Rattle.list.proofs.Totals as Totals
 
--- the list of an accepted table is the A of section 4.2, by its PC and by the one solution of its equation for C
+-- the list is the A of section 4.2, by its PC and by the one solution of its equation for C
 pub paper-list : (t : List ℕ) (F N : ℕ) → checkOf t ≡ accepted F N → PaperList t
 paper-list = Paper.paper-list
+
+-- what is listed is a call of another function
+pub listed-call : (t : List ℕ) (F N : ℕ) → checkOf t ≡ accepted F N → (n : ℕ) → listed t n ≡ true
+    → Range (nodes t) n × (isCall t n ≡ true)
+listed-call = TagFacts.listed-call
 
 -- the tag bytes mark the list and nothing else
 pub tags-mark : (t : List ℕ) (F N : ℕ) → checkOf t ≡ accepted F N → (n : ℕ) → 1 ≤ n → n ≤ nodes t → tagged (tagsOf t) n ≡ listed t n
@@ -24,6 +31,13 @@ tags-mark = TagFacts.tags-mark
 pub tags-hold : (t : List ℕ) (F N : ℕ) → checkOf t ≡ accepted F N → Holding t (tagsOf t)
 tags-hold = TagFacts.tags-hold
 
--- as many bits are set as there are records
-pub total-records : (t : List ℕ) → Taken t → bitsSet (tagsOf t) ≡ length (recordsOf t)
-total-records = Totals.total-records
+-- and are taken as tags
+pub tags-taken : (t : List ℕ) (F N : ℕ) → checkOf t ≡ accepted F N → checkWith t (tagsOf t) ≡ accepted (functions t) (nodes t)
+tags-taken = TagFacts.tags-taken
+
+-- as many bits are set as there are records, and that is what `total` answers
+pub total-records : (t : List ℕ) (F N : ℕ) → checkOf t ≡ accepted F N → bitsSet (tagsOf t) ≡ length (recordsOf t)
+total-records t F N e = Totals.total-records t (taken-by t F N (sym e) .0)
+
+pub total-whole : (t : List ℕ) (F N : ℕ) → checkOf t ≡ accepted F N → bitsSet (tagsOf t) % 2 ^ 64 ≡ length (recordsOf t)
+total-whole t F N e = Totals.total-whole t (taken-by t F N (sym e) .0)

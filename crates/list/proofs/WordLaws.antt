@@ -10,11 +10,16 @@ use lib.ListN.{length, getD, set}
 use lib.Seq.{getD-set-same, getD-set-other}
 use borrow.Author.Tests.{eq-eqb, ne-eqb, lt-ltb}
 use Rattle.table.specs.Pick.{pick}
+use Rattle.table.specs.Find.{one}
 use Rattle.table.proofs.Tests.{ltb-no}
 use Rattle.list.specs.Arbiters.{Test, anyUpTo}
 use Rattle.list.specs.Working.{bitAt, has, Reaches, Hands}
 use Rattle.list.proofs.Truths.{or-swap, any-next, any-up}
 use Rattle.list.proofs.BitLaws.{or-bit, zero-bit, pow-bit, low-bit}
+
+pub one-few : (b : Bool) → one b ≤ 1
+one-few true = omega arith
+one-few false = omega arith
 
 -- a word or none
 pub pick-bit : (b : Bool) (x h : ℕ) → bitAt (pick b x 0) h ≡ b && bitAt x h

@@ -1,7 +1,7 @@
 -- `arbiters::arbiters` meets its contract. The invariant: the words are what they are to be, and the first i bytes are made.
 -- The measure is the bytes left.
 use borrow.Author.Needs.{needs}
-use Prim.Native.Nat.{_-_, _*_, _≤_, _<_}
+use Prim.Native.Nat.{_-_, _≤_, _<_}
 use mathlib.Core.Path.{_≡_, refl, _∙_}
 use native.Mathlib.Omega.{arith}
 use Rattle.table.specs.Bytes.{functions, nodes}

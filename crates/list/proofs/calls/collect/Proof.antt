@@ -15,7 +15,8 @@ use Rattle.list.proofs.calls.collect.Statement.{statement}
 use Rattle.list.proofs.calls.collect.Tie as tie
 
 abbrev Inv-loop : tie.InvT-loop
-Inv-loop table cells callees₀ direct₀ last n₀ callees direct n = (n ≤ nodes table) × CalleesTo table n callees × DirectTo table n direct × (last ≡ nodes table)
+Inv-loop table cells callees₀ direct₀ last n₀ callees direct n =
+    (n ≤ nodes table) × CalleesTo table n callees × DirectTo table n direct × (last ≡ nodes table)
 
 abbrev μ-loop : tie.MeasureT-loop
 μ-loop table cells callees₀ direct₀ last n₀ callees direct n = nodes table - n

@@ -3,7 +3,8 @@ use borrow.Author.Needs.{needs}
 use mathlib.Core.Bool.{_||_}
 use native.Mathlib.Omega.{arith}
 use lib.Dec.{eqb}
-use Rattle.list.proofs.DueWords.{all-side, one-few}
+use Rattle.list.proofs.WordLaws.{one-few}
+use Rattle.list.proofs.DueWords.{all-side}
 use Rattle.list.proofs.dues.all_side.Statement.{statement}
 use Rattle.list.proofs.dues.all_side.Tie as tie
 

@@ -2,7 +2,8 @@
 use borrow.Author.Needs.{needs}
 use native.Mathlib.Omega.{arith}
 use lib.Dec.{eqb}
-use Rattle.list.proofs.DueWords.{defs-side, one-few}
+use Rattle.list.proofs.WordLaws.{one-few}
+use Rattle.list.proofs.DueWords.{defs-side}
 use Rattle.list.proofs.dues.defs_side.Statement.{statement}
 use Rattle.list.proofs.dues.defs_side.Tie as tie
 

@@ -20,7 +20,8 @@ use Rattle.list.proofs.dues.fill.Statement.{statement}
 use Rattle.list.proofs.dues.fill.Tie as tie
 
 abbrev Inv-loop : tie.InvT-loop
-Inv-loop table cells callees all twice defs pairs sure₀ needs₀ last n₀ sure needs n = (n ≤ nodes table) × SureTo table n sure × NeedsTo table sure n needs × (last ≡ nodes table)
+Inv-loop table cells callees all twice defs pairs sure₀ needs₀ last n₀ sure needs n =
+    (n ≤ nodes table) × SureTo table n sure × NeedsTo table sure n needs × (last ≡ nodes table)
 
 abbrev μ-loop : tie.MeasureT-loop
 μ-loop table cells callees all twice defs pairs sure₀ needs₀ last n₀ sure needs n = nodes table - n

@@ -3,12 +3,14 @@ use Prim.Native.Nat.{_+_, _-_, _*_, _≤_}
 use mathlib.Core.Path.{_≡_}
 use native.Mathlib.Omega.{arith}
 use Rattle.list.specs.Tags.{listed, bitsFrom}
-use Rattle.list.proofs.MarkLaws.{bits-none, bits-room, bits-more, bits-all, one-few}
+use Rattle.list.proofs.WordLaws.{one-few}
+use Rattle.list.proofs.MarkLaws.{bits-none, bits-room, bits-more, bits-all}
 use Rattle.list.proofs.marked.byte.Statement.{statement}
 use Rattle.list.proofs.marked.byte.Tie as tie
 
 abbrev Inv-loop : tie.InvT-loop
-Inv-loop table cells callees sure needs i sum₀ k₀ sum k = (k ≤ 8) × (sum ≡ bitsFrom (listed table) (8 - k) (8 * i + k + 1))
+Inv-loop table cells callees sure needs i sum₀ k₀ sum k =
+    (k ≤ 8) × (sum ≡ bitsFrom (listed table) (8 - k) (8 * i + k + 1))
 
 abbrev μ-loop : tie.MeasureT-loop
 μ-loop table cells callees sure needs i sum₀ k₀ sum k = k

@@ -15,7 +15,8 @@ use Rattle.list.proofs.rows.fill.Statement.{statement}
 use Rattle.list.proofs.rows.fill.Tie as tie
 
 abbrev Inv-loop : tie.InvT-loop
-Inv-loop table cells callees bodies all₀ twice₀ defs₀ pairs₀ n₀ all twice defs pairs n = (n ≤ nodes table) × Rows table n all twice defs pairs
+Inv-loop table cells callees bodies all₀ twice₀ defs₀ pairs₀ n₀ all twice defs pairs n =
+    (n ≤ nodes table) × Rows table n all twice defs pairs
 
 abbrev μ-loop : tie.MeasureT-loop
 μ-loop table cells callees bodies all₀ twice₀ defs₀ pairs₀ n₀ all twice defs pairs n = n
