@@ -11,15 +11,15 @@ use Rattle.table.specs.Bytes.{functions, nodes, kind, first, next}
 use Rattle.table.specs.Naming.{owner, children}
 use Rattle.table.specs.Check.{accepted}
 use Rattle.table.specs.Expressions.{bodyOf}
-use Rattle.table.specs.declared.Findings.{Findings}
+use Rattle.table.specs.declared.Checked.{Checked}
 use Rattle.list.specs.Tags.{checkWith}
 use Rattle.rules.specs.State.{State512, entry}
 use Rattle.rules.specs.Step.{Act, stuck, blocked, does, Move, begins, turns, finishes, enters, leaves, restarts, over, perform}
 use Rattle.rules.specs.Circuit.{actOf, Possible}
 use Rattle.rules.specs.Runs.{standing, MainDone, mainValue, Ended, gave, atRest, spent, barred, Found, FindsAfter}
-use Rattle.table.specs.Working.{IsNode, Taken}
-use Rattle.table.specs.Decoded.{Decoded}
+use Rattle.table.specs.Working.{IsNode, Taken, Read}
 use Rattle.table.specs.Survey.{verdictOf}
+use Rattle.circuit.specs.Meaning.{stateAs}
 use Rattle.circuit.specs.declared.changes.Effect.{Effect}
 use Rattle.circuit.specs.declared.changes.Effect.the-variants as Effect
 use Rattle.circuit.specs.declared.plan.Plan.{Plan}
@@ -113,16 +113,22 @@ goes blocked = false
 goes (does m) = true
 
 -- 24 is met: some status up to N is over 3, or some occupant up to F over N
-abbrev pub strayIn : List ℕ → State512 → Bool
-strayIn t s = over 3 (nodes t) (s .status) || over (nodes t) (functions t) (s .occupant)
+abbrev pub strayIn : (t status occupant : List ℕ) → Bool
+strayIn t status occupant = over 3 (nodes t) status || over (nodes t) (functions t) occupant
 
 pub record Stands (t : List ℕ) (s : State512) : Type 0 where
-  pub passes : strayIn t s ≡ false
+  pub passes : strayIn t (s .status) (s .occupant) ≡ false
 
--- what is told before a query or a run, with the table decoded
-pub record Admitted (t tags : List ℕ) (s : State512) (r : Findings) : Type 0 where
-  pub told : verdictOf (r .checked) ≡ standing t tags s
-  pub cells : Decoded t (r .cells)
+-- what is told of a table and its tags, with the table decoded where both are taken
+pub record Surveyed (t tags : List ℕ) (r : Checked) (cells : List ℕ) : Type 0 where
+  pub told : verdictOf r ≡ checkWith t tags
+  pub read : (F N : ℕ) → verdictOf r ≡ accepted F N → Read t cells
+
+-- the same with 24, before a query or a run; it looks at two arrays of the state, whatever the others are
+pub record Admitted (t tags status occupant : List ℕ) (r : Checked) (cells : List ℕ) : Type 0 where
+  pub told : (second : List Bool) (value registers : List ℕ)
+      → verdictOf r ≡ standing t tags (stateAs status second value registers occupant)
+  pub read : (F N : ℕ) → verdictOf r ≡ accepted F N → Read t cells
 
 -- a table and tags that are taken
 pub record Agreed (t tags : List ℕ) : Type 0 where

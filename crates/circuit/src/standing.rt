@@ -5,10 +5,10 @@ use table::Node;
 use table::decoded;
 use table::decoded::Cells;
 ghost use mathlib.Core.Path.{_≡_};
-ghost use mathlib.Core.Bool.{_||_};
 ghost use Rattle.table.specs.Bytes.{functions, nodes};
 ghost use Rattle.rules.specs.Step.{over};
 ghost use Rattle.table.specs.Working.{Read};
+ghost use Rattle.circuit.specs.Working.{strayIn};
 
 // A status over 3.
 fn odd_status(table: &[u8], cells: &Cells, status: &[u8; 512]) -> bool
@@ -45,8 +45,7 @@ fn odd_occupant(table: &[u8], cells: &Cells, occupant: &[u16; 32]) -> bool
 
 pub(crate) fn strays(table: &[u8], cells: &Cells, status: &[u8; 512], occupant: &[u16; 32]) -> bool
     requires { ⌜ Read (now table) (now cells) ⌝ }
-    ensures { λ r. ⌜ r ≡ (over 3 (nodes (now (table .entry))) (now (status .entry))
-        || over (nodes (now (table .entry))) (functions (now (table .entry))) (now (occupant .entry))) ⌝ }
+    ensures { λ r. ⌜ r ≡ strayIn (now (table .entry)) (now (status .entry)) (now (occupant .entry)) ⌝ }
 {
     if odd_status(table, cells, status) {
         return true;
