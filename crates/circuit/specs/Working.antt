@@ -1,10 +1,9 @@
 -- working definitions: what the parts of a step ask of each other, and the nodes of each function in a chain
-use Prim.Native.Nat.{ℕ, zero, suc, _+_, _-_, _*_, _/_, _%_, _^_, _≤_}
+use Prim.Native.Nat.{ℕ, zero, suc, _-_, _≤_}
 use mathlib.Core.Bool.{Bool, true, false, _&&_, _||_}
 use mathlib.Core.Path.{_≡_}
 use mathlib.Core.List.{List, [], _∷_, map}
-use lib.Bits.{bitAnd, bitOr, bitXor}
-use lib.Dec.{eqb, ltb}
+use lib.Dec.{eqb}
 use lib.ListN.{getD}
 use Rattle.table.specs.Pick.{pick}
 use Rattle.table.specs.Bytes.{functions, nodes, kind, first, next}
@@ -14,7 +13,7 @@ use Rattle.table.specs.Expressions.{bodyOf}
 use Rattle.table.specs.declared.Checked.{Checked}
 use Rattle.list.specs.Tags.{checkWith}
 use Rattle.rules.specs.State.{State512, entry}
-use Rattle.rules.specs.Step.{Act, stuck, blocked, does, Move, begins, turns, finishes, enters, leaves, restarts, over, perform}
+use Rattle.rules.specs.Step.{Act, stuck, blocked, does, Move, turns, finishes, enters, leaves, restarts, over, perform}
 use Rattle.rules.specs.Circuit.{actOf, Possible}
 use Rattle.rules.specs.Runs.{standing, MainDone, mainValue, Ended, gave, atRest, spent, barred, Found, FindsAfter}
 use Rattle.table.specs.Working.{IsNode, Taken, Read}
@@ -69,7 +68,6 @@ opens t n = pick (eqb (kind t n) 5) (first t n ∷ []) (pick (eqb (kind t n) 6) 
 abbrev pub planned : List ℕ → List ℕ → ℕ → Plan → Act
 planned t value n Plan.Stuck = stuck
 planned t value n Plan.Blocked = blocked
-planned t value n Plan.Begins = does (begins (opens t n))
 planned t value n (Plan.Turns m) = does (turns (m .0))
 planned t value n (Plan.Finishes v) = does (finishes v)
 planned t value n (Plan.Enters g) = does (enters (g .0) (given t value n))
@@ -80,26 +78,15 @@ planned t value n Plan.Restarts = does (restarts (owner t n) (given t value n))
 abbrev pub passed : (status value : List ℕ) → ℕ → Act
 passed status value r = pick (eqb (entry status 0 r) 3) (does (finishes (entry value 0 r))) stuck
 
--- an operation on two values; beside has its last child's
-unfoldable pub operateBy : (op x y last : ℕ) → ℕ
-operateBy op x y last =
-    pick (eqb op 0) ((x + y) % 2 ^ 32)
-    (pick (eqb op 1) ((x + 2 ^ 32 - y) % 2 ^ 32)
-    (pick (eqb op 2) (bitAnd x y)
-    (pick (eqb op 3) (bitOr x y)
-    (pick (eqb op 4) (bitXor x y)
-    (pick (eqb op 5) ((2 * x) % 2 ^ 32)
-    (pick (eqb op 6) (x / 2)
-    (pick (eqb op 7) (x % 2)
-    (pick (eqb op 8) (pick (eqb x y) 1 0)
-    (pick (eqb op 9) (pick (ltb x y) 1 0)
-    last)))))))))
-
 -- what is done at a node that has this step: the effect says which, and the state after it
 abbrev pub Took : (t : List ℕ) → State512 → ℕ → Act → Effect → State512 → Type 0
 Took t s n stuck e s′ = (e ≡ Effect.Stuck) × (s′ ≡ s)
 Took t s n blocked e s′ = (e ≡ Effect.Blocked) × (s′ ≡ s)
 Took t s n (does m) e s′ = (e ≡ Effect.Moved) × (s′ ≡ perform (nodes t) (owner t) (bodyOf t) s n m)
+
+-- a node that has a move, and it is made
+abbrev pub Made : (t : List ℕ) → State512 → ℕ → State512 → Type 0
+Made t s n s′ = Took t s n (actOf t s n) Effect.Moved s′
 
 abbrev pub movedOf : Effect → Bool
 movedOf Effect.Stuck = false

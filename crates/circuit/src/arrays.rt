@@ -3,7 +3,7 @@ use table::Node;
 ghost use mathlib.Core.Path.{_≡_};
 ghost use Rattle.circuit.specs.Meaning.{numbers};
 
-pub(crate) fn plain(raw: [Node; 32]) -> [u16; 32]
+pub fn plain(raw: [Node; 32]) -> [u16; 32]
     ensures { λ r. ⌜ r ≡ numbers raw ⌝ }
 {
     let mut r = [0u16; 32];
@@ -16,7 +16,7 @@ pub(crate) fn plain(raw: [Node; 32]) -> [u16; 32]
     r
 }
 
-pub(crate) fn named(raw: [u16; 32]) -> [Node; 32]
+pub fn named(raw: [u16; 32]) -> [Node; 32]
     ensures { λ r. ⌜ numbers r ≡ raw ⌝ }
 {
     let mut r = [Node(0); 32];

@@ -44,13 +44,13 @@ pub(crate) fn step(
     if standing::strays(table, cells, status, occupant) {
         return Answer::Refused(24, Node(0));
     }
-    let g = groups::group(table, cells);
-    let heads = g.heads;
-    let links = g.links;
+    let heads = [0u16; 33];
+    let links = [0u16; 513];
     turn::turn(
         table,
         cells,
         tags,
+        false,
         &heads,
         &links,
         status,
@@ -92,6 +92,7 @@ pub(crate) fn run(
             table,
             cells,
             tags,
+            true,
             &heads,
             &links,
             status,

@@ -73,7 +73,7 @@ turn-requires c κs =
     let l : Head = search in
     let g : tie.After-group Inv-loop μ-loop = search in
     let s : Start = search in
-    (s .pre .0, g .group .ensures, l .loop .inv .1)
+    (s .pre .0, λ e. g .group .ensures, l .loop .inv .1)
 
 enum-known-answer : tie.Need-enum-known-answer Inv-loop μ-loop
 enum-known-answer c = search needs

