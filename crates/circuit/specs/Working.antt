@@ -107,7 +107,7 @@ pub record Stands (t : List ℕ) (s : State512) : Type 0 where
   pub passes : strayIn t (s .status) (s .occupant) ≡ false
 
 -- what is told of a table and its tags, with the table decoded where both are taken
-pub record Surveyed (t tags : List ℕ) (r : Checked) (cells : List ℕ) : Type 0 where
+pub record ReadIn (t tags : List ℕ) (r : Checked) (cells : List ℕ) : Type 0 where
   pub told : verdictOf r ≡ checkWith t tags
   pub read : (F N : ℕ) → verdictOf r ≡ accepted F N → Read t cells
 

@@ -3,11 +3,11 @@ use crate::standing;
 use table::Checked;
 use table::Node;
 use table::decoded::Cells;
-ghost use Rattle.circuit.specs.Working.{Surveyed, Admitted};
+ghost use Rattle.circuit.specs.Working.{ReadIn, Admitted};
 
 // The table and its tags; where both are taken, the table is decoded into the cells.
-pub(crate) fn survey(table: &[u8], tags: &[u8], cells: &mut Cells) -> Checked
-    ensures { λ r. ⌜ Surveyed (now (table .entry)) (now (tags .entry)) r (now (cells .exit)) ⌝ }
+pub(crate) fn read_in(table: &[u8], tags: &[u8], cells: &mut Cells) -> Checked
+    ensures { λ r. ⌜ ReadIn (now (table .entry)) (now (tags .entry)) r (now (cells .exit)) ⌝ }
 {
     let found = list::survey_tags(table, tags);
     let decoded = found.cells;
@@ -26,7 +26,7 @@ pub(crate) fn admit(
     ensures { λ r. ⌜ Admitted (now (table .entry)) (now (tags .entry)) (now (status .entry)) (now (occupant .entry)) r
         (now (cells .exit)) ⌝ }
 {
-    let checked = survey(table, tags, cells);
+    let checked = read_in(table, tags, cells);
     match checked {
         Checked::Refused(number, place) => Checked::Refused(number, place),
         Checked::Accepted(main, last) => {

@@ -34,7 +34,7 @@ pub fn start(
         (startOf (now (table .entry)) (now (tags .entry)) (now (args .entry))) ⌝ }
 {
     let mut cells = [0u16; 4360];
-    let checked = admission::survey(table, tags, &mut cells);
+    let checked = admission::read_in(table, tags, &mut cells);
     match checked {
         Checked::Refused(number, place) => Opening::Refused(number, place),
         Checked::Accepted(_, _) => begin::start(
@@ -68,7 +68,7 @@ pub fn step(
         (n .0) ⌝ }
 {
     let mut cells = [0u16; 4360];
-    let checked = admission::survey(table, tags, &mut cells);
+    let checked = admission::read_in(table, tags, &mut cells);
     match checked {
         Checked::Refused(number, place) => Answer::Refused(number, place),
         Checked::Accepted(_, _) => entries::step(

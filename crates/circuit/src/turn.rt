@@ -15,9 +15,9 @@ ghost use Rattle.table.specs.Bytes.{functions, root};
 ghost use Rattle.table.specs.Working.{Read};
 ghost use Rattle.list.specs.Tags.{tagged};
 ghost use Rattle.rules.specs.State.{entry};
-ghost use Rattle.rules.specs.Step.{Stepped, answered, taken};
+ghost use Rattle.rules.specs.Step.{answered, taken};
 ghost use Rattle.rules.specs.Circuit.{circuitOf};
-ghost use Rattle.circuit.specs.Meaning.{replyOf, stateAs};
+ghost use Rattle.circuit.specs.Meaning.{replyOf, steppedAs, stateAs};
 ghost use Rattle.circuit.specs.Working.{Grouped, Stands};
 
 // 22 for a tagged call, 23 for one that isn't.
@@ -65,13 +65,11 @@ pub(crate) fn turn(
 ) -> Answer
     requires { ⌜ Read (now table) (now cells) × (grouped ≡ true → Grouped (now table) (now heads) (now links))
         × Stands (now table) (stateAs (now status) (now second) (now value) (now registers) (now occupant)) ⌝ }
-    ensures { λ r. ⌜ _≡_ {A = Stepped} (record {
-      answer = replyOf r;
-      state = stateAs (now (status .exit)) (now (second .exit)) (now (value .exit))
-          (now (registers .exit)) (now (occupant .exit));
-    })
-        (circuitOf (now (table .entry)) (now (tags .entry)) (stateAs (now (status .entry)) (now (second .entry)) (now (value .entry))
-        (now (registers .entry)) (now (occupant .entry))) (n .0)) ⌝ }
+    ensures { λ r. ⌜ steppedAs r
+        (stateAs (now (status .exit)) (now (second .exit)) (now (value .exit)) (now (registers .exit)) (now (occupant .exit)))
+        ≡ circuitOf (now (table .entry)) (now (tags .entry))
+        (stateAs (now (status .entry)) (now (second .entry)) (now (value .entry)) (now (registers .entry)) (now (occupant .entry)))
+        (n .0) ⌝ }
 {
     if n.0 == 0 {
         return Answer::Refused(12, Node(0));

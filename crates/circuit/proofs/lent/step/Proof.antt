@@ -11,8 +11,8 @@ use Rattle.circuit.proofs.lent.step.Tie as tie
 abbrev state : tie.Start → State512
 state s = stateAs (s .args .status .now) (s .args .second .now) (s .args .value .now) (s .args .registers .now) (s .args .occupant .now)
 
-survey-requires : tie.Need-survey-requires
-survey-requires c κs = search needs
+read-in-requires : tie.Need-read-in-requires
+read-in-requires c κs = search needs
 
 enum-known-checked : tie.Need-enum-known-checked
 enum-known-checked c = search needs
@@ -23,25 +23,25 @@ enum-told c = search needs
 step-requires : tie.Need-step-requires
 step-requires c κs =
     let is : tie.After-enum-told = search in
-    let found : tie.After-survey = search in
-    found .survey .ensures .read _ _ (ap verdictOf (is .enum-told .given .1))
+    let found : tie.After-read-in = search in
+    found .read-in .ensures .read _ _ (ap verdictOf (is .enum-told .given .1))
 
 returns : tie.Need-returns
 returns c =
     let is : tie.After-checked = search in
-    let found : tie.After-survey = search in
+    let found : tie.After-read-in = search in
     let s : tie.Start = search in
-    step-turned _ _ _ _ (sym (found .survey .ensures .told) ∙ ap verdictOf (is .checked .given .1)) (state s) (s .args .n .0)
+    step-turned _ _ _ _ (sym (found .read-in .ensures .told) ∙ ap verdictOf (is .checked .given .1)) (state s) (s .args .n .0)
 
 returns-2 : tie.Need-returns-2
 returns-2 c =
     let is : tie.After-enum-told = search in
-    let found : tie.After-survey = search in
+    let found : tie.After-read-in = search in
     let s : tie.Start = search in
-    c .step .ensures ∙ sym (step-is _ _ _ _ (sym (found .survey .ensures .told) ∙ ap verdictOf (is .enum-told .given .1)) (state s)
+    c .step .ensures ∙ sym (step-is _ _ _ _ (sym (found .read-in .ensures .told) ∙ ap verdictOf (is .enum-told .given .1)) (state s)
     (s .args .n .0))
 
 pub step-spec : {M : Type 1} → statement M
 step-spec =
     tie.close
-    (tie.spec survey-requires enum-known-checked enum-told step-requires returns returns-2)
+    (tie.spec read-in-requires enum-known-checked enum-told step-requires returns returns-2)
