@@ -18,12 +18,8 @@ use Rattle.circuit.specs.Working.{Agreed}
 use Rattle.circuit.proofs.TurnLaws.{main-root}
 use Rattle.table.specs.Check as TableCheck
 
-pub blank-is : {A : Type 0} (k : ℕ) (a : A) → replicate k a ≡ blank k a
-unfolding blank
-blank-is k a = refl
-
 pub start-is : (t args : List ℕ) → Taken t → (a d : List ℕ) (r : ℕ) → r ≡ root t (functions t) → a ≡ write (replicate 512 0) r 1
-    → d ≡ fill (functions t) args (blank 256 0)
+    → d ≡ fill (functions t) args (replicate 256 0)
     → stateAs a (replicate 512 false) (replicate 512 0) d (replicate 32 0) ≡ circuitStart (functions t) (bodyOf t) args
 unfolding circuitStart blank
 start-is t args fair a d r er ea ed =

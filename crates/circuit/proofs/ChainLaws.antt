@@ -17,9 +17,10 @@ use Rattle.table.proofs.Links.{link}
 use Rattle.table.proofs.Tree.{chain-none, chain-some, first-or, next-or}
 use mathlib.Core.Logic.{_⊎_, inl, inr}
 use Rattle.rules.specs.State.{write, opened}
-use Rattle.rules.specs.Operations.{lastValue, wrap, operate}
+use Rattle.rules.specs.Operations.{lastValue, operate}
 use Rattle.table.specs.Working.{Taken}
-use Rattle.circuit.specs.Working.{allDone, initial, leading, lastFrom, operateBy}
+use Rattle.circuit.specs.Working.{allDone, initial, leading, lastFrom}
+use Rattle.circuit.proofs.OperationLaws.{operateBy}
 
 -- what is left of a chain
 abbrev pub rest : List ℕ → ℕ → ℕ
@@ -137,5 +138,5 @@ module _ (t : List ℕ) (fair : Taken t) where
 
   -- an operation's values
   pub operate-by : (op : ℕ) (vs : List ℕ) → operate op vs ≡ operateBy op (getD vs 0 0) (getD vs 1 0) (lastValue vs)
-  unfolding operate operateBy wrap
+  unfolding operate lastValue
   operate-by op vs = refl

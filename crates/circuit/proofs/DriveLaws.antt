@@ -204,15 +204,15 @@ rests t s height n x s′ f tr c e m i g = go (ℕ-discrete n 0)
         let y : true ≡ false = sym (h .1) ∙ tr .left c .1 (h .0) in
         let w : _≡_ {A = ℕ} 0 1 = cc in omega arith
 
-pub picks-from : (t tags : List ℕ) (s₀ s₁ s u : State512) (k budget : ℕ) (e : Ended) → s₀ ≡ s₁ → DroveTo t tags s₀ s k → k ≤ budget
-    → Says t tags budget k s e → u ≡ s → Picks t tags s₁ budget (record { steps = k; ended = e; state = u })
-picks-from t tags s₀ s₁ s u k budget e w d i y q = record {
+pub picks-from : (t tags : List ℕ) (s₀ s : State512) (k budget : ℕ) (e : Ended) → DroveTo t tags s₀ s k → k ≤ budget
+    → Says t tags budget k s e → Picks t tags s₀ budget (record { steps = k; ended = e; state = s })
+picks-from t tags s₀ s k budget e d i y = record {
   picked = d .picked;
-  possible = ap (λ v. playOf t tags v (d .picked) .nodes) (sym w) ∙ d .possible;
+  possible = d .possible;
   number = d .number;
   within = i;
-  state = ap (λ v. playOf t tags v (d .picked) .state) (sym w) ∙ d .state ∙ sym q;
-  says = subst (λ v. Says t tags budget k v e) (sym q) y;
+  state = d .state;
+  says = y;
 }
 
 -- the answers of the entries, by what was checked first

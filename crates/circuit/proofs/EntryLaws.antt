@@ -33,11 +33,11 @@ numbered [] = refl
 numbered (x ∷ l) = ap (λ r. x ∷ r) (numbered l)
 
 -- 24
-pub stands-from : (t : List ℕ) (s : State512) (b : Bool) → b ≡ strayIn t s → b ≡ false → Stands t s
+pub stands-from : (t : List ℕ) (s : State512) (b : Bool) → b ≡ strayIn t (s .status) (s .occupant) → b ≡ false → Stands t s
 stands-from t s b e h = record { passes = sym e ∙ h }
 
-pub step-stray : (t tags : List ℕ) → Taken t → (s : State512) (n : ℕ) → (n ≡ 0 → ⊥) → n ≤ nodes t → (b : Bool) → b ≡ strayIn t s → b ≡ true
-    → refusal s 24 0 ≡ circuitOf t tags s n
+pub step-stray : (t tags : List ℕ) → Taken t → (s : State512) (n : ℕ) → (n ≡ 0 → ⊥) → n ≤ nodes t
+    → (b : Bool) → b ≡ strayIn t (s .status) (s .occupant) → b ≡ true → refusal s 24 0 ≡ circuitOf t tags s n
 step-stray t tags fair s n d i b e h = go (over 3 (nodes t) (s .status)) refl
   where
     go : (x : Bool) → over 3 (nodes t) (s .status) ≡ x → refusal s 24 0 ≡ circuitOf t tags s n
@@ -55,7 +55,7 @@ agreed-from t tags F N e = record { fair = fair-from t tags F N e; tagging = own
 
 -- 24 where query and runs look at it
 module _ (t tags : List ℕ) (ag : Agreed t tags) (s : State512) where
-  pub stray-standing : (b : Bool) → b ≡ strayIn t s → b ≡ true → standing t tags s ≡ refused 24 0
+  pub stray-standing : (b : Bool) → b ≡ strayIn t (s .status) (s .occupant) → b ≡ true → standing t tags s ≡ refused 24 0
   unfolding standing after stage
   stray-standing b e h = rw (ag .tagging) (go (over 3 (nodes t) (s .status)) refl)
     where
@@ -166,11 +166,16 @@ run-begins r = λ j. record { steps = plain (r .steps) j; halt = r .halt; state 
     plain : (k : ℕ) → k ≡ 0 + k
     plain k = omega arith
 
--- occupants with their names
-module _ (a : List ℕ) (b : List Bool) (c d : List ℕ) (l : List Node) (e : List ℕ) (n : numbers l ≡ e) where
-  pub named-state : stateAs a b c d (numbers l) ≡ stateAs a b c d e
-  named-state = λ i. stateAs a b c d (n i)
+-- a state handed over by value, lent as arrays and packed again; l₀ and l are its occupants with their names, before and after
+module _ (a₀ : List ℕ) (b₀ : List Bool) (c₀ d₀ : List ℕ) (l₀ : List Node) (e₀ : List ℕ) (n₀ : e₀ ≡ numbers l₀)
+    (a : List ℕ) (b : List Bool) (c d : List ℕ) (l : List Node) (e : List ℕ) (n : numbers l ≡ e) where
+  lent : stateAs a₀ b₀ c₀ d₀ e₀ ≡ stateAs a₀ b₀ c₀ d₀ (numbers l₀)
+  lent = λ i. stateAs a₀ b₀ c₀ d₀ (n₀ i)
 
-  pub told-stepped : (r : Reply) (x : Stepped) → _≡_ {A = Stepped} (record { answer = r; state = stateAs a b c d e }) x
-      → _≡_ {A = Stepped} (record { answer = r; state = stateAs a b c d (numbers l) }) x
-  told-stepped r x h = (λ i. record { answer = r; state = stateAs a b c d (n i) }) ∙ h
+  packed : stateAs a b c d (numbers l) ≡ stateAs a b c d e
+  packed = λ i. stateAs a b c d (n i)
+
+  -- what is true of the lent states is true of those by value
+  pub by-value : (P : State512 → State512 → Type 0) → P (stateAs a₀ b₀ c₀ d₀ e₀) (stateAs a b c d e)
+      → P (stateAs a₀ b₀ c₀ d₀ (numbers l₀)) (stateAs a b c d (numbers l))
+  by-value P h = subst (λ s. P s (stateAs a b c d (numbers l))) lent (subst (P (stateAs a₀ b₀ c₀ d₀ e₀)) (sym packed) h)

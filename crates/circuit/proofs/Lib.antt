@@ -5,6 +5,7 @@ pub mod OperationLaws
 pub mod ActBy
 pub mod PlanLaws
 pub mod GroupLaws
+pub mod SweepLaws
 pub mod GiveLaws
 pub mod TakeLaws
 pub mod StandsLaws

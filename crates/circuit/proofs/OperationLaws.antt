@@ -1,7 +1,13 @@
--- the machine's wrapping sums are those of the operations
+-- the operations: of two values and a last one, and the machine's wrapping sums
 use Prim.Native.Nat.{ℕ, _+_, _-_, _*_, _%_, _^_, _<_}
 use mathlib.Core.Path.{_≡_}
+use mathlib.Core.List.{[], _∷_}
 use native.Mathlib.Omega.{arith}
+use Rattle.rules.specs.Operations.{operate}
+
+-- an operation on two values; beside has its last child's
+abbrev pub operateBy : (op x y last : ℕ) → ℕ
+operateBy op x y last = operate op (x ∷ (y ∷ (last ∷ [])))
 
 pub doubled : (x : ℕ) → (x + x) % 2 ^ 32 ≡ (2 * x) % 2 ^ 32
 doubled x = omega arith

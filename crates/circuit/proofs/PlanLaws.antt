@@ -18,7 +18,8 @@ use Rattle.table.specs.Working.{Taken}
 use Rattle.table.specs.Working.{IsNode}
 use Rattle.rules.specs.Circuit.{actOf}
 use Rattle.circuit.specs.Meaning.{stateAs}
-use Rattle.circuit.specs.Working.{allDone, initial, leading, lastFrom, given, opens, passed, operateBy}
+use Rattle.circuit.proofs.OperationLaws.{operateBy}
+use Rattle.circuit.specs.Working.{allDone, initial, leading, lastFrom, given, opens, passed, goes}
 use Rattle.circuit.proofs.ActBy.{open-is, busy-is, openBy, primBy, selfBy, callBy, branchBy, condBy, bindBy, busyBy}
 use Rattle.circuit.proofs.ChainLaws.{chain-end, chain-here, next-in, operate-by}
 
@@ -210,9 +211,23 @@ module _ (t : List ℕ) (fair : Taken t) (n : ℕ) (i : IsNode t n) (a : List �
     acts-leaf p q r u z = by (z ∙ sym (rw (ne-eqb (kind t n) 3 p, ne-eqb (kind t n) 4 q, ne-eqb (kind t n) 5 r, ne-eqb (kind t n) 6 u)
         refl))
 
+-- an open node always has a move
+goes-pick : (b : Bool) (x y : Act) → goes x ≡ true → goes y ≡ true → goes (pick b x y) ≡ true
+goes-pick true x y p q = p
+goes-pick false x y p q = q
+
+open-goes : (t value registers : List ℕ) (n : ℕ) → goes (openBy t value registers n) ≡ true
+unfolding openBy
+open-goes t value registers n =
+    goes-pick (eqb (kind t n) 1) _ _ refl (goes-pick (eqb (kind t n) 2) _ _ refl (goes-pick (eqb (kind t n) 7) _ _ refl refl))
+
+pub open-moves : (t : List ℕ) → Taken t → (n : ℕ) → IsNode t n → (a : List ℕ) (b : List Bool) (c d e : List ℕ) → entry a 0 n ≡ 1
+    → true ≡ goes (actOf t (stateAs a b c d e) n)
+open-moves t fair n i a b c d e h = sym (ap goes (sym (acts-open t fair n i a b c d e (openBy t c d n) h refl)) ∙ open-goes t c d n)
+
 -- beside gives the last value, and no other operation looks at it
 op-last : (op x y z : ℕ) → 9 < op → operateBy op x y z ≡ z
-unfolding operateBy
+unfolding operate lastValue
 op-last op x y z h = rw (
   ne-eqb op 0 (λ e. omega arith),
   ne-eqb op 1 (λ e. omega arith),
@@ -227,7 +242,7 @@ op-last op x y z h = rw (
 ) refl
 
 op-two : (op x y z : ℕ) → op ≤ 9 → operateBy op x y z ≡ operateBy op x y 0
-unfolding operateBy
+unfolding operate lastValue
 op-two zero x y z h = refl
 op-two (suc zero) x y z h = refl
 op-two (suc (suc zero)) x y z h = refl

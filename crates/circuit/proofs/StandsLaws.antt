@@ -1,12 +1,13 @@
 -- 24: how a state is looked through, and that a step keeps what it asks
-use Prim.Native.Nat.{ℕ, zero, suc, _-_, _≤_, _<_}
+use Prim.Native.Nat.{ℕ, zero, suc, _+_, _-_, _≤_, _<_}
 use mathlib.Core.Bool.{Bool, true, false, _||_}
 use mathlib.Core.Path.{_≡_, refl, subst, sym, ap, _∙_}
 use mathlib.Core.List.{List, [], _∷_}
 use native.Mathlib.Omega.{arith}
-use native.Mathlib.Decide.{ℕ-discrete, decLe}
+use native.Mathlib.Decide.{ℕ-discrete, decLe, decLt}
+use native.Mathlib.Numerals.{add-one}
 use lib.Dec.{ltb}
-use lib.ListN.{length, List·getD-eq-default}
+use lib.ListN.{length, getD, List·getD-eq-default}
 use borrow.Author.Tests.{lt-ltb, ltb-false}
 use Rattle.table.proofs.Tests.{ltb-no}
 use Rattle.table.specs.Pick.{pick}
@@ -51,6 +52,23 @@ module _ (limit : ℕ) (l : List ℕ) (n x : ℕ) (some : 0 < n) (ex : x ≡ ent
 pub over-end : (limit : ℕ) (l : List ℕ) (n : ℕ) → n ≡ 0 → over limit n l ≡ false
 unfolding over
 over-end limit l n e = rw e refl
+
+-- the highest of the entries looked at is over the limit where one of them is
+highest-is : (limit h x : ℕ) → pick (ltb limit x) true (ltb limit h) ≡ ltb limit (pick (ltb h x) x h)
+highest-is limit h x = go (decLt h x) (decLt limit x)
+  where
+    go : Dec (h < x) → Dec (limit < x) → pick (ltb limit x) true (ltb limit h) ≡ ltb limit (pick (ltb h x) x h)
+    go (yes p) (yes q) = rw (lt-ltb h x p, lt-ltb limit x q) refl
+    go (yes p) (no q) = rw (lt-ltb h x p, ltb-no limit x q) (ltb-no limit h (λ z. omega arith))
+    go (no p) (yes q) = rw (ltb-no h x p, lt-ltb limit x q) (sym (lt-ltb limit h (omega arith)))
+    go (no p) (no q) = rw (ltb-no h x p, ltb-no limit x q) refl
+
+pub over-highest : (limit : ℕ) (l : List ℕ) (i h x r : ℕ) → over limit i l ≡ ltb limit h → x ≡ getD l i 0 → r ≡ pick (ltb h x) x h
+    → over limit (i + 1) l ≡ ltb limit r
+unfolding entry
+over-highest limit l i h x r e ex er =
+    let at : entry l 0 (i + 1) ≡ x = ap (entry l 0) (add-one i) ∙ sym ex in
+    over-suc limit l i (i + 1) (add-one i) ∙ (λ j. pick (ltb limit (at j)) true (e j)) ∙ highest-is limit h x ∙ ap (ltb limit) (sym er)
 
 -- every entry up to k is at most the limit
 abbrev Under : ℕ → ℕ → List ℕ → Type 0

@@ -18,9 +18,11 @@ use Rattle.circuit.specs.declared.types.Started.{Started as StartedCode}
 use Rattle.circuit.specs.declared.types.Halt.{Halt as HaltCode}
 use Rattle.circuit.specs.declared.types.Halt.the-variants as HaltCode
 use Rattle.circuit.specs.declared.types.Ran.{Ran as RanCode}
+use Rattle.circuit.specs.declared.types.RunEnd.{RunEnd}
 use Rattle.circuit.specs.declared.types.Ended.{Ended as EndedCode}
 use Rattle.circuit.specs.declared.types.Ended.the-variants as EndedCode
 use Rattle.circuit.specs.declared.types.Driven.{Driven as DrivenCode}
+use Rattle.circuit.specs.declared.types.DriveEnd.{DriveEnd}
 use Rattle.circuit.specs.declared.types.Found.{Found as FoundCode}
 use Rattle.circuit.specs.declared.types.Found.the-variants as FoundCode
 
@@ -48,6 +50,10 @@ replyOf Answer.Taken = taken
 replyOf (Answer.Answered v) = answered v
 replyOf (Answer.Refused k p) = denied k (p .0)
 
+-- a step's answer beside the state that it leaves in the lent arrays
+abbrev pub steppedAs : Answer → State512 → Stepped
+steppedAs a s = record { answer = replyOf a; state = s }
+
 abbrev pub steppedOf : SteppedCode → Stepped
 steppedOf r = record { answer = replyOf (r .answer); state = listsOf (r .state) }
 
@@ -59,6 +65,11 @@ openingOf (Opening.Refused k p) s = turned k (p .0)
 abbrev pub startedOf : StartedCode → Started
 startedOf r = openingOf (r .opening) (listsOf (r .state))
 
+-- what a start answers and leaves in the lent arrays, which held the state `old`: refused, they stay as they were
+pub record OpenedAs (old : State512) (a : Opening) (s : State512) (x : Started) : Type 0 where
+  pub answer : openingOf a s ≡ x
+  pub state : s ≡ stateOf x old
+
 -- what a start that was handed the state `old` returns: its answer, and the state that goes with it, refused or not
 pub record StartedAs (old : State) (r : StartedCode) (x : Started) : Type 0 where
   pub answer : startedOf r ≡ x
@@ -69,6 +80,9 @@ abbrev pub haltOf : HaltCode → Halt
 haltOf HaltCode.Whole = whole
 haltOf (HaltCode.Refused k p) = stopped k (p .0)
 
+abbrev pub ranAs : RunEnd → State512 → Ran
+ranAs r s = record { steps = r .taken; halt = haltOf (r .halt); state = s }
+
 abbrev pub ranOf : RanCode → Ran
 ranOf r = record { steps = r .taken; halt = haltOf (r .halt); state = listsOf (r .state) }
 
@@ -78,6 +92,9 @@ endedOf (EndedCode.Answered v) = gave v
 endedOf EndedCode.AtRest = atRest
 endedOf EndedCode.Spent = spent
 endedOf (EndedCode.Refused k p) = barred k (p .0)
+
+abbrev pub drivenAs : DriveEnd → State512 → Driven
+drivenAs r s = record { steps = r .taken; ended = endedOf (r .ended); state = s }
 
 abbrev pub drivenOf : DrivenCode → Driven
 drivenOf r = record { steps = r .taken; ended = endedOf (r .ended); state = listsOf (r .state) }

@@ -1,25 +1,24 @@
 -- working definitions: what the parts of a step ask of each other, and the nodes of each function in a chain
-use Prim.Native.Nat.{ℕ, zero, suc, _+_, _-_, _*_, _/_, _%_, _^_, _≤_}
+use Prim.Native.Nat.{ℕ, zero, suc, _-_, _≤_}
 use mathlib.Core.Bool.{Bool, true, false, _&&_, _||_}
 use mathlib.Core.Path.{_≡_}
 use mathlib.Core.List.{List, [], _∷_, map}
-use lib.Bits.{bitAnd, bitOr, bitXor}
-use lib.Dec.{eqb, ltb}
+use lib.Dec.{eqb}
 use lib.ListN.{getD}
 use Rattle.table.specs.Pick.{pick}
 use Rattle.table.specs.Bytes.{functions, nodes, kind, first, next}
 use Rattle.table.specs.Naming.{owner, children}
 use Rattle.table.specs.Check.{accepted}
 use Rattle.table.specs.Expressions.{bodyOf}
-use Rattle.table.specs.declared.Findings.{Findings}
+use Rattle.table.specs.declared.Checked.{Checked}
 use Rattle.list.specs.Tags.{checkWith}
 use Rattle.rules.specs.State.{State512, entry}
-use Rattle.rules.specs.Step.{Act, stuck, blocked, does, Move, begins, turns, finishes, enters, leaves, restarts, over, perform}
+use Rattle.rules.specs.Step.{Act, stuck, blocked, does, Move, turns, finishes, enters, leaves, restarts, over, perform}
 use Rattle.rules.specs.Circuit.{actOf, Possible}
 use Rattle.rules.specs.Runs.{standing, MainDone, mainValue, Ended, gave, atRest, spent, barred, Found, FindsAfter}
-use Rattle.table.specs.Working.{IsNode, Taken}
-use Rattle.table.specs.Decoded.{Decoded}
+use Rattle.table.specs.Working.{IsNode, Taken, Read}
 use Rattle.table.specs.Survey.{verdictOf}
+use Rattle.circuit.specs.Meaning.{stateAs}
 use Rattle.circuit.specs.declared.changes.Effect.{Effect}
 use Rattle.circuit.specs.declared.changes.Effect.the-variants as Effect
 use Rattle.circuit.specs.declared.plan.Plan.{Plan}
@@ -69,7 +68,6 @@ opens t n = pick (eqb (kind t n) 5) (first t n ∷ []) (pick (eqb (kind t n) 6) 
 abbrev pub planned : List ℕ → List ℕ → ℕ → Plan → Act
 planned t value n Plan.Stuck = stuck
 planned t value n Plan.Blocked = blocked
-planned t value n Plan.Begins = does (begins (opens t n))
 planned t value n (Plan.Turns m) = does (turns (m .0))
 planned t value n (Plan.Finishes v) = does (finishes v)
 planned t value n (Plan.Enters g) = does (enters (g .0) (given t value n))
@@ -80,26 +78,15 @@ planned t value n Plan.Restarts = does (restarts (owner t n) (given t value n))
 abbrev pub passed : (status value : List ℕ) → ℕ → Act
 passed status value r = pick (eqb (entry status 0 r) 3) (does (finishes (entry value 0 r))) stuck
 
--- an operation on two values; beside has its last child's
-unfoldable pub operateBy : (op x y last : ℕ) → ℕ
-operateBy op x y last =
-    pick (eqb op 0) ((x + y) % 2 ^ 32)
-    (pick (eqb op 1) ((x + 2 ^ 32 - y) % 2 ^ 32)
-    (pick (eqb op 2) (bitAnd x y)
-    (pick (eqb op 3) (bitOr x y)
-    (pick (eqb op 4) (bitXor x y)
-    (pick (eqb op 5) ((2 * x) % 2 ^ 32)
-    (pick (eqb op 6) (x / 2)
-    (pick (eqb op 7) (x % 2)
-    (pick (eqb op 8) (pick (eqb x y) 1 0)
-    (pick (eqb op 9) (pick (ltb x y) 1 0)
-    last)))))))))
-
 -- what is done at a node that has this step: the effect says which, and the state after it
 abbrev pub Took : (t : List ℕ) → State512 → ℕ → Act → Effect → State512 → Type 0
 Took t s n stuck e s′ = (e ≡ Effect.Stuck) × (s′ ≡ s)
 Took t s n blocked e s′ = (e ≡ Effect.Blocked) × (s′ ≡ s)
 Took t s n (does m) e s′ = (e ≡ Effect.Moved) × (s′ ≡ perform (nodes t) (owner t) (bodyOf t) s n m)
+
+-- a node that has a move, and it is made
+abbrev pub Made : (t : List ℕ) → State512 → ℕ → State512 → Type 0
+Made t s n s′ = Took t s n (actOf t s n) Effect.Moved s′
 
 abbrev pub movedOf : Effect → Bool
 movedOf Effect.Stuck = false
@@ -113,16 +100,22 @@ goes blocked = false
 goes (does m) = true
 
 -- 24 is met: some status up to N is over 3, or some occupant up to F over N
-abbrev pub strayIn : List ℕ → State512 → Bool
-strayIn t s = over 3 (nodes t) (s .status) || over (nodes t) (functions t) (s .occupant)
+abbrev pub strayIn : (t status occupant : List ℕ) → Bool
+strayIn t status occupant = over 3 (nodes t) status || over (nodes t) (functions t) occupant
 
 pub record Stands (t : List ℕ) (s : State512) : Type 0 where
-  pub passes : strayIn t s ≡ false
+  pub passes : strayIn t (s .status) (s .occupant) ≡ false
 
--- what is told before a query or a run, with the table decoded
-pub record Admitted (t tags : List ℕ) (s : State512) (r : Findings) : Type 0 where
-  pub told : verdictOf (r .checked) ≡ standing t tags s
-  pub cells : Decoded t (r .cells)
+-- what is told of a table and its tags, with the table decoded where both are taken
+pub record ReadIn (t tags : List ℕ) (r : Checked) (cells : List ℕ) : Type 0 where
+  pub told : verdictOf r ≡ checkWith t tags
+  pub read : (F N : ℕ) → verdictOf r ≡ accepted F N → Read t cells
+
+-- the same with 24, before a query or a run; it looks at two arrays of the state, whatever the others are
+pub record Admitted (t tags status occupant : List ℕ) (r : Checked) (cells : List ℕ) : Type 0 where
+  pub told : (second : List Bool) (value registers : List ℕ)
+      → verdictOf r ≡ standing t tags (stateAs status second value registers occupant)
+  pub read : (F N : ℕ) → verdictOf r ≡ accepted F N → Read t cells
 
 -- a table and tags that are taken
 pub record Agreed (t tags : List ℕ) : Type 0 where

@@ -1,40 +1,44 @@
 // The query and the run with a budget, of a table and tags that were checked and a state that passed 24.
-use crate::arrays;
 use crate::candidates;
 use crate::groups;
 use crate::search;
 use crate::store;
 use crate::turn;
-use crate::types::Driven;
+use crate::types::DriveEnd;
 use crate::types::Ended;
 use crate::types::Found;
-use crate::types::State;
 use table::Node;
 use table::decoded::Cells;
 ghost use mathlib.Core.Path.{_≡_};
 ghost use Prim.Native.Nat.{_≤_};
 ghost use Rattle.table.specs.Bytes.{functions, root};
 ghost use Rattle.rules.specs.Runs.{Picks};
-ghost use Rattle.circuit.specs.Meaning.{listsOf, drivenOf, foundOf, endedOf, stateAs};
+ghost use Rattle.circuit.specs.Meaning.{drivenAs, foundOf, endedOf, stateAs};
 ghost use Rattle.circuit.specs.Working.{Agreed, Stands, FindsIn, EndsIn};
 ghost use Rattle.table.specs.Working.{Read};
 
 // None once main's root is done, else the first node that has a move.
-pub(crate) fn query(table: &[u8], cells: &Cells, tags: &[u8], s: State) -> Found
-    requires { ⌜ Read (now table) (now cells) × Agreed (now table) (now tags) × Stands (now table) (listsOf s) ⌝ }
-    ensures { λ r. ⌜ FindsIn (now (table .entry)) (now (tags .entry)) (listsOf s) (foundOf r) ⌝ }
+pub(crate) fn query(
+    table: &[u8],
+    cells: &Cells,
+    tags: &[u8],
+    status: &[u8; 512],
+    second: &[bool; 512],
+    value: &[u32; 512],
+    registers: &[u32; 256],
+    occupant: &[u16; 32],
+) -> Found
+    requires { ⌜ Read (now table) (now cells) × Agreed (now table) (now tags)
+        × Stands (now table) (stateAs (now status) (now second) (now value) (now registers) (now occupant)) ⌝ }
+    ensures { λ r. ⌜ FindsIn (now (table .entry)) (now (tags .entry))
+        (stateAs (now (status .entry)) (now (second .entry)) (now (value .entry)) (now (registers .entry)) (now (occupant .entry)))
+        (foundOf r) ⌝ }
 {
-    let status = s.status;
-    let second = s.second;
-    let value = s.value;
-    let registers = s.registers;
-    let raw = s.occupant;
-    let plain = arrays::plain(raw);
     let top = turn::top(table, cells);
-    if store::status_at(&status, top) == 3 {
+    if store::status_at(status, top) == 3 {
         return Found::Nothing;
     }
-    let n = search::find(table, cells, &status, &second, &value, &registers, &plain);
+    let n = search::find(table, cells, status, second, value, registers, occupant);
     if n.0 == 0 {
         return Found::Nothing;
     }
@@ -71,33 +75,41 @@ fn end_of(
 }
 
 // Possible steps, as many as the budget at most.
-pub(crate) fn drive(table: &[u8], cells: &Cells, tags: &[u8], s: State, budget: u32) -> Driven
-    requires { ⌜ Read (now table) (now cells) × Agreed (now table) (now tags) × Stands (now table) (listsOf s) ⌝ }
-    ensures { λ r. ⌜ Picks (now (table .entry)) (now (tags .entry)) (listsOf s) budget (drivenOf r) ⌝ }
+pub(crate) fn drive(
+    table: &[u8],
+    cells: &Cells,
+    tags: &[u8],
+    status: &mut [u8; 512],
+    second: &mut [bool; 512],
+    value: &mut [u32; 512],
+    registers: &mut [u32; 256],
+    occupant: &mut [u16; 32],
+    budget: u32,
+) -> DriveEnd
+    requires { ⌜ Read (now table) (now cells) × Agreed (now table) (now tags)
+        × Stands (now table) (stateAs (now status) (now second) (now value) (now registers) (now occupant)) ⌝ }
+    ensures { λ r. ⌜ Picks (now (table .entry)) (now (tags .entry))
+        (stateAs (now (status .entry)) (now (second .entry)) (now (value .entry)) (now (registers .entry)) (now (occupant .entry))) budget
+        (drivenAs r
+        (stateAs (now (status .exit)) (now (second .exit)) (now (value .exit)) (now (registers .exit)) (now (occupant .exit)))) ⌝ }
 {
     let g = groups::group(table, cells);
     let heads = g.heads;
     let links = g.links;
     let top = turn::top(table, cells);
-    let mut status = s.status;
-    let mut second = s.second;
-    let mut value = s.value;
-    let mut registers = s.registers;
-    let raw = s.occupant;
-    let mut plain = arrays::plain(raw);
     let mut stack = [0u16; 1024];
     let mut height: usize = 0;
     let mut taken: u32 = 0;
     let mut rest = false;
-    while candidates::going(&status, top, taken, budget, rest) {
+    while candidates::going(status, top, taken, budget, rest) {
         let n = candidates::candidate(
             table,
             cells,
-            &status,
-            &second,
-            &value,
-            &registers,
-            &plain,
+            status,
+            second,
+            value,
+            registers,
+            occupant,
             &stack,
             height,
         );
@@ -106,16 +118,16 @@ pub(crate) fn drive(table: &[u8], cells: &Cells, tags: &[u8], s: State, budget: 
             cells,
             &heads,
             &links,
-            &mut status,
-            &mut second,
-            &mut value,
-            &mut registers,
-            &mut plain,
+            status,
+            second,
+            value,
+            registers,
+            occupant,
             n,
         );
         if candidates::moved(effect) {
             taken += 1;
-            height = candidates::follow(table, cells, &status, &mut stack, height, n);
+            height = candidates::follow(table, cells, status, &mut stack, height, n);
         } else {
             rest = height == 0;
             height = candidates::less(height);
@@ -125,24 +137,12 @@ pub(crate) fn drive(table: &[u8], cells: &Cells, tags: &[u8], s: State, budget: 
         table,
         cells,
         tags,
-        &status,
-        &second,
-        &value,
-        &registers,
-        &plain,
-        top,
-    );
-    let occupant = arrays::named(plain);
-    let state = State {
         status,
         second,
         value,
         registers,
         occupant,
-    };
-    Driven {
-        taken,
-        ended,
-        state,
-    }
+        top,
+    );
+    DriveEnd { taken, ended }
 }

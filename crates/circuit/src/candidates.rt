@@ -186,9 +186,14 @@ pub(crate) fn attempt(
     if last.0 < n.0 {
         return Effect::Stuck;
     }
-    changes::take(
+    if store::status_at(status, n) == 1 {
+        changes::take_open(table, cells, status, second, value, registers, n);
+        return Effect::Moved;
+    }
+    changes::take_busy(
         table,
         cells,
+        true,
         heads,
         links,
         status,

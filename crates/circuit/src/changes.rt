@@ -9,9 +9,9 @@ use table::Node;
 use table::decoded;
 use table::decoded::Cells;
 ghost use mathlib.Core.Path.{_≡_};
-ghost use mathlib.Core.Bool.{false};
-ghost use mathlib.Core.List.{map};
-ghost use Prim.Native.Nat.{_≤_};
+ghost use mathlib.Core.Bool.{true, false};
+ghost use mathlib.Core.List.{List, map};
+ghost use Prim.Native.Nat.{ℕ, _≤_};
 ghost use Rattle.table.specs.Bytes.{nodes, root};
 ghost use Rattle.table.specs.Naming.{owner, chain};
 ghost use Rattle.table.specs.Working.{IsNode, IsFunction, Read};
@@ -19,7 +19,7 @@ ghost use Rattle.rules.specs.State.{entry, write, opened, clear, fill};
 ghost use Rattle.rules.specs.Step.{mine};
 ghost use Rattle.rules.specs.Circuit.{actOf};
 ghost use Rattle.circuit.specs.Meaning.{stateAs};
-ghost use Rattle.circuit.specs.Working.{Grouped, after, opens, Took};
+ghost use Rattle.circuit.specs.Working.{Grouped, after, opens, Took, Made};
 
 // What a register gets from the argument at `at`, and the argument after it; past the last argument, zero.
 pub struct Handed {
@@ -100,6 +100,7 @@ fn finish(status: &mut [u8; 512], second: &mut [bool; 512], value: &mut [u32; 51
 fn reset(
     table: &[u8],
     cells: &Cells,
+    grouped: bool,
     heads: &[u16; 33],
     links: &[u16; 513],
     status: &mut [u8; 512],
@@ -109,8 +110,8 @@ fn reset(
     g: Function,
     c: Node,
 )
-    requires { ⌜ Read (now table) (now cells) × Grouped (now table) (now heads) (now links) × IsFunction (now table) (g .0)
-        × (c .0 ≤ nodes (now table)) ⌝ }
+    requires { ⌜ Read (now table) (now cells) × (grouped ≡ true → Grouped (now table) (now heads) (now links))
+        × IsFunction (now table) (g .0) × (c .0 ≤ nodes (now table)) ⌝ }
     ensures { λ _. ⌜ (now (status .exit) ≡ write (clear (mine (nodes (now (table .entry))) (owner (now (table .entry))) (g .0)) 0
         (now (status .entry))) (root (now (table .entry)) (g .0)) 1)
         × (now (second .exit) ≡ clear (mine (nodes (now (table .entry))) (owner (now (table .entry))) (g .0)) false (now (second .entry)))
@@ -119,7 +120,17 @@ fn reset(
         ≡ fill (g .0) (map (entry (now (value .entry)) 0) (chain (now (table .entry)) (c .0))) (now (registers .entry))) ⌝ }
 {
     give(table, cells, value, registers, g, c);
-    groups::wipe(table, cells, heads, links, g, status, second, value);
+    groups::clear_nodes(
+        table,
+        cells,
+        grouped,
+        heads,
+        links,
+        g,
+        status,
+        second,
+        value,
+    );
     let r = decoded::root(cells, g);
     store::set_status(status, r, 1);
 }
@@ -131,10 +142,45 @@ pub enum Effect {
     Moved,
 }
 
-// Takes the step of node n, if it has one.
-pub(crate) fn take(
+// Takes the step of an open node: a constant, a parameter or a bound is done, any other opens children.
+pub(crate) fn take_open(
     table: &[u8],
     cells: &Cells,
+    status: &mut [u8; 512],
+    second: &mut [bool; 512],
+    value: &mut [u32; 512],
+    registers: &[u32; 256],
+    n: Node,
+)
+    requires { ⌜ Read (now table) (now cells) × IsNode (now table) (n .0) × (entry (now status) 0 (n .0) ≡ 1) ⌝ }
+    ensures { λ _. ⌜ ((e : List ℕ) → Made (now (table .entry))
+        (stateAs (now (status .entry)) (now (second .entry)) (now (value .entry)) (now (registers .entry)) e) (n .0)
+        (stateAs (now (status .exit)) (now (second .exit)) (now (value .exit)) (now (registers .entry)) e)) ⌝ }
+{
+    let kind = decoded::kind(cells, n);
+    match kind {
+        1 => finish(status, second, value, n, decoded::word(cells, n)),
+        2 => {
+            let v = store::register_at(
+                registers,
+                decoded::owner(cells, n),
+                decoded::extra(cells, n),
+            );
+            finish(status, second, value, n, v);
+        }
+        7 => {
+            let v = store::value_at(value, decoded::definiens(cells, n));
+            finish(status, second, value, n, v);
+        }
+        _ => begin(table, cells, status, n),
+    }
+}
+
+// Takes the step of a node that isn't open, if it has one.
+pub(crate) fn take_busy(
+    table: &[u8],
+    cells: &Cells,
+    grouped: bool,
     heads: &[u16; 33],
     links: &[u16; 513],
     status: &mut [u8; 512],
@@ -144,8 +190,8 @@ pub(crate) fn take(
     occupant: &mut [u16; 32],
     n: Node,
 ) -> Effect
-    requires { ⌜ Read (now table) (now cells) × IsNode (now table) (n .0)
-        × Grouped (now table) (now heads) (now links) ⌝ }
+    requires { ⌜ Read (now table) (now cells) × IsNode (now table) (n .0) × (entry (now status) 0 (n .0) ≡ 1 → ⊥)
+        × (grouped ≡ true → Grouped (now table) (now heads) (now links)) ⌝ }
     ensures { λ r. ⌜ Took (now (table .entry))
         (stateAs (now (status .entry)) (now (second .entry)) (now (value .entry)) (now (registers .entry)) (now (occupant .entry)))
         (n .0)
@@ -153,14 +199,13 @@ pub(crate) fn take(
         (now (occupant .entry))) (n .0)) r
         (stateAs (now (status .exit)) (now (second .exit)) (now (value .exit)) (now (registers .exit)) (now (occupant .exit))) ⌝ }
 {
-    let p = plan::plan_at(table, cells, status, second, value, registers, occupant, n);
+    if store::status_at(status, n) != 2 {
+        return Effect::Stuck;
+    }
+    let p = plan::busy(table, cells, status, second, value, occupant, n);
     match p {
         Plan::Stuck => Effect::Stuck,
         Plan::Blocked => Effect::Blocked,
-        Plan::Begins => {
-            begin(table, cells, status, n);
-            Effect::Moved
-        }
         Plan::Turns(m) => {
             store::set_status(status, m, 1);
             store::set_second(second, n, true);
@@ -175,6 +220,7 @@ pub(crate) fn take(
             reset(
                 table,
                 cells,
+                grouped,
                 heads,
                 links,
                 status,
@@ -199,6 +245,7 @@ pub(crate) fn take(
             reset(
                 table,
                 cells,
+                grouped,
                 heads,
                 links,
                 status,

@@ -1,11 +1,12 @@
 // The operations of a primitive: 32-bit, add, subtract and double wrap.
 ghost use mathlib.Core.Path.{_≡_};
 ghost use Rattle.table.specs.Pick.{pick};
-ghost use Rattle.circuit.specs.Working.{operateBy};
+ghost use mathlib.Core.List.{[], _∷_};
+ghost use Rattle.rules.specs.Operations.{operate};
 
 // Of two values; `last` is what beside gives.
 pub(crate) fn of_two(op: u16, x: u32, y: u32, last: u32) -> u32
-    ensures { λ r. ⌜ r ≡ operateBy op x y last ⌝ }
+    ensures { λ r. ⌜ r ≡ operate op (x ∷ (y ∷ (last ∷ []))) ⌝ }
 {
     match op {
         0 => std::num::wrapping_add_u32(x, y),

@@ -1,4 +1,4 @@
-// The step that a node has, read off its record and the state; nothing is changed here.
+// The step that a busy node has, read off its record and the state; nothing is changed here.
 use crate::chain;
 use crate::store;
 use table::Function;
@@ -19,12 +19,11 @@ ghost use Rattle.rules.specs.Circuit.{actOf};
 ghost use Rattle.circuit.specs.Meaning.{stateAs};
 ghost use Rattle.circuit.specs.Working.{planned, passed};
 
-// What a node would do: no step (21), none while the resource is occupied (22 or 23), or a move. The nodes that it opens and the
-// arguments that it hands over are read off the table when it moves.
+// What a busy node would do: no step (21), none while the resource is occupied (22 or 23), or a move. The arguments that it hands over are
+// read off the table when it moves.
 pub enum Plan {
     Stuck,
     Blocked,
-    Begins,
     Turns(Node),
     Finishes(u32),
     Enters(Function),
@@ -32,54 +31,8 @@ pub enum Plan {
     Restarts,
 }
 
-// The step of node n.
-pub(crate) fn plan_at(
-    table: &[u8],
-    cells: &Cells,
-    status: &[u8; 512],
-    second: &[bool; 512],
-    value: &[u32; 512],
-    registers: &[u32; 256],
-    occupant: &[u16; 32],
-    n: Node,
-) -> Plan
-    requires { ⌜ Read (now table) (now cells) × IsNode (now table) (n .0) ⌝ }
-    ensures { λ r. ⌜ planned (now (table .entry)) (now (value .entry)) (n .0) r ≡ actOf (now (table .entry))
-        (stateAs (now (status .entry)) (now (second .entry)) (now (value .entry)) (now (registers .entry))
-        (now (occupant .entry))) (n .0) ⌝ }
-{
-    let s = store::status_at(status, n);
-    if s == 1 {
-        return opening(table, cells, value, registers, n);
-    }
-    if s == 2 {
-        return busy(table, cells, status, second, value, occupant, n);
-    }
-    Plan::Stuck
-}
-
-// An open node: a constant, a parameter or a bound is done, any other opens children.
-fn opening(table: &[u8], cells: &Cells, value: &[u32; 512], registers: &[u32; 256], n: Node) -> Plan
-    requires { ⌜ Read (now table) (now cells) × IsNode (now table) (n .0) ⌝ }
-    ensures { λ r. ⌜ ((a : List ℕ) (b : List Bool) (e : List ℕ) → entry a 0 (n .0) ≡ 1
-        → planned (now (table .entry)) (now (value .entry)) (n .0) r
-        ≡ actOf (now (table .entry)) (stateAs a b (now (value .entry)) (now (registers .entry)) e) (n .0)) ⌝ }
-{
-    let kind = decoded::kind(cells, n);
-    match kind {
-        1 => Plan::Finishes(decoded::word(cells, n)),
-        2 => Plan::Finishes(store::register_at(
-            registers,
-            decoded::owner(cells, n),
-            decoded::extra(cells, n),
-        )),
-        7 => Plan::Finishes(store::value_at(value, decoded::definiens(cells, n))),
-        _ => Plan::Begins,
-    }
-}
-
-// A busy node.
-fn busy(
+// By kind.
+pub(crate) fn busy(
     table: &[u8],
     cells: &Cells,
     status: &[u8; 512],

@@ -1,13 +1,15 @@
 // A possible step, looked for from the first node on.
 use crate::plan;
 use crate::plan::Plan;
+use crate::store;
 use table::Node;
 use table::decoded;
 use table::decoded::Cells;
 ghost use mathlib.Core.Path.{_≡_};
 ghost use mathlib.Core.List.{List};
 ghost use Prim.Native.Nat.{ℕ};
-ghost use Rattle.table.specs.Working.{Read};
+ghost use Rattle.table.specs.Working.{IsNode, Read};
+ghost use Rattle.rules.specs.Circuit.{actOf};
 ghost use Rattle.circuit.specs.Meaning.{stateAs};
 ghost use Rattle.circuit.specs.Working.{planned, goes, FoundAt};
 
@@ -18,13 +20,36 @@ fn moves(p: Plan) -> bool
     match p {
         Plan::Stuck => false,
         Plan::Blocked => false,
-        Plan::Begins => true,
         Plan::Turns(_) => true,
         Plan::Finishes(_) => true,
         Plan::Enters(_) => true,
         Plan::Leaves(_, _) => true,
         Plan::Restarts => true,
     }
+}
+
+// Whether node n has a move: an open one always has.
+fn moves_at(
+    table: &[u8],
+    cells: &Cells,
+    status: &[u8; 512],
+    second: &[bool; 512],
+    value: &[u32; 512],
+    occupant: &[u16; 32],
+    n: Node,
+) -> bool
+    requires { ⌜ Read (now table) (now cells) × IsNode (now table) (n .0) ⌝ }
+    ensures { λ r. ⌜ ((d : List ℕ) → r ≡ goes (actOf (now (table .entry)) (stateAs (now (status .entry)) (now (second .entry))
+        (now (value .entry)) d (now (occupant .entry))) (n .0))) ⌝ }
+{
+    let s = store::status_at(status, n);
+    if s == 1 {
+        return true;
+    }
+    if s == 2 {
+        return moves(plan::busy(table, cells, status, second, value, occupant, n));
+    }
+    false
 }
 
 // The first node that has a move, 0 if none has.
@@ -46,17 +71,7 @@ pub(crate) fn find(
     let mut n: u16 = 0;
     while n < end {
         n += 1;
-        let p = plan::plan_at(
-            table,
-            cells,
-            status,
-            second,
-            value,
-            registers,
-            occupant,
-            Node(n),
-        );
-        if moves(p) {
+        if moves_at(table, cells, status, second, value, occupant, Node(n)) {
             return Node(n);
         }
     }

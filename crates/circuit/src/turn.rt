@@ -7,6 +7,7 @@ use table::Node;
 use table::decoded;
 use table::decoded::Cells;
 ghost use mathlib.Core.Path.{_≡_};
+ghost use mathlib.Core.Bool.{true};
 ghost use lib.Dec.{eqb};
 ghost use Prim.Native.Nat.{_≤_};
 ghost use Rattle.table.specs.Pick.{pick};
@@ -14,9 +15,9 @@ ghost use Rattle.table.specs.Bytes.{functions, root};
 ghost use Rattle.table.specs.Working.{Read};
 ghost use Rattle.list.specs.Tags.{tagged};
 ghost use Rattle.rules.specs.State.{entry};
-ghost use Rattle.rules.specs.Step.{Stepped, answered, taken};
+ghost use Rattle.rules.specs.Step.{answered, taken};
 ghost use Rattle.rules.specs.Circuit.{circuitOf};
-ghost use Rattle.circuit.specs.Meaning.{replyOf, stateAs};
+ghost use Rattle.circuit.specs.Meaning.{replyOf, steppedAs, stateAs};
 ghost use Rattle.circuit.specs.Working.{Grouped, Stands};
 
 // 22 for a tagged call, 23 for one that isn't.
@@ -47,10 +48,12 @@ fn told(status: &[u8; 512], value: &[u32; 512], top: Node) -> Answer
     Answer::Taken
 }
 
+// Where the nodes are grouped by function, a reset goes along these.
 pub(crate) fn turn(
     table: &[u8],
     cells: &Cells,
     tags: &[u8],
+    grouped: bool,
     heads: &[u16; 33],
     links: &[u16; 513],
     status: &mut [u8; 512],
@@ -60,15 +63,13 @@ pub(crate) fn turn(
     occupant: &mut [u16; 32],
     n: Node,
 ) -> Answer
-    requires { ⌜ Read (now table) (now cells) × Grouped (now table) (now heads) (now links)
+    requires { ⌜ Read (now table) (now cells) × (grouped ≡ true → Grouped (now table) (now heads) (now links))
         × Stands (now table) (stateAs (now status) (now second) (now value) (now registers) (now occupant)) ⌝ }
-    ensures { λ r. ⌜ _≡_ {A = Stepped} (record {
-      answer = replyOf r;
-      state = stateAs (now (status .exit)) (now (second .exit)) (now (value .exit))
-          (now (registers .exit)) (now (occupant .exit));
-    })
-        (circuitOf (now (table .entry)) (now (tags .entry)) (stateAs (now (status .entry)) (now (second .entry)) (now (value .entry))
-        (now (registers .entry)) (now (occupant .entry))) (n .0)) ⌝ }
+    ensures { λ r. ⌜ steppedAs r
+        (stateAs (now (status .exit)) (now (second .exit)) (now (value .exit)) (now (registers .exit)) (now (occupant .exit)))
+        ≡ circuitOf (now (table .entry)) (now (tags .entry))
+        (stateAs (now (status .entry)) (now (second .entry)) (now (value .entry)) (now (registers .entry)) (now (occupant .entry)))
+        (n .0) ⌝ }
 {
     if n.0 == 0 {
         return Answer::Refused(12, Node(0));
@@ -81,9 +82,14 @@ pub(crate) fn turn(
     if store::status_at(status, root) == 3 {
         return Answer::Refused(20, n);
     }
-    let effect = changes::take(
+    if store::status_at(status, n) == 1 {
+        changes::take_open(table, cells, status, second, value, registers, n);
+        return told(status, value, root);
+    }
+    let effect = changes::take_busy(
         table,
         cells,
+        grouped,
         heads,
         links,
         status,

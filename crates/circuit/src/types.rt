@@ -40,6 +40,12 @@ pub enum Halt {
     Refused(u8, Node),
 }
 
+// A run over a list on a lent state: the steps taken, and how it ends.
+pub struct RunEnd {
+    pub taken: usize,
+    pub halt: Halt,
+}
+
 pub struct Ran {
     pub taken: usize,
     pub halt: Halt,
@@ -52,6 +58,12 @@ pub enum Ended {
     AtRest,
     Spent,
     Refused(u8, Node),
+}
+
+// A run with a budget on a lent state: the steps taken, and how it ends.
+pub struct DriveEnd {
+    pub taken: u32,
+    pub ended: Ended,
 }
 
 pub struct Driven {

@@ -1,6 +1,6 @@
 // The circuit's entries as C functions: the state is lent as five arrays.
 use crate::codes;
-use crate::states;
+use circuit::lent;
 use table::Node;
 ghost use Rattle.rules.specs.Circuit.{startOf, stepOf};
 ghost use Rattle.rules.specs.Runs.{runOf};
@@ -23,11 +23,16 @@ pub extern "C" fn circuit_start(
         (stateAs (now (status .entry)) (now (second .entry)) (now (value .entry)) (now (registers .entry)) (now (occupant .entry)))
         r (stateAs (now (status .exit)) (now (second .exit)) (now (value .exit)) (now (registers .exit)) (now (occupant .exit))) ⌝ }
 {
-    let s = states::gathered(status, second, value, registers, occupant);
-    let x = circuit::start(table, tags, args, s);
-    let opening = x.opening;
-    let state = x.state;
-    states::spread(state, status, second, value, registers, occupant);
+    let opening = lent::start(
+        table,
+        tags,
+        status,
+        second,
+        value,
+        registers,
+        occupant,
+        args,
+    );
     codes::opening(opening)
 }
 
@@ -47,11 +52,16 @@ pub extern "C" fn circuit_step(
         (stateAs (now (status .entry)) (now (second .entry)) (now (value .entry)) (now (registers .entry)) (now (occupant .entry))) node)
         r (stateAs (now (status .exit)) (now (second .exit)) (now (value .exit)) (now (registers .exit)) (now (occupant .exit))) ⌝ }
 {
-    let s = states::gathered(status, second, value, registers, occupant);
-    let x = circuit::step(table, tags, s, Node(node));
-    let answer = x.answer;
-    let state = x.state;
-    states::spread(state, status, second, value, registers, occupant);
+    let answer = lent::step(
+        table,
+        tags,
+        status,
+        second,
+        value,
+        registers,
+        occupant,
+        Node(node),
+    );
     codes::answer(answer)
 }
 
@@ -74,12 +84,18 @@ pub extern "C" fn circuit_run(
         r (now (count .exit))
         (stateAs (now (status .exit)) (now (second .exit)) (now (value .exit)) (now (registers .exit)) (now (occupant .exit))) ⌝ }
 {
-    let s = states::gathered(status, second, value, registers, occupant);
-    let x = circuit::run(table, tags, s, nodes);
-    let halt = x.halt;
-    let state = x.state;
-    *count = x.taken;
-    states::spread(state, status, second, value, registers, occupant);
+    let end = lent::run(
+        table,
+        tags,
+        status,
+        second,
+        value,
+        registers,
+        occupant,
+        nodes,
+    );
+    let halt = end.halt;
+    *count = end.taken;
     codes::halt(halt)
 }
 
@@ -101,12 +117,18 @@ pub extern "C" fn circuit_drive(
         r (now (count .exit))
         (stateAs (now (status .exit)) (now (second .exit)) (now (value .exit)) (now (registers .exit)) (now (occupant .exit))) ⌝ }
 {
-    let s = states::gathered(status, second, value, registers, occupant);
-    let x = circuit::drive(table, tags, s, budget);
-    let ended = x.ended;
-    let state = x.state;
-    *count = x.taken;
-    states::spread(state, status, second, value, registers, occupant);
+    let end = lent::drive(
+        table,
+        tags,
+        status,
+        second,
+        value,
+        registers,
+        occupant,
+        budget,
+    );
+    let ended = end.ended;
+    *count = end.taken;
     codes::ended(ended)
 }
 
@@ -124,6 +146,6 @@ pub extern "C" fn circuit_query(
     ensures { λ r. ⌜ QueryTold (now (table .entry)) (now (tags .entry))
         (stateAs (now (status .entry)) (now (second .entry)) (now (value .entry)) (now (registers .entry)) (now (occupant .entry))) r ⌝ }
 {
-    let s = states::gathered(status, second, value, registers, occupant);
-    codes::found(circuit::query(table, tags, s))
+    let found = lent::query(table, tags, status, second, value, registers, occupant);
+    codes::found(found)
 }

@@ -1,7 +1,6 @@
 // The entries as C functions on numbers, slices and arrays, for tests and benchmarks in Rust.
 mod circuits;
 mod codes;
-mod states;
 
 use list::Listing;
 use table::Checked;

@@ -1,59 +1,28 @@
--- `drive` meets its contract: what is checked before the first step, then the steps.
-use mathlib.Core.Path.{sym, ap, _∙_}
-use Rattle.table.specs.Survey.{verdictOf}
-use Rattle.table.proofs.SurveyLaws.{cells-read}
-use Rattle.circuit.specs.Meaning.{listsOf, drivenOf}
-use Rattle.circuit.proofs.EntryLaws.{admitted-from, stand-standing}
-use Rattle.circuit.proofs.DriveLaws.{drives-refused, drives-on}
+-- `drive` meets its contract: the state is taken apart, driven and put together.
+use Rattle.rules.specs.Runs.{Drives}
+use Rattle.circuit.specs.Meaning.{drivenAs}
+use Rattle.circuit.proofs.EntryLaws.{by-value}
 use borrow.Author.Needs.{needs}
 use Rattle.circuit.proofs.drive.Statement.{statement}
 use Rattle.circuit.proofs.drive.Tie as tie
 
-admit-requires : tie.Need-admit-requires
-admit-requires c κs = search needs
-
-enum-known-checked : tie.Need-enum-known-checked
-enum-known-checked c = search needs
-
-drive-refused-requires : tie.Need-drive-refused-requires
-drive-refused-requires c κs = search needs
-
-enum-told : tie.Need-enum-told
-enum-told c = search needs
+plain-requires : tie.Need-plain-requires
+plain-requires c κs = search needs
 
 drive-requires : tie.Need-drive-requires
-drive-requires c κs =
-    let is : tie.After-enum-told = search in
-    let found : tie.After-admit = search in
-    let f = found .admit .ensures in
-    let a = admitted-from _ _ _ _ _ (sym (f .told) ∙ ap verdictOf (is .enum-told .given .1)) in
-    (cells-read _ _ (a .0 .fair) (f .cells), a .0, a .1)
+drive-requires c κs = search needs
+
+named-requires : tie.Need-named-requires
+named-requires c κs = search needs
 
 returns : tie.Need-returns
 returns c =
-    let is : tie.After-checked = search in
-    let found : tie.After-admit = search in
+    let driven : tie.After-drive = search in
+    let p : tie.After-plain = search in
     let s : tie.Start = search in
-    drives-refused _ _ (listsOf (s .args .s)) (s .args .budget) _ _ (drivenOf (c .drive-refused .result)) (sym (found .admit .ensures .told)
-    ∙ ap verdictOf (is .checked .given .1)) (c .drive-refused .ensures)
-
-returns-2 : tie.Need-returns-2
-returns-2 c =
-    let is : tie.After-enum-told = search in
-    let found : tie.After-admit = search in
-    let s : tie.Start = search in
-    let a = admitted-from _ _ (listsOf (s .args .s)) _ _ (sym (found .admit .ensures .told) ∙ ap verdictOf (is .enum-told .given .1)) in
-    drives-on _ _ (listsOf (s .args .s)) _ (drivenOf (c .drive .result)) (stand-standing _ _ (a .0) (listsOf (s .args .s)) (a .1))
-    (c .drive .ensures)
+    by-value _ _ _ _ (s .args .s .occupant) _ (p .plain .ensures) _ _ _ _ (c .named .result) _ (c .named .ensures)
+    (λ x y. Drives (s .args .table .now) (s .args .tags .now) x (s .args .budget) (drivenAs (driven .drive .result) y))
+    (driven .drive .ensures)
 
 pub drive-spec : {M : Type 1} → statement M
-drive-spec =
-    tie.close
-    (tie.spec
-    admit-requires
-    enum-known-checked
-    drive-refused-requires
-    enum-told
-    drive-requires
-    returns
-    returns-2)
+drive-spec = tie.close (tie.spec plain-requires drive-requires named-requires returns)

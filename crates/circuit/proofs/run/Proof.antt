@@ -1,57 +1,29 @@
--- `run` meets its contract: what is checked before the first step, then the steps.
-use mathlib.Core.Path.{sym, ap, _∙_}
-use Rattle.table.specs.Survey.{verdictOf}
-use Rattle.table.proofs.SurveyLaws.{cells-read}
-use Rattle.circuit.specs.Meaning.{listsOf}
-use Rattle.circuit.proofs.EntryLaws.{admitted-from, run-turned, run-goes}
+-- `run` meets its contract: the state is taken apart, run and put together.
+use mathlib.Core.Path.{_≡_}
+use Rattle.rules.specs.Runs.{runOf}
+use Rattle.circuit.specs.Meaning.{ranAs}
+use Rattle.circuit.proofs.EntryLaws.{by-value}
 use borrow.Author.Needs.{needs}
 use Rattle.circuit.proofs.run.Statement.{statement}
 use Rattle.circuit.proofs.run.Tie as tie
 
-admit-requires : tie.Need-admit-requires
-admit-requires c κs = search needs
-
-enum-known-checked : tie.Need-enum-known-checked
-enum-known-checked c = search needs
-
-run-refused-requires : tie.Need-run-refused-requires
-run-refused-requires c κs = search needs
-
-enum-told : tie.Need-enum-told
-enum-told c = search needs
+plain-requires : tie.Need-plain-requires
+plain-requires c κs = search needs
 
 run-requires : tie.Need-run-requires
-run-requires c κs =
-    let is : tie.After-enum-told = search in
-    let found : tie.After-admit = search in
-    let f = found .admit .ensures in
-    let a = admitted-from _ _ _ _ _ (sym (f .told) ∙ ap verdictOf (is .enum-told .given .1)) in
-    (cells-read _ _ (a .0 .fair) (f .cells), a .0, a .1)
+run-requires c κs = search needs
+
+named-requires : tie.Need-named-requires
+named-requires c κs = search needs
 
 returns : tie.Need-returns
 returns c =
-    let is : tie.After-checked = search in
-    let found : tie.After-admit = search in
+    let ran : tie.After-run = search in
+    let p : tie.After-plain = search in
     let s : tie.Start = search in
-    c .run-refused .ensures ∙ run-turned _ _ (listsOf (s .args .s)) (s .args .nodes .now) _ _ (sym (found .admit .ensures .told)
-    ∙ ap verdictOf (is .checked .given .1))
-
-returns-2 : tie.Need-returns-2
-returns-2 c =
-    let is : tie.After-enum-told = search in
-    let found : tie.After-admit = search in
-    let s : tie.Start = search in
-    c .run .ensures ∙ run-goes _ _ (listsOf (s .args .s)) (s .args .nodes .now) _ _ (sym (found .admit .ensures .told)
-    ∙ ap verdictOf (is .enum-told .given .1))
+    by-value _ _ _ _ (s .args .s .occupant) _ (p .plain .ensures) _ _ _ _ (c .named .result) _ (c .named .ensures)
+    (λ x y. ranAs (ran .run .result) y ≡ runOf (s .args .table .now) (s .args .tags .now) x (s .args .nodes .now))
+    (ran .run .ensures)
 
 pub run-spec : {M : Type 1} → statement M
-run-spec =
-    tie.close
-    (tie.spec
-    admit-requires
-    enum-known-checked
-    run-refused-requires
-    enum-told
-    run-requires
-    returns
-    returns-2)
+run-spec = tie.close (tie.spec plain-requires run-requires named-requires returns)

@@ -1,56 +1,29 @@
--- `step` meets its contract: the table and its tags, then the rest.
-use mathlib.Core.Path.{sym, ap, _∙_}
-use Rattle.table.specs.Survey.{verdictOf}
-use Rattle.table.proofs.SurveyLaws.{cells-read}
-use Rattle.circuit.specs.Meaning.{listsOf}
-use Rattle.circuit.proofs.TurnLaws.{fair-from, step-is, step-turned}
+-- `step` meets its contract: the state is taken apart, stepped and put together.
+use mathlib.Core.Path.{_≡_}
+use Rattle.rules.specs.Circuit.{stepOf}
+use Rattle.circuit.specs.Meaning.{steppedAs}
+use Rattle.circuit.proofs.EntryLaws.{by-value}
 use borrow.Author.Needs.{needs}
 use Rattle.circuit.proofs.step.Statement.{statement}
 use Rattle.circuit.proofs.step.Tie as tie
 
-survey-tags-requires : tie.Need-survey-tags-requires
-survey-tags-requires c κs = search needs
-
-enum-known-checked : tie.Need-enum-known-checked
-enum-known-checked c = search needs
-
-refused-requires : tie.Need-refused-requires
-refused-requires c κs = search needs
-
-enum-told : tie.Need-enum-told
-enum-told c = search needs
+plain-requires : tie.Need-plain-requires
+plain-requires c κs = search needs
 
 step-requires : tie.Need-step-requires
-step-requires c κs =
-    let is : tie.After-enum-told = search in
-    let found : tie.After-survey-tags = search in
-    let f = found .survey-tags .ensures in
-    cells-read _ _ (fair-from _ _ _ _ (sym (f .checked) ∙ ap verdictOf (is .enum-told .given .1))) (f .cells)
+step-requires c κs = search needs
+
+named-requires : tie.Need-named-requires
+named-requires c κs = search needs
 
 returns : tie.Need-returns
 returns c =
-    let is : tie.After-checked = search in
-    let found : tie.After-survey-tags = search in
+    let stepped : tie.After-step = search in
+    let p : tie.After-plain = search in
     let s : tie.Start = search in
-    c .refused .ensures ∙ step-turned _ _ _ _ (sym (found .survey-tags .ensures .checked) ∙ ap verdictOf (is .checked .given .1))
-    (listsOf (s .args .s)) (s .args .n .0)
-
-returns-2 : tie.Need-returns-2
-returns-2 c =
-    let is : tie.After-enum-told = search in
-    let found : tie.After-survey-tags = search in
-    let s : tie.Start = search in
-    c .step .ensures ∙ sym (step-is _ _ _ _ (sym (found .survey-tags .ensures .checked) ∙ ap verdictOf (is .enum-told .given .1))
-    (listsOf (s .args .s)) (s .args .n .0))
+    by-value _ _ _ _ (s .args .s .occupant) _ (p .plain .ensures) _ _ _ _ (c .named .result) _ (c .named .ensures)
+    (λ x y. steppedAs (stepped .step .result) y ≡ stepOf (s .args .table .now) (s .args .tags .now) x (s .args .n .0))
+    (stepped .step .ensures)
 
 pub step-spec : {M : Type 1} → statement M
-step-spec =
-    tie.close
-    (tie.spec
-    survey-tags-requires
-    enum-known-checked
-    refused-requires
-    enum-told
-    step-requires
-    returns
-    returns-2)
+step-spec = tie.close (tie.spec plain-requires step-requires named-requires returns)

@@ -1,10 +1,12 @@
 -- `begin::start` meets its contract, by the number of arguments.
 use native.Mathlib.Omega.{arith}
-use mathlib.Core.Path.{_≡_, sym, ap, subst, _∙_}
+use mathlib.Core.Path.{_≡_, refl, sym, ap, subst, _∙_}
 use Rattle.table.specs.Bytes.{functions, params}
 use Rattle.table.specs.Working.{IsFunction}
 use Rattle.table.proofs.Reading.{told-main, told-params}
-use Rattle.circuit.specs.Meaning.{StartedAs}
+use Rattle.rules.specs.State.{State512}
+use Rattle.rules.specs.Circuit.{started}
+use Rattle.circuit.specs.Meaning.{OpenedAs, stateAs}
 use Rattle.circuit.proofs.ChainLaws.{ok}
 use Rattle.circuit.proofs.BeginLaws.{start-count, start-goes}
 use borrow.Author.Needs.{needs}
@@ -35,38 +37,29 @@ params-requires c κs = search needs
 cast-if1 : tie.Need-cast-if1
 cast-if1 c = search needs
 
-refused-requires : tie.Need-refused-requires
-refused-requires c κs = search needs
+abbrev state : tie.Start → State512
+state s = stateAs (s .args .status .now) (s .args .second .now) (s .args .value .now) (s .args .registers .now) (s .args .occupant .now)
 
 returns : tie.Need-returns
 returns c =
-    let wrong : tie.Then1 = search in
     let p : tie.After-params = search in
     let s = begin (main-read p) in
-    λ tags e. subst (StartedAs _ _) (start-count _ _ _ (record { fair = s .pre .taken; tagging = e }) _ (count p) (wrong .if1 .taken))
-    (c .refused .ensures)
+    λ tags e. subst (OpenedAs _ _ _) (start-count _ _ _ (record { fair = s .pre .taken; tagging = e }) _ (count p) (c .if1 .taken))
+    (record { answer = refl; state = refl })
 
-opened-requires : tie.Need-opened-requires
-opened-requires c κs =
-    let s : tie.Start = search in
-    s .pre
+open-main-requires : tie.Need-open-main-requires
+open-main-requires c κs = search needs
 
 returns-2 : tie.Need-returns-2
 returns-2 c =
     let right : tie.Else1 = search in
     let p : tie.After-params = search in
     let s = begin (main-read p) in
-    λ tags e. subst (StartedAs _ _) (start-goes _ _ _ (record { fair = s .pre .taken; tagging = e }) _ (count p) (right .if1 .left))
-    (c .opened .ensures _)
+    let e = c .open-main .ensures in
+    λ tags q.
+    let goes = start-goes _ _ _ (record { fair = s .pre .taken; tagging = q }) _ (count p) (right .if1 .left) in
+    subst (OpenedAs (state s) _ _) goes (record { answer = ap started e; state = e })
 
 pub start-spec : {M : Type 1} → statement M
 start-spec =
-    tie.close
-    (tie.spec
-    main-requires
-    params-requires
-    cast-if1
-    refused-requires
-    returns
-    opened-requires
-    returns-2)
+    tie.close (tie.spec main-requires params-requires cast-if1 returns open-main-requires returns-2)

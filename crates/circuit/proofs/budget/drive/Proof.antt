@@ -4,13 +4,12 @@ mod Turns
 use native.Mathlib.Omega.{arith}
 use borrow.Author.Needs.{needs}
 use mathlib.Core.Path.{refl, sym, _∙_}
-use Rattle.circuit.specs.Meaning.{listsOf, endedOf, stateAs}
-use Rattle.circuit.proofs.EntryLaws.{named-state}
+use Rattle.circuit.specs.Meaning.{endedOf}
 use Rattle.circuit.proofs.DriveLaws.{says-from, picks-from}
 use Rattle.circuit.proofs.budget.drive.Statement.{statement}
 use Rattle.circuit.proofs.budget.drive.Tie as tie
 use Rattle.circuit.proofs.budget.drive.Proof.Loop.{Inv-loop, μ-loop, loop-holds, Start, Top, Head, Turn, Pick}
-use Rattle.circuit.proofs.budget.drive.Proof.Loop.{start, top, plain, head, turn, first, state, going}
+use Rattle.circuit.proofs.budget.drive.Proof.Loop.{start, top, head, turn, first, state, going}
 use Rattle.circuit.proofs.budget.drive.Proof.Turns.{loop-less, loop-again, loop-less-2, loop-again-2}
 
 -- the groups, read before the loop
@@ -27,9 +26,6 @@ top-requires c κs =
     let s : Start = search in
     s .pre .0
 
-plain-requires : tie.Need-plain-requires Inv-loop μ-loop
-plain-requires c κs = search needs
-
 going-requires : tie.Need-going-requires Inv-loop μ-loop
 going-requires c κs =
     let t : Top = search in
@@ -38,13 +34,13 @@ going-requires c κs =
 candidate-requires : tie.Need-candidate-requires Inv-loop μ-loop
 candidate-requires c κs =
     let h : Head = search in
-    let t = top (plain h) in
+    let t = top h in
     (start t .pre .0, h .loop .inv .0)
 
 attempt-requires : tie.Need-attempt-requires Inv-loop μ-loop
 attempt-requires c κs =
     let p : Pick = search in
-    let t = top (plain (head (turn p))) in
+    let t = top (head (turn p)) in
     (start t .pre .0, grouped t .group .ensures)
 
 moved-requires : tie.Need-moved-requires Inv-loop μ-loop
@@ -63,7 +59,7 @@ follow-requires c κs =
     let tried : tie.After-attempt Inv-loop μ-loop = search in
     let p : Pick = search in
     let h = head (turn p) in
-    let t = top (plain h) in
+    let t = top h in
     (start t .pre .0, tried .attempt .ensures .taken (sym (asked .moved .ensures) ∙ done .if2 .taken) .0, h .loop .inv .0)
 
 less-requires : tie.Need-less-requires Inv-loop μ-loop
@@ -72,11 +68,8 @@ less-requires c κs = search needs
 end-of-requires : tie.Need-end-of-requires Inv-loop μ-loop
 end-of-requires c κs =
     let h : Head = search in
-    let t = top (plain h) in
+    let t = top h in
     (start t .pre .0, start t .pre .1, t .top .ensures .0, t .top .ensures .1, h .loop .inv .2 .stands)
-
-named-requires : tie.Need-named-requires Inv-loop μ-loop
-named-requires c κs = search needs
 
 returns : tie.Need-returns Inv-loop μ-loop
 returns c =
@@ -85,12 +78,10 @@ returns c =
     let asked : tie.After-going Inv-loop μ-loop = search in
     let h : Head = search in
     let s = first h in
-    let a = s .args .s in
     let l = h .loop in
-    let says = says-from _ _ (s .pre .1) (state h) (l .inv .2 .stands) _ _ (top (plain h) .top .ensures .0) refl _ _ _ _
+    let says = says-from _ _ (s .pre .1) (state h) (l .inv .2 .stands) _ _ (top h .top .ensures .0) refl _ _ _ _
     (asked .going .ensures) (over .if1 .left) (l .inv .3) (l .inv .1) (endedOf (ended .end-of .result)) (ended .end-of .ensures) in
-    picks-from _ _ _ (listsOf a) (state h) _ _ _ _ (λ i. stateAs (a .status) (a .second) (a .value) (a .registers)
-    (plain h .plain .ensures i)) (l .inv .2) (l .inv .1) says (named-state _ _ _ _ (c .named .result) _ (c .named .ensures))
+    picks-from _ _ _ (state h) _ _ _ (l .inv .2) (l .inv .1) says
 
 pub drive-spec : {M : Type 1} → statement M
 drive-spec =
@@ -100,7 +91,6 @@ drive-spec =
     μ-loop
     group-requires
     top-requires
-    plain-requires
     loop-holds
     going-requires
     candidate-requires
@@ -114,5 +104,4 @@ drive-spec =
     loop-less-2
     loop-again-2
     end-of-requires
-    named-requires
     returns)

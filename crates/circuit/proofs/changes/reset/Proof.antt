@@ -20,8 +20,8 @@ give-requires c κs =
     let s : tie.Start = search in
     (s .pre .0, s .pre .2, s .pre .3)
 
-wipe-requires : tie.Need-wipe-requires
-wipe-requires c κs =
+clear-nodes-requires : tie.Need-clear-nodes-requires
+clear-nodes-requires c κs =
     let s : tie.Start = search in
     (s .pre .0, s .pre .1, s .pre .2)
 
@@ -37,14 +37,14 @@ set-status-requires c κs =
 returns : tie.Need-returns
 returns c =
     let r : tie.After-root = search in
-    let wiped : tie.After-wipe = search in
+    let clear-nodesd : tie.After-clear-nodes = search in
     let given : tie.After-give = search in (
-      c .set-status .ensures ∙ (λ i. write (wiped .wipe .ensures .0 i) (read r i) 1),
-      wiped .wipe .ensures .1,
-      wiped .wipe .ensures .2,
+      c .set-status .ensures ∙ (λ i. write (clear-nodesd .clear-nodes .ensures .0 i) (read r i) 1),
+      clear-nodesd .clear-nodes .ensures .1,
+      clear-nodesd .clear-nodes .ensures .2,
       given .give .ensures,
     )
 
 pub reset-spec : {M : Type 1} → statement M
 reset-spec =
-    tie.close (tie.spec give-requires wipe-requires root-requires set-status-requires returns)
+    tie.close (tie.spec give-requires clear-nodes-requires root-requires set-status-requires returns)

@@ -2,7 +2,7 @@
 use Rattle.circuit.proofs.PlanLaws.{of-other}
 use native.Mathlib.Omega.{arith}
 use mathlib.Core.Path.{sym, _∙_}
-use Rattle.circuit.specs.Working.{operateBy}
+use Rattle.rules.specs.Operations.{operate, wrap}
 use Rattle.circuit.proofs.OperationLaws.{doubled, subtracted}
 use borrow.Author.Needs.{needs}
 use Rattle.circuit.proofs.operations.of_two.Statement.{statement}
@@ -24,51 +24,51 @@ number-requires-2 : tie.Need-number-requires-2
 number-requires-2 c κs = search needs
 
 returns : tie.Need-returns
-unfolding operateBy
+unfolding operate wrap
 returns c =
     let at-match-keys1 : tie.At-match-keys1 = search in
     c .wrapping-add-u32 .ensures ∙ sym (rw (at-match-keys1 .match .keys1))
 
 returns-2 : tie.Need-returns-2
-unfolding operateBy
+unfolding operate wrap
 returns-2 c =
     let at-match-keys2 : tie.At-match-keys2 = search in
     subtracted _ _ _ (omega arith) (omega arith) (omega arith) (c .wrapping-sub-u32 .ensures) ∙ sym (rw (at-match-keys2 .match .keys2))
 
 returns-3 : tie.Need-returns-3
-unfolding operateBy
+unfolding operate wrap
 returns-3 c = sym (rw (c .match .keys3))
 
 returns-4 : tie.Need-returns-4
-unfolding operateBy
+unfolding operate wrap
 returns-4 c = sym (rw (c .match .keys4))
 
 returns-5 : tie.Need-returns-5
-unfolding operateBy
+unfolding operate wrap
 returns-5 c = sym (rw (c .match .keys5))
 
 returns-6 : tie.Need-returns-6
-unfolding operateBy
+unfolding operate wrap
 returns-6 c =
     let at-match-keys6 : tie.At-match-keys6 = search in
     c .wrapping-add-u322 .ensures ∙ doubled _ ∙ sym (rw (at-match-keys6 .match .keys6))
 
 returns-7 : tie.Need-returns-7
-unfolding operateBy
+unfolding operate wrap
 returns-7 c = sym (rw (c .match .keys7))
 
 returns-8 : tie.Need-returns-8
-unfolding operateBy
+unfolding operate wrap
 returns-8 c = sym (rw (c .match .keys8))
 
 returns-9 : tie.Need-returns-9
-unfolding operateBy
+unfolding operate wrap
 returns-9 c =
     let at-match-keys9 : tie.At-match-keys9 = search in
     c .number .ensures ∙ sym (rw (at-match-keys9 .match .keys9))
 
 returns-10 : tie.Need-returns-10
-unfolding operateBy
+unfolding operate wrap
 returns-10 c =
     let at-match-keys10 : tie.At-match-keys10 = search in
     c .number2 .ensures ∙ sym (rw (at-match-keys10 .match .keys10))

@@ -1,7 +1,7 @@
 -- `search::find` meets its contract. The invariant: no node up to n has a move. The measure is the nodes left.
 use borrow.Author.Needs.{needs}
 use native.Mathlib.Omega.{arith}
-use mathlib.Core.Path.{_≡_, ap, _∙_}
+use mathlib.Core.Path.{_≡_}
 use Prim.Native.Nat.{_+_, _-_, _≤_}
 use Rattle.table.specs.Bytes.{nodes}
 use Rattle.table.specs.Working.{IsNode}
@@ -45,15 +45,14 @@ node c = (omega arith, omega (arith, c .loop-test .taken, head c .loop .inv .2))
 
 -- what is told is whether the node moves
 abbrev Told : Type 0
-Told = tie.After-moves Inv-loop μ-loop
+Told = tie.After-moves-at Inv-loop μ-loop
 
 abbrev turn : Told → Turn
 turn c = search
 
-moving : (c : Told) → let t = turn c in c .moves .result ≡ goes (actOf (begin t .args .table .now) (state (begin t)) (head t .loop .n + 1))
-moving c =
-    let p : tie.After-plan-at Inv-loop μ-loop = search in
-    c .moves .ensures _ _ (head (turn c) .loop .n + 1) ∙ ap goes (p .plan-at .ensures)
+moving : (c : Told) → let t = turn c in
+    c .moves-at .result ≡ goes (actOf (begin t .args .table .now) (state (begin t)) (head t .loop .n + 1))
+moving c = c .moves-at .ensures _
 
 last-requires : tie.Need-last-requires Inv-loop μ-loop
 last-requires c κs = search needs
@@ -67,13 +66,10 @@ loop-holds c =
 add-n : tie.Need-add-n Inv-loop μ-loop
 add-n c = omega (arith, node c .1, ok _ (begin c .pre .taken) .N-high)
 
-plan-at-requires : tie.Need-plan-at-requires Inv-loop μ-loop
-plan-at-requires c κs =
+moves-at-requires : tie.Need-moves-at-requires Inv-loop μ-loop
+moves-at-requires c κs =
     let t : Turn = search in
     (begin t .pre, node t)
-
-moves-requires : tie.Need-moves-requires Inv-loop μ-loop
-moves-requires c κs = search needs
 
 returns : tie.Need-returns Inv-loop μ-loop
 returns c =
@@ -105,8 +101,7 @@ find-spec =
     last-requires
     loop-holds
     add-n
-    plan-at-requires
-    moves-requires
+    moves-at-requires
     returns
     loop-less
     loop-again

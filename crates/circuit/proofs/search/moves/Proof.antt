@@ -26,9 +26,6 @@ enum-told-6 c = search needs
 enum-told-7 : tie.Need-enum-told-7
 enum-told-7 c = search needs
 
-enum-told-8 : tie.Need-enum-told-8
-enum-told-8 c = search needs
-
 returns : tie.Need-returns
 returns c = λ t value n. sym (ap (λ q. goes (planned t value n q)) (c .enum-told .given .1))
 
@@ -50,9 +47,6 @@ returns-6 c = λ t value n. sym (ap (λ q. goes (planned t value n q)) (c .enum-
 returns-7 : tie.Need-returns-7
 returns-7 c = λ t value n. sym (ap (λ q. goes (planned t value n q)) (c .enum-told7 .given .1))
 
-returns-8 : tie.Need-returns-8
-returns-8 c = λ t value n. sym (ap (λ q. goes (planned t value n q)) (c .enum-told8 .given .1))
-
 pub moves-spec : {M : Type 1} → statement M
 moves-spec =
     tie.close
@@ -64,12 +58,10 @@ moves-spec =
     enum-told-5
     enum-told-6
     enum-told-7
-    enum-told-8
     returns
     returns-2
     returns-3
     returns-4
     returns-5
     returns-6
-    returns-7
-    returns-8)
+    returns-7)

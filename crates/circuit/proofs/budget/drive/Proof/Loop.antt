@@ -1,6 +1,6 @@
 -- the invariant and the measure of the run, the places that its answers name and what holds there, and where its loop begins
 use native.Mathlib.Omega.{arith}
-use mathlib.Core.Path.{_≡_, sym, subst}
+use mathlib.Core.Path.{_≡_}
 use Prim.Native.Nat.{ℕ, _+_, _-_, _*_, _≤_, _<_}
 use mathlib.Core.Bool.{true}
 use Rattle.table.specs.Pick.{pick}
@@ -8,30 +8,27 @@ use Rattle.table.specs.Working.{IsNode}
 use Rattle.rules.specs.State.{State512, entry}
 use Rattle.rules.specs.Circuit.{actOf}
 use Rattle.circuit.specs.Meaning.{stateAs}
-use Rattle.circuit.specs.Working.{goes, Stands}
+use Rattle.circuit.specs.Working.{goes}
 use Rattle.circuit.proofs.DriveLaws.{DroveTo, drove-start, Going, goes-on}
 use Rattle.circuit.proofs.budget.drive.Tie as tie
 
 abbrev pub Inv-loop : tie.InvT-loop
-Inv-loop table cells tags budget heads links top status₀ second₀ value₀ registers₀ plain₀ stack₀ height₀ taken₀ rest₀ status second value
-    registers plain stack height taken rest = (height ≤ 1024) × (taken ≤ budget) × DroveTo table tags
-    (stateAs status₀ second₀ value₀ registers₀ plain₀) (stateAs status second value registers plain) taken ×
-    (rest ≡ true → (n : ℕ) → IsNode table n → goes (actOf table (stateAs status second value registers plain) n) ≡ true → ⊥) ×
+Inv-loop table cells tags status₀ second₀ value₀ registers₀ occupant₀ budget heads links top stack₀ height₀ taken₀ rest₀ status second value
+    registers occupant stack height taken rest = (height ≤ 1024) × (taken ≤ budget) × DroveTo table tags
+    (stateAs status₀ second₀ value₀ registers₀ occupant₀) (stateAs status second value registers occupant) taken ×
+    (rest ≡ true → (n : ℕ) → IsNode table n → goes (actOf table (stateAs status second value registers occupant) n) ≡ true → ⊥) ×
     (budget < 4294967296)
 
 abbrev pub μ-loop : tie.MeasureT-loop
-μ-loop table cells tags budget heads links top status₀ second₀ value₀ registers₀ plain₀ stack₀ height₀ taken₀ rest₀ status second value
-    registers plain stack height taken rest = 2048 * (budget - taken) + height + pick rest 0 1
+μ-loop table cells tags status₀ second₀ value₀ registers₀ occupant₀ budget heads links top stack₀ height₀ taken₀ rest₀ status second value
+    registers occupant stack height taken rest = 2048 * (budget - taken) + height + pick rest 0 1
 
--- the start, main's root read, the occupants made plain, the loop's head, a turn and its candidate
+-- the start, main's root read, the loop's head, a turn and its candidate
 abbrev pub Start : Type 0
 Start = tie.Start Inv-loop μ-loop
 
 abbrev pub Top : Type 0
 Top = tie.After-top Inv-loop μ-loop
-
-abbrev pub Plain : Type 0
-Plain = tie.After-plain Inv-loop μ-loop
 
 abbrev pub Head : Type 0
 Head = tie.At-loop Inv-loop μ-loop
@@ -46,11 +43,8 @@ Pick = tie.After-candidate Inv-loop μ-loop
 abbrev pub start : Top → Start
 start c = search
 
-abbrev pub top : Plain → Top
+abbrev pub top : Head → Top
 top c = search
-
-abbrev pub plain : Head → Plain
-plain c = search
 
 abbrev pub head : Turn → Head
 head c = search
@@ -59,27 +53,25 @@ abbrev pub turn : Pick → Turn
 turn c = search
 
 abbrev pub first : Head → Start
-first c = start (top (plain c))
+first c = start (top c)
 
 -- the state at the loop's head
 abbrev pub state : Head → State512
-state c = let l = c .loop in stateAs (l .status) (l .second) (l .value) (l .registers) (l .plain)
+state c = let l = c .loop in stateAs (l .status) (l .second) (l .value) (l .registers) (l .occupant)
 
 -- in a turn the run isn't at rest, has budget left, and main's root isn't done
 pub going : (c : Turn) → let h = head c in
-    Going (h .loop .rest) (h .loop .taken) (first h .args .budget) (entry (h .loop .status) 0 (top (plain h) .top .result .0))
+    Going (h .loop .rest) (h .loop .taken) (first h .args .budget) (entry (h .loop .status) 0 (top h .top .result .0))
 going c =
     let asked : tie.After-going Inv-loop μ-loop = search in
     goes-on _ _ _ _ _ (asked .going .ensures) (c .if1 .taken)
 
 pub loop-holds : tie.Need-loop-holds Inv-loop μ-loop
 loop-holds c =
-    let s = start (top c) in
-    let a = s .args .s in (
+    let s : Start = search in (
       omega arith,
       omega arith,
-      drove-start _ _ _ (subst (Stands (s .args .table .now))
-          (sym (λ i. stateAs (a .status) (a .second) (a .value) (a .registers) (c .plain .ensures i))) (s .pre .2)),
+      drove-start _ _ _ (s .pre .2),
       λ e. absurd (let z : _≡_ {A = ℕ} 0 1 = cc in omega arith),
       omega arith,
     )

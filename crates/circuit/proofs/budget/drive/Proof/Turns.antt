@@ -4,7 +4,7 @@ use mathlib.Core.Path.{_≡_, refl, sym, _∙_}
 use Prim.Native.Nat.{ℕ, _-_}
 use Rattle.circuit.proofs.DriveLaws.{falls-waiting, drove-next, drove-same, rests}
 use Rattle.circuit.proofs.budget.drive.Tie as tie
-use Rattle.circuit.proofs.budget.drive.Proof.Loop.{Inv-loop, μ-loop, Turn, Pick, first, top, plain, head, turn, state, going}
+use Rattle.circuit.proofs.budget.drive.Proof.Loop.{Inv-loop, μ-loop, Turn, Pick, first, top, head, turn, state, going}
 
 -- the candidate of an attempt
 abbrev picked : tie.After-attempt Inv-loop μ-loop → Pick
@@ -25,7 +25,7 @@ loop-again c =
     let h = head t in (
       c .follow .ensures,
       omega (arith, going t .room),
-      drove-next _ _ (first h .pre .1) _ _ _ (h .loop .inv .2) _ _ (top (plain h) .top .ensures .0) refl (going t .undone) _ _ _
+      drove-next _ _ (first h .pre .1) _ _ _ (h .loop .inv .2) _ _ (top h .top .ensures .0) refl (going t .undone) _ _ _
           (tried .attempt .ensures) (sym (asked .moved .ensures) ∙ done .if2 .taken),
       λ e. absurd (let y = going t .awake in let z : _≡_ {A = ℕ} 0 1 = cc in omega arith),
       h .loop .inv .4,

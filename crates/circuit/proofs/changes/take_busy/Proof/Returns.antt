@@ -1,4 +1,4 @@
--- what `take` leaves behind, move by move
+-- what `take_busy` leaves behind, move by move
 use native.Mathlib.Omega.{arith}
 use mathlib.Core.Path.{_≡_, refl, subst, sym, ap, _∙_}
 use Rattle.table.specs.Bytes.{first}
@@ -11,25 +11,25 @@ use Rattle.circuit.specs.declared.changes.Effect.the-variants as Effect
 use Rattle.circuit.specs.declared.plan.Plan.{Plan}
 use Rattle.circuit.specs.Meaning.{stateAs}
 use Rattle.circuit.specs.Working.{planned}
-use Rattle.circuit.proofs.ActBy.{own-in}
-use Rattle.circuit.proofs.TakeLaws.{enter-in, rested, begun, turned, finished, left, entered, restarted}
-use Rattle.circuit.proofs.changes.take.Tie as tie
+use Rattle.circuit.proofs.ActBy.{own-in, rest-is}
+use Rattle.circuit.proofs.TakeLaws.{enter-in, rested, turned, finished, left, entered, restarted}
+use Rattle.circuit.proofs.changes.take_busy.Tie as tie
 
 -- the state that comes in
 abbrev state : tie.Start → State512
 state s = stateAs (s .args .status .now) (s .args .second .now) (s .args .value .now) (s .args .registers .now) (s .args .occupant .now)
 
 -- the act that a plan stands for
-abbrev pub start : tie.After-plan-at → tie.Start
+abbrev pub start : tie.After-busy → tie.Start
 start c = search
 
-pub act : (c : tie.After-plan-at) {p : Plan} → c .plan-at .result ≡ p
+pub act : (c : tie.After-busy) {p : Plan} → c .busy .result ≡ p
     → planned (start c .args .table .now) (start c .args .value .now) (start c .args .n .0) p
     ≡ actOf (start c .args .table .now) (state (start c)) (start c .args .n .0)
-act c e = sym (ap (planned _ _ _) e) ∙ c .plan-at .ensures
+act c e = sym (ap (planned _ _ _) e) ∙ c .busy .ensures (start c .args .registers .now)
 
 -- the function entered is there
-abbrev plan3 : tie.After-p3 → tie.After-plan-at
+abbrev plan3 : tie.After-p3 → tie.After-busy
 plan3 c = search
 
 pub entered-in : (c : tie.After-p3) → IsFunction (start (plan3 c) .args .table .now) (c .p3 .given .0 .0 .0)
@@ -63,28 +63,28 @@ own-there c =
 
 pub returns : tie.Need-returns
 returns c =
-    let p : tie.After-plan-at = search in
-    let s = start p in
-    rested _ (s .pre .0 .taken) _ (s .pre .1) _ _ _ _ _ _ Effect.Stuck (act p (c .enum-told .given .1)) (refl, refl)
+    let at : tie.After-status-at = search in
+    let s : tie.Start = search in
+    rested _ (s .pre .0 .taken) _ (s .pre .1) _ _ _ _ _ _ Effect.Stuck (rest-is _ (s .pre .0 .taken) _ (s .pre .1) (state s) (s .pre .2)
+    (λ e. c .if1 .taken (at .status-at .ensures ∙ e))) (refl, refl)
 
 pub returns-2 : tie.Need-returns-2
 returns-2 c =
-    let p : tie.After-plan-at = search in
+    let p : tie.After-busy = search in
     let s = start p in
-    rested _ (s .pre .0 .taken) _ (s .pre .1) _ _ _ _ _ _ Effect.Blocked (act p (c .enum-told2 .given .1)) (refl, refl)
+    rested _ (s .pre .0 .taken) _ (s .pre .1) _ _ _ _ _ _ Effect.Stuck (act p (c .enum-told .given .1)) (refl, refl)
 
 pub returns-3 : tie.Need-returns-3
 returns-3 c =
-    let begins : tie.After-enum-told3 = search in
-    let p : tie.After-plan-at = search in
+    let p : tie.After-busy = search in
     let s = start p in
-    begun _ (s .pre .0 .taken) _ (s .pre .1) _ _ _ _ _ (act p (begins .enum-told3 .given .1)) _ (c .begin .ensures)
+    rested _ (s .pre .0 .taken) _ (s .pre .1) _ _ _ _ _ _ Effect.Blocked (act p (c .enum-told2 .given .1)) (refl, refl)
 
 pub returns-4 : tie.Need-returns-4
 returns-4 c =
     let open-node : tie.After-set-status = search in
     let turns : tie.After-p = search in
-    let p : tie.After-plan-at = search in
+    let p : tie.After-busy = search in
     let s = start p in
     turned _ (s .pre .0 .taken) _ (s .pre .1) _ _ _ _ _ _ (act p (turns .p .given .1)) _ _ (open-node .set-status .ensures)
     (c .set-second .ensures)
@@ -92,7 +92,7 @@ returns-4 c =
 pub returns-5 : tie.Need-returns-5
 returns-5 c =
     let finishes : tie.After-p2 = search in
-    let p : tie.After-plan-at = search in
+    let p : tie.After-busy = search in
     let s = start p in
     let e = c .finish .ensures in
     finished _ (s .pre .0 .taken) _ (s .pre .1) _ _ _ _ _ _ _ _ _ (e .0) (e .1) (e .2) (act p (finishes .p2 .given .1))
@@ -112,7 +112,7 @@ pub returns-7 : tie.Need-returns-7
 returns-7 c =
     let done : tie.After-finish2 = search in
     let leaves : tie.After-p4 = search in
-    let p : tie.After-plan-at = search in
+    let p : tie.After-busy = search in
     let s = start p in
     let e = done .finish2 .ensures in
     left _ (s .pre .0 .taken) _ (s .pre .1) _ _ _ _ _ _ _ _ _ (e .0) (e .1) (e .2) _ (act p (leaves .p4 .given .1)) _
@@ -122,9 +122,9 @@ pub returns-8 : tie.Need-returns-8
 returns-8 c =
     let first : tie.After-first2 = search in
     let own : tie.After-owner = search in
-    let restarts : tie.After-enum-told4 = search in
-    let p : tie.After-plan-at = search in
+    let restarts : tie.After-enum-told3 = search in
+    let p : tie.After-busy = search in
     let s = start p in
     let e = c .reset2 .ensures in
     restarted _ (s .pre .0 .taken) _ (s .pre .1) _ _ _ _ _ _ (own-there own) _ (firsts2 first) _ _ _ _ (e .0) (e .1) (e .2) (e .3)
-    (owners own) (act p (restarts .enum-told4 .given .1))
+    (owners own) (act p (restarts .enum-told3 .given .1))

@@ -1,24 +1,30 @@
--- `changes::take` meets its contract: the plan says what the node does, and each arm does it (`Returns`).
+-- `changes::take_busy` meets its contract: the plan says what the node does, and each arm does it (`Returns`).
 mod Returns
 use native.Mathlib.Omega.{arith}
+use mathlib.Core.Path.{sym, _∙_}
 use Prim.Native.Nat.{_≤_}
 use Rattle.circuit.proofs.ChainLaws.{ok, first-in}
 use Rattle.circuit.proofs.TakeLaws.{turn-in, leave-in}
 use borrow.Author.Needs.{needs}
-use Rattle.circuit.proofs.changes.take.Statement.{statement}
-use Rattle.circuit.proofs.changes.take.Tie as tie
-use Rattle.circuit.proofs.changes.take.Proof.Returns.{start, start-first2, firsts, firsts2, own-there, act, entered-in}
-use Rattle.circuit.proofs.changes.take.Proof.Returns.{returns, returns-2, returns-3, returns-4, returns-5, returns-6, returns-7}
-use Rattle.circuit.proofs.changes.take.Proof.Returns.{returns-8}
+use Rattle.circuit.proofs.changes.take_busy.Statement.{statement}
+use Rattle.circuit.proofs.changes.take_busy.Tie as tie
+use Rattle.circuit.proofs.changes.take_busy.Proof.Returns.{start, start-first2, firsts, firsts2, own-there, act, entered-in}
+use Rattle.circuit.proofs.changes.take_busy.Proof.Returns.{returns, returns-2, returns-3, returns-4, returns-5, returns-6, returns-7}
+use Rattle.circuit.proofs.changes.take_busy.Proof.Returns.{returns-8}
 
 -- n is at most 512
 n-high : (s : tie.Start) → s .args .n .0 ≤ 512
 n-high s = omega (arith, s .pre .1 .1, ok _ (s .pre .0 .taken) .N-high)
 
-plan-at-requires : tie.Need-plan-at-requires
-plan-at-requires c κs =
+status-at-requires : tie.Need-status-at-requires
+status-at-requires c κs = n-high (search)
+
+busy-requires : tie.Need-busy-requires
+busy-requires c κs =
+    let two : tie.Else1 = search in
+    let at : tie.After-status-at = search in
     let s : tie.Start = search in
-    (s .pre .0, s .pre .1)
+    (s .pre .0, s .pre .1, sym (at .status-at .ensures) ∙ two .if1 .left)
 
 enum-told : tie.Need-enum-told
 enum-told c = search needs
@@ -26,21 +32,13 @@ enum-told c = search needs
 enum-told-2 : tie.Need-enum-told-2
 enum-told-2 c = search needs
 
-enum-told-3 : tie.Need-enum-told-3
-enum-told-3 c = search needs
-
-begin-requires : tie.Need-begin-requires
-begin-requires c κs =
-    let s : tie.Start = search in
-    (s .pre .0, s .pre .1)
-
 enum-known-p : tie.Need-enum-known-p
 enum-known-p c = search needs
 
 set-status-requires : tie.Need-set-status-requires
 set-status-requires c κs =
     let turns : tie.After-p = search in
-    let p : tie.After-plan-at = search in
+    let p : tie.After-busy = search in
     let s = start p in
     turn-in _ (s .pre .0 .taken) _ (s .pre .1) _ _ _ _ _ _ (act p (turns .p .given .1))
 
@@ -63,7 +61,7 @@ reset-requires : tie.Need-reset-requires
 reset-requires c κs =
     let first : tie.After-first = search in
     let s : tie.Start = search in
-    (s .pre .0, s .pre .2, entered-in (search), first-in _ (s .pre .0 .taken) _ (s .pre .1) _ (firsts first))
+    (s .pre .0, s .pre .3, entered-in (search), first-in _ (s .pre .0 .taken) _ (s .pre .1) _ (firsts first))
 
 set-second-requires-2 : tie.Need-set-second-requires-2
 set-second-requires-2 c κs = n-high (search)
@@ -71,7 +69,7 @@ set-second-requires-2 c κs = n-high (search)
 set-occupant-requires : tie.Need-set-occupant-requires
 set-occupant-requires c κs =
     let enters : tie.After-p3 = search in
-    let p : tie.After-plan-at = search in
+    let p : tie.After-busy = search in
     omega (arith, entered-in enters .1, ok _ (start p .pre .0 .taken) .F-high)
 
 enum-known-p-4 : tie.Need-enum-known-p-4
@@ -83,7 +81,7 @@ finish-requires-2 c κs = n-high (search)
 set-occupant-requires-2 : tie.Need-set-occupant-requires-2
 set-occupant-requires-2 c κs =
     let leaves : tie.After-p4 = search in
-    let p : tie.After-plan-at = search in
+    let p : tie.After-busy = search in
     let s = start p in
     omega (
       arith,
@@ -92,8 +90,8 @@ set-occupant-requires-2 c κs =
           .F-high,
     )
 
-enum-told-4 : tie.Need-enum-told-4
-enum-told-4 c = search needs
+enum-told-3 : tie.Need-enum-told-3
+enum-told-3 c = search needs
 
 owner-requires : tie.Need-owner-requires
 owner-requires c κs = search needs
@@ -106,17 +104,17 @@ reset-requires-2 c κs =
     let first : tie.After-first2 = search in
     let own : tie.After-owner = search in
     let s = start-first2 first in
-    (s .pre .0, s .pre .2, own-there own, first-in _ (s .pre .0 .taken) _ (s .pre .1) _ (firsts2 first))
+    (s .pre .0, s .pre .3, own-there own, first-in _ (s .pre .0 .taken) _ (s .pre .1) _ (firsts2 first))
 
-pub take-spec : {M : Type 1} → statement M
-take-spec =
+pub take-busy-spec : {M : Type 1} → statement M
+take-busy-spec =
     tie.close
     (tie.spec
-    plan-at-requires
+    status-at-requires
+    returns
+    busy-requires
     enum-told
     enum-told-2
-    enum-told-3
-    begin-requires
     enum-known-p
     set-status-requires
     set-second-requires
@@ -130,11 +128,10 @@ take-spec =
     enum-known-p-4
     finish-requires-2
     set-occupant-requires-2
-    enum-told-4
+    enum-told-3
     owner-requires
     first-requires-2
     reset-requires-2
-    returns
     returns-2
     returns-3
     returns-4

@@ -1,14 +1,20 @@
--- `plan::opening` meets its contract, by kind.
+-- `changes::take_open` meets its contract, by kind.
 use native.Mathlib.Omega.{arith}
 use mathlib.Core.Path.{_≡_, _∙_, sym}
+use Prim.Native.Nat.{_≤_}
 use Rattle.table.specs.Bytes.{kind}
 use Rattle.table.proofs.Reading.{told, told-word, told-low}
 use Rattle.circuit.proofs.ActBy.{own-in, bound-in}
 use Rattle.circuit.proofs.ChainLaws.{ok}
 use Rattle.circuit.proofs.PlanLaws.{acts-open, open-const, open-param, open-bound, open-other}
+use Rattle.circuit.proofs.TakeLaws.{begun, finished}
 use borrow.Author.Needs.{needs}
-use Rattle.circuit.proofs.plan.opening.Statement.{statement}
-use Rattle.circuit.proofs.plan.opening.Tie as tie
+use Rattle.circuit.proofs.changes.take_open.Statement.{statement}
+use Rattle.circuit.proofs.changes.take_open.Tie as tie
+
+-- n is at most 512
+n-high : (s : tie.Start) → s .args .n .0 ≤ 512
+n-high s = omega (arith, s .pre .1 .1, ok _ (s .pre .0 .taken) .N-high)
 
 abbrev start : tie.After-kind → tie.Start
 start c = search
@@ -41,6 +47,20 @@ register-at-requires c κs =
           .F-high,
     )
 
+finish-requires : tie.Need-finish-requires
+finish-requires c κs = n-high (search)
+
+finish-requires-2 : tie.Need-finish-requires-2
+finish-requires-2 c κs = n-high (search)
+
+finish-requires-3 : tie.Need-finish-requires-3
+finish-requires-3 c κs = n-high (search)
+
+begin-requires : tie.Need-begin-requires
+begin-requires c κs =
+    let s : tie.Start = search in
+    (s .pre .0, s .pre .1)
+
 definiens-requires : tie.Need-definiens-requires
 definiens-requires c κs = search needs
 
@@ -56,51 +76,65 @@ value-at-requires c κs =
 
 returns : tie.Need-returns
 returns c =
+    let x : tie.After-word = search in
     let k : tie.At-match-keys1 = search in
     let s : tie.Start = search in
     let p = s .pre in
-    λ a b e h. acts-open _ (p .0 .taken) _ (p .1) a b _ _ e _ h (open-const _ _ _ _ _ (kinded (search)) (k .match .keys1) _
-    (told-word _ _ (p .0) _ (p .1) _ (c .word .ensures)))
+    let w = c .finish .ensures in
+    λ e. finished _ (p .0 .taken) _ (p .1) _ _ _ _ e _ _ _ _ (w .0) (w .1) (w .2)
+    (acts-open _ (p .0 .taken) _ (p .1) _ _ _ _ e _ (p .2) (open-const _ _ _ _ _ (kinded (search)) (k .match .keys1) _
+    (told-word _ _ (p .0) _ (p .1) _ (x .word .ensures))))
 
 returns-2 : tie.Need-returns-2
 returns-2 c =
+    let r : tie.After-register-at = search in
     let x : tie.After-extra = search in
     let o : tie.After-owner = search in
     let k : tie.At-match-keys2 = search in
     let s : tie.Start = search in
     let p = s .pre in
-    λ a b e h. acts-open _ (p .0 .taken) _ (p .1) a b _ _ e _ h (open-param _ _ _ _ _ (kinded (search)) (k .match .keys2) _ _ _
+    let w = c .finish2 .ensures in
+    λ e. finished _ (p .0 .taken) _ (p .1) _ _ _ _ e _ _ _ _ (w .0) (w .1) (w .2)
+    (acts-open _ (p .0 .taken) _ (p .1) _ _ _ _ e _ (p .2) (open-param _ _ _ _ _ (kinded (search)) (k .match .keys2) _ _ _
     (told _ _ (p .0) _ (p .1) 1 _ (omega arith) (x .extra .ensures)) (told _ _ (p .0) _ (p .1) 6 _ (omega arith) (o .owner .ensures))
-    (c .register-at .ensures))
+    (r .register-at .ensures)))
 
 returns-3 : tie.Need-returns-3
 returns-3 c =
+    let v : tie.After-value-at = search in
     let d : tie.After-definiens = search in
     let k : tie.At-match-keys3 = search in
     let s : tie.Start = search in
     let p = s .pre in
+    let w = c .finish3 .ensures in
     let i = bound-in _ (p .0 .taken) _ (p .1) (sym (kinded (search)) ∙ k .match .keys3) in
-    λ a b e h. acts-open _ (p .0 .taken) _ (p .1) a b _ _ e _ h (open-bound _ _ _ _ _ (kinded (search)) (k .match .keys3) _ _
-    (told-low _ _ (p .0) _ (p .1) (omega (arith, i .1, ok _ (p .0 .taken) .N-high)) _ (d .definiens .ensures)) (c .value-at .ensures))
+    λ e. finished _ (p .0 .taken) _ (p .1) _ _ _ _ e _ _ _ _ (w .0) (w .1) (w .2)
+    (acts-open _ (p .0 .taken) _ (p .1) _ _ _ _ e _ (p .2) (open-bound _ _ _ _ _ (kinded (search)) (k .match .keys3) _ _
+    (told-low _ _ (p .0) _ (p .1) (omega (arith, i .1, ok _ (p .0 .taken) .N-high)) _ (d .definiens .ensures)) (v .value-at .ensures)))
 
 returns-4 : tie.Need-returns-4
 returns-4 c =
+    let k : tie.At-match-rest = search in
     let s : tie.Start = search in
     let p = s .pre in
-    λ a b e h. acts-open _ (p .0 .taken) _ (p .1) a b _ _ e _ h (open-other _ _ _ _ _ (kinded (search)) (c .match .rest .0 .0 .1)
-    (c .match .rest .0 .1) (c .match .rest .1))
+    λ e. begun _ (p .0 .taken) _ (p .1) _ _ _ _ e (acts-open _ (p .0 .taken) _ (p .1) _ _ _ _ e _ (p .2)
+    (open-other _ _ _ _ _ (kinded (search)) (k .match .rest .0 .0 .1) (k .match .rest .0 .1) (k .match .rest .1))) _ (c .begin .ensures)
 
-pub opening-spec : {M : Type 1} → statement M
-opening-spec =
+pub take-open-spec : {M : Type 1} → statement M
+take-open-spec =
     tie.close
     (tie.spec
     kind-requires
     word-requires
+    finish-requires
     owner-requires
     extra-requires
     register-at-requires
+    finish-requires-2
     definiens-requires
     value-at-requires
+    finish-requires-3
+    begin-requires
     returns
     returns-2
     returns-3

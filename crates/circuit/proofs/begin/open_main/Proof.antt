@@ -1,16 +1,16 @@
--- `begin::opened` meets its contract.
+-- `begin::open_main` meets its contract.
 use native.Mathlib.Omega.{arith}
 use mathlib.Core.Path.{_≡_, sym, ap, subst, _∙_}
+use lib.ListN.{replicate}
 use Rattle.table.specs.Bytes.{functions, root}
 use Rattle.table.specs.Working.{IsFunction}
 use Rattle.table.proofs.Reading.{told-main, told-root}
-use Rattle.rules.specs.State.{fill, blank}
-use Rattle.rules.specs.Circuit.{started}
+use Rattle.rules.specs.State.{fill}
 use Rattle.circuit.proofs.ChainLaws.{ok}
 use Rattle.circuit.proofs.BeginLaws.{start-is}
 use borrow.Author.Needs.{needs}
-use Rattle.circuit.proofs.begin.opened.Statement.{statement}
-use Rattle.circuit.proofs.begin.opened.Tie as tie
+use Rattle.circuit.proofs.begin.open_main.Statement.{statement}
+use Rattle.circuit.proofs.begin.open_main.Tie as tie
 
 abbrev begin : tie.After-main → tie.Start
 begin c = search
@@ -42,8 +42,8 @@ set-status-requires c κs =
     let p = ok _ (s .pre .taken) in
     omega (arith, top r, p .linking .roots _ (main-in (main-read r)) .1, p .N-high)
 
-registers-requires : tie.Need-registers-requires
-registers-requires c κs =
+fill-main-requires : tie.Need-fill-main-requires
+fill-main-requires c κs =
     let m : tie.After-main = search in
     let p = ok _ (begin m .pre .taken) in
     (omega (arith, main-is m, p .F-low), omega (arith, main-is m, p .F-high))
@@ -54,10 +54,9 @@ returns c =
     let r : tie.After-root = search in
     let m = main-read r in
     let s = begin m in
-    let e = start-is _ _ (s .pre .taken) _ _ _ (top r) (status .set-status .ensures)
-    (c .registers .ensures ∙ ap (λ f. fill f (s .args .args .now) (blank 256 0)) (main-is m)) in
-    λ old. record { answer = ap started e; state = e }
+    start-is _ _ (s .pre .taken) _ _ _ (top r) (status .set-status .ensures)
+    (c .fill-main .ensures ∙ ap (λ f. fill f (s .args .args .now) (replicate 256 0)) (main-is m))
 
-pub opened-spec : {M : Type 1} → statement M
-opened-spec =
-    tie.close (tie.spec main-requires root-requires set-status-requires registers-requires returns)
+pub open-main-spec : {M : Type 1} → statement M
+open-main-spec =
+    tie.close (tie.spec main-requires root-requires set-status-requires fill-main-requires returns)

@@ -1,0 +1,192 @@
+// The circuit's entries on a state that is lent as its five arrays: a step is made in place, and a refusal leaves them as they are.
+use crate::admission;
+use crate::begin;
+use crate::budget;
+use crate::entries;
+use crate::types::Answer;
+use crate::types::DriveEnd;
+use crate::types::Ended;
+use crate::types::Found;
+use crate::types::Halt;
+use crate::types::Opening;
+use crate::types::RunEnd;
+use table::Checked;
+use table::Node;
+ghost use mathlib.Core.Path.{_≡_};
+ghost use Rattle.rules.specs.Circuit.{startOf, stepOf};
+ghost use Rattle.rules.specs.Runs.{runOf, Finds, Drives};
+ghost use Rattle.circuit.specs.Meaning.{OpenedAs, stateAs, steppedAs, ranAs, foundOf, drivenAs};
+
+// The circuit's start: the table, its tags, 11; then main's registers hold the arguments and its root is open, all else is zero.
+pub fn start(
+    table: &[u8],
+    tags: &[u8],
+    status: &mut [u8; 512],
+    second: &mut [bool; 512],
+    value: &mut [u32; 512],
+    registers: &mut [u32; 256],
+    occupant: &mut [u16; 32],
+    args: &[u32],
+) -> Opening
+    ensures { λ r. ⌜ OpenedAs
+        (stateAs (now (status .entry)) (now (second .entry)) (now (value .entry)) (now (registers .entry)) (now (occupant .entry)))
+        r (stateAs (now (status .exit)) (now (second .exit)) (now (value .exit)) (now (registers .exit)) (now (occupant .exit)))
+        (startOf (now (table .entry)) (now (tags .entry)) (now (args .entry))) ⌝ }
+{
+    let mut cells = [0u16; 4360];
+    let checked = admission::read_in(table, tags, &mut cells);
+    match checked {
+        Checked::Refused(number, place) => Opening::Refused(number, place),
+        Checked::Accepted(_, _) => begin::start(
+            table,
+            &cells,
+            status,
+            second,
+            value,
+            registers,
+            occupant,
+            args,
+        ),
+    }
+}
+
+// A step asked at node n: the table, its tags, 12, 24, 20, then 21 to 23.
+pub fn step(
+    table: &[u8],
+    tags: &[u8],
+    status: &mut [u8; 512],
+    second: &mut [bool; 512],
+    value: &mut [u32; 512],
+    registers: &mut [u32; 256],
+    occupant: &mut [u16; 32],
+    n: Node,
+) -> Answer
+    ensures { λ r. ⌜ steppedAs r
+        (stateAs (now (status .exit)) (now (second .exit)) (now (value .exit)) (now (registers .exit)) (now (occupant .exit)))
+        ≡ stepOf (now (table .entry)) (now (tags .entry))
+        (stateAs (now (status .entry)) (now (second .entry)) (now (value .entry)) (now (registers .entry)) (now (occupant .entry)))
+        (n .0) ⌝ }
+{
+    let mut cells = [0u16; 4360];
+    let checked = admission::read_in(table, tags, &mut cells);
+    match checked {
+        Checked::Refused(number, place) => Answer::Refused(number, place),
+        Checked::Accepted(_, _) => entries::step(
+            table,
+            &cells,
+            tags,
+            status,
+            second,
+            value,
+            registers,
+            occupant,
+            n,
+        ),
+    }
+}
+
+// Steps asked at a list of nodes, up to the first refusal; the table, its tags and 24 are checked before the first of them.
+pub fn run(
+    table: &[u8],
+    tags: &[u8],
+    status: &mut [u8; 512],
+    second: &mut [bool; 512],
+    value: &mut [u32; 512],
+    registers: &mut [u32; 256],
+    occupant: &mut [u16; 32],
+    nodes: &[u16],
+) -> RunEnd
+    ensures { λ r. ⌜ ranAs r
+        (stateAs (now (status .exit)) (now (second .exit)) (now (value .exit)) (now (registers .exit)) (now (occupant .exit)))
+        ≡ runOf (now (table .entry)) (now (tags .entry))
+        (stateAs (now (status .entry)) (now (second .entry)) (now (value .entry)) (now (registers .entry)) (now (occupant .entry)))
+        (now (nodes .entry)) ⌝ }
+{
+    let mut cells = [0u16; 4360];
+    let checked = admission::admit(table, tags, status, occupant, &mut cells);
+    match checked {
+        Checked::Refused(number, place) => RunEnd {
+            taken: 0,
+            halt: Halt::Refused(number, place),
+        },
+        Checked::Accepted(_, _) => entries::run(
+            table,
+            &cells,
+            tags,
+            status,
+            second,
+            value,
+            registers,
+            occupant,
+            nodes,
+        ),
+    }
+}
+
+// A possible step, any one, or none: the table, its tags and 24 are checked first.
+pub fn query(
+    table: &[u8],
+    tags: &[u8],
+    status: &[u8; 512],
+    second: &[bool; 512],
+    value: &[u32; 512],
+    registers: &[u32; 256],
+    occupant: &[u16; 32],
+) -> Found
+    ensures { λ r. ⌜ Finds (now (table .entry)) (now (tags .entry))
+        (stateAs (now (status .entry)) (now (second .entry)) (now (value .entry)) (now (registers .entry)) (now (occupant .entry)))
+        (foundOf r) ⌝ }
+{
+    let mut cells = [0u16; 4360];
+    let checked = admission::admit(table, tags, status, occupant, &mut cells);
+    match checked {
+        Checked::Refused(number, place) => Found::Refused(number, place),
+        Checked::Accepted(_, _) => budget::query(
+            table,
+            &cells,
+            tags,
+            status,
+            second,
+            value,
+            registers,
+            occupant,
+        ),
+    }
+}
+
+// Possible steps up to a budget: the table, its tags and 24 are checked before the first of them.
+pub fn drive(
+    table: &[u8],
+    tags: &[u8],
+    status: &mut [u8; 512],
+    second: &mut [bool; 512],
+    value: &mut [u32; 512],
+    registers: &mut [u32; 256],
+    occupant: &mut [u16; 32],
+    budget: u32,
+) -> DriveEnd
+    ensures { λ r. ⌜ Drives (now (table .entry)) (now (tags .entry))
+        (stateAs (now (status .entry)) (now (second .entry)) (now (value .entry)) (now (registers .entry)) (now (occupant .entry))) budget
+        (drivenAs r
+        (stateAs (now (status .exit)) (now (second .exit)) (now (value .exit)) (now (registers .exit)) (now (occupant .exit)))) ⌝ }
+{
+    let mut cells = [0u16; 4360];
+    let checked = admission::admit(table, tags, status, occupant, &mut cells);
+    match checked {
+        Checked::Refused(number, place) => DriveEnd {
+            taken: 0,
+            ended: Ended::Refused(number, place),
+        },
+        Checked::Accepted(_, _) => budget::drive(
+            table,
+            &cells,
+            tags,
+            status,
+            second,
+            value,
+            registers,
+            occupant,
+            budget,
+        ),
+    }
+}
