@@ -3,16 +3,20 @@ use crate::standing;
 use table::Checked;
 use table::Node;
 use table::decoded::Cells;
+ghost use mathlib.Core.Path.{_≡_};
+ghost use lib.ListN.{length};
 ghost use Rattle.circuit.specs.Working.{ReadIn, Admitted};
 
 // The table and its tags; where both are taken, the table is decoded into the cells.
 pub(crate) fn read_in(table: &[u8], tags: &[u8], cells: &mut Cells) -> Checked
+    requires { ⌜ length (now cells) ≡ 4360 ⌝ }
     ensures { λ r. ⌜ ReadIn (now (table .entry)) (now (tags .entry)) r (now (cells .exit)) ⌝ }
 {
-    let found = list::survey_tags(table, tags);
-    let decoded = found.cells;
-    *cells = decoded;
-    found.checked
+    let checked = table::survey(table, cells);
+    match checked {
+        Checked::Refused(number, place) => Checked::Refused(number, place),
+        Checked::Accepted(_, _) => list::check_held(cells, tags),
+    }
 }
 
 // The same, then 24: before a query and before a run.
@@ -23,6 +27,7 @@ pub(crate) fn admit(
     occupant: &[u16; 32],
     cells: &mut Cells,
 ) -> Checked
+    requires { ⌜ length (now cells) ≡ 4360 ⌝ }
     ensures { λ r. ⌜ Admitted (now (table .entry)) (now (tags .entry)) (now (status .entry)) (now (occupant .entry)) r
         (now (cells .exit)) ⌝ }
 {
