@@ -76,7 +76,8 @@ lowest-same : (p q : Test) (k : ℕ) → ((n : ℕ) → 1 ≤ n → n ≤ k → 
 unfolding lowest
 lowest-same p q zero f = refl
 lowest-same p q (suc k) f =
-    ap₂ (λ r b. pick (eqb r 0) (pick b 0 (suc k)) r) (lowest-same p q k (λ n a b. f n a (omega arith))) (f (suc k) (omega arith) (omega arith))
+    ap₂ (λ r b. pick (eqb r 0) (pick b 0 (suc k)) r) (lowest-same p q k (λ n a b. f n a (omega arith))) (f (suc k) (omega arith)
+    (omega arith))
 
 cell-same : (t cells tags : List ℕ) → Read t cells → (n : ℕ) → IsNode t n → cellFits cells tags n ≡ tagFits t tags n
 unfolding cellFits tagFits isCall
@@ -98,7 +99,8 @@ held-read t cells tags h =
     ap₂ (λ f n. stage 10 (eqb (length tags) ((n + 7) / 8) && all (λ i. not (tagged tags (n + i))) (8 * length tags - n))
     (lowest (cellFits cells tags) n) (λ _. accepted f n)) (h .told .own 0 (omega arith)) (h .told .own 1 (omega arith))
     ∙ ap (λ x. stage 10 (eqb (length tags) ((nodes t + 7) / 8) && all (λ i. not (tagged tags (nodes t + i))) (8 * length tags - nodes t)) x
-    (λ _. accepted (functions t) (nodes t))) (lowest-same (cellFits cells tags) (tagFits t tags) (nodes t) (λ n a b. cell-same t cells tags h n (a, b)))
+    (λ _. accepted (functions t) (nodes t))) (lowest-same (cellFits cells tags) (tagFits t tags) (nodes t)
+    (λ n a b. cell-same t cells tags h n (a, b)))
 
 -- the table first
 pub after-check : (t tags : List ℕ) (r : Verdict) → Taken t → r ≡ tagsRefusal t tags → r ≡ checkWith t tags

@@ -11,11 +11,10 @@ use lib.ListN.{length, getD, replicate, length-set, length-replicate}
 use lib.Seq.{getD-set-same, getD-set-other}
 use borrow.Author.Tests.{le-leb, lt-leb, lt-ltb, le-ltb, eq-eqb, ne-eqb}
 use Rattle.table.specs.Pick.{pick}
-use Rattle.table.specs.Bytes.{functions, nodes, params, spare, root, kind, extra, word, fourAt, first, next}
+use Rattle.table.specs.Bytes.{functions, nodes, word, fourAt}
 use Rattle.table.specs.Naming.{owner, parent}
-use Rattle.table.specs.Check.{refused, ifAccepted, checkOf}
 use Rattle.table.specs.Decoded.{cellAt, putCell, nodeSlot, functionSlot, tableSlot, low, high, nodeField, functionField, tableField}
-use Rattle.table.specs.Decoded.{putFields, functionsPut, nodesPut, decodedInto}
+use Rattle.table.specs.Decoded.{putFields}
 use Rattle.table.specs.Working.{IsNode, IsFunction, Framed, CellsTo, Raw, Cells, numberAt, upTo, filledTo, Filled}
 use Rattle.table.proofs.Loops.{blank-at}
 
@@ -60,9 +59,11 @@ row-as r f = record { size = r .size; here = λ k h. r .here k h ∙ f k h; othe
 pub row-fields : (k s : ℕ) (g : ℕ → ℕ) (cells : List ℕ) → length cells ≡ 4360 → s < 545 → k ≤ 8
     → Row s (λ j. pick (ltb j k) (g j) (cellAt cells s j)) cells (putFields k s g cells)
 unfolding putFields
-row-fields zero s g cells z b i = row-as (row-start s cells) (λ j h. sym (ap (λ x. pick x (g j) (cellAt cells s j)) (le-ltb j 0 (omega arith))))
+row-fields zero s g cells z b i = row-as (row-start s cells) (λ j h. sym (ap (λ x. pick x (g j) (cellAt cells s j)) (le-ltb j 0
+    (omega arith))))
 row-fields (suc k) s g cells z b i =
-    row-as (row-put s _ cells _ z b (row-fields k s g cells z b (omega arith)) k (g k) (omega arith)) (λ j h. one-more j (ℕ-discrete j k) (decLt j k))
+    row-as (row-put s _ cells _ z b (row-fields k s g cells z b (omega arith)) k (g k) (omega arith)) (λ j h. one-more j
+    (ℕ-discrete j k) (decLt j k))
   where
     one-more : (j : ℕ) → Dec (j ≡ k) → Dec (j < k)
         → pick (eqb j k) (g k) (pick (ltb j k) (g j) (cellAt cells s j)) ≡ pick (ltb j (suc k)) (g j) (cellAt cells s j)
@@ -184,7 +185,8 @@ module _ (t cells : List ℕ) (f : ℕ) (l : f < 32) (h : Filled t f 0 0 cells) 
       less : functionSlot (f + 1) - 512 ≡ (f + 1) % 32
       less = omega arith
 
-  pub filled-function : (cells′ : List ℕ) → cells′ ≡ putFields 3 (functionSlot (f + 1)) (functionField t (f + 1)) cells → Filled t (f + 1) 0 0 cells′
+  pub filled-function : (cells′ : List ℕ) → cells′ ≡ putFields 3 (functionSlot (f + 1)) (functionField t (f + 1)) cells
+      → Filled t (f + 1) 0 0 cells′
   filled-function cells′ e = subst (Filled t (f + 1) 0 0) (sym e)
       (filled-row t cells _ f 0 0 (f + 1) 0 0 (functionSlot (f + 1)) _ h function-row
       (λ k b. fits k b ∙ sym (own-function (f + 1) k ∙ upTo-in (λ f. functionField t f k) (f + 1) (f + 1) (omega arith))) on)
@@ -194,9 +196,11 @@ module _ (t cells : List ℕ) (f : ℕ) (l : f < 32) (h : Filled t f 0 0 cells) 
       blank k b = h .each (functionSlot (f + 1)) k (omega arith) b ∙ own-function f k
           ∙ upTo-past (λ f. functionField t f k) f (f + 1) (omega arith)
 
-      fits : (k : ℕ) → k < 8 → pick (ltb k 3) (functionField t (f + 1) k) (cellAt cells (functionSlot (f + 1)) k) ≡ functionField t (f + 1) k
+      fits : (k : ℕ) → k < 8 → pick (ltb k 3) (functionField t (f + 1) k) (cellAt cells (functionSlot (f + 1)) k)
+          ≡ functionField t (f + 1) k
       fits = by-eight (λ k. pick (ltb k 3) (functionField t (f + 1) k) (cellAt cells (functionSlot (f + 1)) k) ≡ functionField t (f + 1) k)
-          refl refl refl (blank 3 (omega arith)) (blank 4 (omega arith)) (blank 5 (omega arith)) (blank 6 (omega arith)) (blank 7 (omega arith))
+          refl refl refl (blank 3 (omega arith)) (blank 4 (omega arith)) (blank 5 (omega arith)) (blank 6 (omega arith)) (blank 7
+          (omega arith))
 
       on : (s k : ℕ) → s < 545 → k < 8 → (s ≡ functionSlot (f + 1) → ⊥) → filledTo t f 0 0 s k ≡ filledTo t (f + 1) 0 0 s k
       on s k a b d = go (decLt s 512) (decLt s 544)

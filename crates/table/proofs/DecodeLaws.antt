@@ -4,7 +4,18 @@ use mathlib.Core.Path.{_≡_, ap}
 use mathlib.Core.List.{List}
 use native.Mathlib.Omega.{arith}
 use Rattle.table.specs.Bytes.{byteAt, twoAt, functions, nodes, functionAt, nodeAt, params, spare, root, kind, extra, first, next}
-use Rattle.table.specs.Decoded.{putCell, putFields, nodeSlot, functionSlot, tableSlot, low, high, nodeField, functionField, tableField}
+use Rattle.table.specs.Decoded.{
+  putCell,
+  putFields,
+  nodeSlot,
+  functionSlot,
+  tableSlot,
+  low,
+  high,
+  nodeField,
+  functionField,
+  tableField,
+}
 use Rattle.table.specs.Working.{IsFunction, At}
 use Rattle.table.specs.Naming.{owner, parent}
 

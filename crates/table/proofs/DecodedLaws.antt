@@ -1,6 +1,6 @@
 -- an array of cells into which a table was decoded: each record can be read from its slot
-use Prim.Native.Nat.{ℕ, zero, suc, _+_, _*_, _%_, _≤_, _<_}
-use mathlib.Core.Path.{_≡_, refl, subst, sym, ap, _∙_}
+use Prim.Native.Nat.{ℕ, zero, suc, _+_, _≤_, _<_}
+use mathlib.Core.Path.{_≡_, refl, subst, ap, _∙_}
 use mathlib.Core.List.{List}
 use native.Mathlib.Omega.{arith}
 use native.Mathlib.Decide.{ℕ-discrete}
@@ -66,7 +66,8 @@ module _ (t : List ℕ) where
 
       each : (g k : ℕ) → 1 ≤ g → g ≤ f + 1 → k < 3 → (d : Dec (g ≡ f + 1))
           → cellAt (putFields 3 (functionSlot (f + 1)) (functionField t (f + 1)) cells) (functionSlot g) k ≡ functionField t g k
-      each g k a b c (yes e) = rw e (put-here 3 (functionSlot (f + 1)) (functionField t (f + 1)) cells (h .size) (omega arith) (omega arith) k c)
+      each g k a b c (yes e) = rw e (put-here 3 (functionSlot (f + 1)) (functionField t (f + 1)) cells (h .size) (omega arith)
+          (omega arith) k c)
       each g k a b c (no e) = row .other (functionSlot g) k (λ q. e (omega arith)) (omega arith) ∙ h .function g k a (omega arith) c
 
   stand-node : (F n : ℕ) (cells : List ℕ) → F ≤ 32 → n < 512 → Stand t F n cells

@@ -2,7 +2,7 @@
 use Prim.Native.Nat.{ℕ, zero, suc, _+_, _*_, _%_, _≤_, _<_}
 use mathlib.Core.Bool.{Bool, true, false, _&&_, _||_}
 use mathlib.Core.Path.{_≡_, refl, subst, sym, ap, _∙_}
-use mathlib.Core.Logic.{_⊎_, ⊎-elim}
+use mathlib.Core.Logic.{⊎-elim}
 use mathlib.Core.List.{List}
 use native.Mathlib.Omega.{arith}
 use native.Mathlib.Decide.{ℕ-discrete}
@@ -16,13 +16,12 @@ use Rattle.table.specs.Find.{highest}
 use Rattle.table.specs.Naming.{mentions, rootOf, namer, parent, chain, children}
 use Rattle.table.specs.Check.{rootFits, recordFits, forward, linked}
 use Rattle.table.specs.Working.{IsNode, IsFunction, Framed, Linked}
-use Rattle.table.specs.Sweep.{rank, kinOf, kinTo, mentionsTo, Handed, hand, Links, RootFits, RootsFit, Kin, Kids}
+use Rattle.table.specs.Sweep.{rank, mentionsTo, Handed, hand, Links, RootFits, RootsFit, Kin, Kids}
 use Rattle.table.proofs.FindLaws.{both, pair, orl, orr, same, highest-bound, highest-passes, highest-hit}
-use Rattle.table.proofs.Tests.{true-T}
 use Rattle.table.proofs.Passed.{in-range}
 use Rattle.table.proofs.Loops.{highest-more, blank-at}
 use Rattle.table.proofs.Links.{namer-names, link}
-use Rattle.table.proofs.Family.{parent-lower, parent-top, parent-down, parent-along, parent-first, parent-next, first-node, next-node}
+use Rattle.table.proofs.Family.{parent-top, parent-down, parent-along, parent-first, parent-next, first-node, next-node}
 use Rattle.table.proofs.Tree.{chain-none, chain-some}
 use Rattle.table.proofs.HandLaws.{rank-step, kin-here}
 use Rattle.table.proofs.HandSteps.{handed-link, still-named, next-on, first-on}
@@ -219,7 +218,8 @@ module _ (t kin kids : List ℕ) (h : LinkedTo t (nodes t) kin kids) (rf : Roots
     roots = λ f i. in-range 1 (nodes t) (root t f) (rf f (i .0) (i .1) .inside);
     links = λ n i. let o = h .on n (i .0) (i .1) in
         four (forward t n (first t n)) (forward t n (next t n)) (eqb (mentions t n) 1)
-        (eqb (rootOf t n) 0 || eqb (next t n) 0) (o .0) (o .1) (same (mentions t n) 1 (h .handed .once n i (h .named n (i .0) (i .1)))) (ends n (ℕ-discrete (rootOf t n) 0));
+        (eqb (rootOf t n) 0 || eqb (next t n) 0) (o .0) (o .1) (same (mentions t n) 1 (h .handed .once n i (h .named n (i .0) (i .1))))
+        (ends n (ℕ-discrete (rootOf t n) 0));
   }
     where
       four : (a b c d : Bool) → T a → T b → T c → T d → T (a && b && c && d)

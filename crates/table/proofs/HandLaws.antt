@@ -1,24 +1,24 @@
 -- kin handed from node to node: what a root or a link hands on, and that nothing is handed twice
 use Prim.Native.Nat.{ℕ, zero, suc, _+_, _-_, _*_, _%_, _/_, _≤_, _<_}
 use mathlib.Core.Bool.{Bool, true, false, _&&_, _||_}
-use mathlib.Core.Path.{_≡_, refl, sym, ap, ap₂, _∙_}
+use mathlib.Core.Path.{_≡_, refl, sym, ap, _∙_}
 use mathlib.Core.List.{List}
 use native.Mathlib.Omega.{arith}
 use native.Mathlib.Decide.{ℕ-discrete}
-use lib.Dec.{eqb, ltb}
-use lib.ListN.{length, getD, set, replicate, length-set, length-replicate}
+use lib.Dec.{eqb}
+use lib.ListN.{length, getD, set, length-set}
 use lib.Seq.{getD-set-same, getD-set-other}
-use borrow.Author.Tests.{eq-eqb, ne-eqb, lt-ltb, le-ltb}
+use borrow.Author.Tests.{eq-eqb, ne-eqb, le-ltb}
 use Rattle.table.specs.Pick.{pick}
 use Rattle.table.specs.Bytes.{functions, nodes, root, first, next}
-use Rattle.table.specs.Find.{one, total, highest, back}
-use Rattle.table.specs.Naming.{mentions, rootOf, names, namer, owner, parent}
+use Rattle.table.specs.Find.{highest}
+use Rattle.table.specs.Naming.{rootOf, names, namer, owner, parent}
 use Rattle.table.specs.Working.{IsNode, Framed, Kindred}
-use Rattle.table.specs.Sweep.{rank, kinOf, handed, rootKin, kinTo, mentionsTo, Kin, hand}
+use Rattle.table.specs.Sweep.{rank, kinOf, handed, rootKin, kinTo, Kin, hand}
 use Rattle.table.proofs.FindLaws.{highest-bound, back-step}
 use Rattle.table.proofs.Links.{namer-lower}
 use Rattle.table.proofs.Family.{owner-step, owner-top, owner-down, parent-step, parent-lower}
-use Rattle.table.proofs.Loops.{total-more, highest-more, blank-at}
+use Rattle.table.proofs.Loops.{highest-more}
 
 -- a search that finds nothing more
 highest-on : (p : ℕ → Bool) (d k : ℕ) → ((i : ℕ) → k < i → p i ≡ false) → highest p (d + k) ≡ highest p k
@@ -136,7 +136,17 @@ module _ (t : List ℕ) (fr : Framed t) (n : ℕ) (i : IsNode t n) (w : ℕ) (e 
 
   pub kin-small : w < 67108864
   unfolding kinOf
-  kin-small = omega (arith, e, owner-small t n n (omega arith) (i .0), fr .F-high, parent-lower t n (i .0), i .1, fr .N-high, rank-small t n n (omega arith) (i .0))
+  kin-small = omega (
+    arith,
+    e,
+    owner-small t n n (omega arith) (i .0),
+    fr .F-high,
+    parent-lower t n
+        (i .0),
+    i .1,
+    fr .N-high,
+    rank-small t n n (omega arith) (i .0),
+  )
 
 -- an array of kin after x was handed to v
 module _ (kin : List ℕ) (v x : ℕ) (size : length kin ≡ 513) (room : v < 513) where

@@ -1,21 +1,20 @@
 -- the loops that hand kin on, turn by turn, and what holds once they have gone through
-use Prim.Native.Nat.{ℕ, _+_, _*_, _%_, _/_, _≤_, _<_}
+use Prim.Native.Nat.{ℕ, _+_, _*_, _≤_, _<_}
 use mathlib.Core.Bool.{Bool, true, false, _&&_, _||_}
 use mathlib.Core.Path.{_≡_, refl, sym, ap, ap₂, _∙_}
 use mathlib.Core.List.{List}
 use native.Mathlib.Omega.{arith}
 use native.Mathlib.Decide.{ℕ-discrete, decLe}
-use lib.Dec.{T, eqb, ltb, leb}
+use lib.Dec.{eqb, ltb}
 use lib.ListN.{length, getD, set, replicate, length-set, length-replicate}
 use lib.Seq.{getD-set-same, getD-set-other}
-use borrow.Author.Tests.{eq-eqb, ne-eqb, lt-ltb, le-leb}
+use borrow.Author.Tests.{eq-eqb, ne-eqb, lt-ltb}
 use Rattle.table.specs.Pick.{pick}
 use Rattle.table.specs.Bytes.{functions, nodes, root, first, next}
 use Rattle.table.specs.Find.{one, total, highest}
-use Rattle.table.specs.Naming.{mentions, rootOf, names, owner}
-use Rattle.table.specs.Check.{forward}
-use Rattle.table.specs.Working.{IsNode, IsFunction, Framed, Linked}
-use Rattle.table.specs.Sweep.{kinOf, handed, rootKin, kinTo, mentionsTo, Handed, hand, Links, RootsFit, Kin}
+use Rattle.table.specs.Naming.{names, owner}
+use Rattle.table.specs.Working.{IsNode, Framed}
+use Rattle.table.specs.Sweep.{kinOf, handed, rootKin, kinTo, mentionsTo, Handed, hand, Links}
 use Rattle.table.proofs.Loops.{total-more, highest-more, blank-at}
 use Rattle.table.proofs.HandLaws.{kin-here, kin-owner, kin-small, hand-size, hand-none, hand-at}
 
@@ -162,7 +161,13 @@ module _ (t kin kin′ : List ℕ) (fr : Framed t) (k : ℕ) (i : IsNode t (k + 
     where
       go : Dec (a ≡ u) → Dec (b ≡ u) → (ltb n u && (eqb a u || eqb b u)) ≡ (eqb a u || eqb b u)
       go (yes q) y = ap (λ x. x && (eqb a u || eqb b u)) (lt-ltb n u (omega (arith, q, j .0, first-on (λ z. omega (arith, z, q, j .0)))))
-      go (no p) (yes q) = ap (λ x. x && (eqb a u || eqb b u)) (lt-ltb n u (omega (arith, q, j .0, next-on (λ z. omega (arith, z, q, j .0)))))
+      go (no p) (yes q) = ap (λ x. x && (eqb a u || eqb b u)) (lt-ltb n u (omega (
+        arith,
+        q,
+        j .0,
+        next-on (λ z. omega
+            (arith, z, q, j .0)),
+      )))
       go (no p) (no q) = rw (ne-eqb a u p, ne-eqb b u q) (no-and (ltb n u))
         where
           no-and : (x : Bool) → (x && false) ≡ false
@@ -192,7 +197,8 @@ module _ (t kin kin′ : List ℕ) (fr : Framed t) (k : ℕ) (i : IsNode t (k + 
   pub handed-link : Handed t (functions t) n kin′
   handed-link = record {
     size = ap length (l .made) ∙ hand-size middle a _ (hand-size kin b _ (h .size) (inside b (l .next-in))) (inside a (l .first-in));
-    none = ap (λ x. getD x 0 0) (l .made) ∙ hand-none middle a _ (hand-size kin b _ (h .size) (inside b (l .next-in))) (inside a (l .first-in));
+    none = ap (λ x. getD x 0 0) (l .made) ∙ hand-none middle a _ (hand-size kin b _ (h .size) (inside b (l .next-in))) (inside a
+        (l .first-in));
     told = λ u j. at u (j .0)
         ∙ ap₂ (λ x y. pick (eqb a u) (owner t n + 64 * n + 65536) (pick (eqb b u) (x + 65536) y)) own-kin (h .told u j)
         ∙ sym (kin-on u j);

@@ -89,7 +89,8 @@ pub record RecalledTo (t : List ℕ) (n : ℕ) (kin : List ℕ) : Type 0 where
 pub recalled-none : (t : List ℕ) → RecalledTo t 0 (replicate 513 0)
 recalled-none t = record { size = length-replicate {A = ℕ} 513 0; told = λ m a b. absurd (omega arith) }
 
-pub recalled-more : (t : List ℕ) (n : ℕ) (kin : List ℕ) → RecalledTo t n kin → n < 512 → (x y : ℕ) → x ≡ owner t (n + 1) → y ≡ parent t (n + 1)
+pub recalled-more : (t : List ℕ) (n : ℕ) (kin : List ℕ) → RecalledTo t n kin → n < 512 → (x y : ℕ) → x ≡ owner t (n + 1)
+    → y ≡ parent t (n + 1)
     → RecalledTo t (n + 1) (set kin (n + 1) (x + 64 * y))
 recalled-more t n kin h room x y ex ey = record {
   size = length-set kin (n + 1) _ ∙ h .size;
@@ -104,5 +105,14 @@ pub recalled-all : (t : List ℕ) (n : ℕ) (kin : List ℕ) → Framed t → Li
 recalled-all t n kin fr lk e h = record {
   size = h .size;
   owners = λ m i. omega (arith, h .told m (i .0) (omega (arith, i .1)), owner-in t lk m i .1, fr .F-high);
-  parents = λ m i. omega (arith, h .told m (i .0) (omega (arith, i .1)), owner-in t lk m i .1, fr .F-high, parent-lower t m (i .0), i .1, fr .N-high);
+  parents = λ m i. omega (
+    arith,
+    h .told m (i .0) (omega (arith, i .1)),
+    owner-in t lk m i .1,
+    fr .F-high,
+    parent-lower t m
+        (i .0),
+    i .1,
+    fr .N-high,
+  );
 }

@@ -183,7 +183,8 @@ unfolding countsOf
 counts-more k e p = go (ℕ-discrete k 4)
   where
     go : Dec (k ≡ 4)
-        → (countsOf k e p .low ≡ countsOf k e 0 .low + p * one (eqb k 4)) × (countsOf k e p .high ≡ countsOf k e 0 .high + p * one (eqb k 4))
+        → (countsOf k e p .low ≡ countsOf k e 0 .low + p * one (eqb k 4))
+        × (countsOf k e p .high ≡ countsOf k e 0 .high + p * one (eqb k 4))
     go (yes z) = rw z (omega arith, omega arith)
     go (no z) =
         let s = counts-by k e p 0 (λ y. absurd (z y)) in

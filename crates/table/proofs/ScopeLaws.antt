@@ -36,7 +36,8 @@ module _ (t : List ℕ) where
       go (yes z) f = nowhere a n z y
       go (no z) f =
           let i : 1 ≤ n = omega arith in
-          ⊎-elim (λ e. up i (subst (λ m. T (underLast t b m)) (sym (eqb→eq (parent t n) a (both (eqb (parent t n) a) (eqb (next t n) 0) e .0))) x))
+          ⊎-elim (λ e. up i (subst (λ m. T (underLast t b m)) (sym (eqb→eq (parent t n) a (both (eqb (parent t n) a) (eqb
+          (next t n) 0) e .0))) x))
           (λ u. up i (f (parent t n) (omega (arith, parent-lower t n i)) u))
           (either (eqb (parent t n) a && eqb (next t n) 0) (underLast t a (parent t n)) (subst T (under-step t a n i) y))
 
@@ -93,7 +94,12 @@ module _ (t : List ℕ) where
       pair (definiens t d) (underLast t (parent t d) n) of-let (subst (λ q. T (underLast t q n)) e u)
     where
       of-let : T (definiens t d)
-      of-let = rw (ne-eqb (parent t d) 0 (λ q. z (e ∙ q)), eq-eqb (kind t (parent t d)) 6 (ap (kind t) (sym e) ∙ k), ne-eqb (next t d) 0 l) tt
+      of-let = rw (
+        ne-eqb (parent t d) 0 (λ q. z (e ∙ q)),
+        eq-eqb (kind t (parent t d)) 6 (ap (kind t) (sym e)
+            ∙ k),
+        ne-eqb (next t d) 0 l,
+      ) tt
 
 -- a let among the four innermost
 pub one-of : (t : List ℕ) (n a b c d p : ℕ) → a ≡ around t n → b ≡ around t a → c ≡ around t b → d ≡ around t c

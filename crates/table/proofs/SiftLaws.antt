@@ -1,7 +1,7 @@
 -- what a node hands down: whether its children are in tail position, and what is around them
 use Prim.Native.Nat.{ℕ, zero, suc, _+_, _-_, _*_, _≤_, _<_}
 use mathlib.Core.Bool.{Bool, true, false, _&&_, _||_, not}
-use mathlib.Core.Path.{_≡_, refl, subst, sym, ap, ap₂, _∙_}
+use mathlib.Core.Path.{_≡_, refl, sym, ap, ap₂, _∙_}
 use mathlib.Core.List.{List}
 use native.Mathlib.Omega.{arith}
 use native.Mathlib.Decide.{ℕ-discrete}
@@ -10,7 +10,7 @@ use lib.ListN.{length}
 use borrow.Author.Tests.{eq-eqb, ne-eqb, le-leb, lt-leb}
 use Rattle.table.specs.Pick.{pick}
 use Rattle.table.specs.Find.{one, back, backBy}
-use Rattle.table.specs.Bytes.{nodes, kind, extra, word, params, first, next}
+use Rattle.table.specs.Bytes.{kind, extra, word, params, first, next}
 use Rattle.table.specs.Naming.{namer, owner, parent, tailChild, tail, chain, children}
 use Rattle.table.specs.Check.{countsOf, within, counted}
 use Rattle.table.specs.Working.{IsNode, Framed, Linked}
@@ -19,13 +19,14 @@ use Rattle.table.specs.declared.sweep.Sifting.{Sifting}
 use Rattle.table.proofs.CountLaws.{counts-by}
 use Rattle.table.proofs.FindLaws.{both, back-step}
 use Rattle.table.proofs.Tests.{true-T, and-no, and-yes}
-use Rattle.table.proofs.Links.{first-named, namer-names}
+use Rattle.table.proofs.Links.{first-named}
 use Rattle.table.proofs.Family.{parent-lower, parent-top, parent-down, parent-node, tail-top, tail-down}
 use Rattle.table.proofs.Tree.{chain-none, chain-some}
 use Rattle.table.proofs.HandLaws.{rank-step, rank-small}
 
 module _ (t : List ℕ) where
-  pub around-step : (n : ℕ) → 1 ≤ n → around t n ≡ pick (eqb (kind t (parent t n)) 6 && eqb (next t n) 0) (parent t n) (around t (parent t n))
+  pub around-step : (n : ℕ) → 1 ≤ n → around t n
+      ≡ pick (eqb (kind t (parent t n)) 6 && eqb (next t n) 0) (parent t n) (around t (parent t n))
   unfolding around
   around-step = back-step (parent t) (λ n r. pick (eqb (kind t (parent t n)) 6 && eqb (next t n) 0) (parent t n) r) 0 (parent-lower t)
 
@@ -81,7 +82,8 @@ module _ (t : List ℕ) where
   -- from where the children of n are in tail position
   pub from-told : (n r q : ℕ) → 1 ≤ n → r ≡ tailReach (kind t n) → q ≡ one (tail t n) → r + 2048 - 2048 * q ≡ tailFrom t n
   unfolding tailFrom
-  from-told n r q i er eq = rw (ne-eqb n 0 (λ z. omega (arith, z, i))) (ap₂ (λ x y. x + 2048 - 2048 * y) er eq ∙ go (tailReach (kind t n)) (tail t n))
+  from-told n r q i er eq = rw (ne-eqb n 0 (λ z. omega (arith, z, i))) (ap₂ (λ x y. x + 2048 - 2048 * y) er eq
+      ∙ go (tailReach (kind t n)) (tail t n))
     where
       go : (x : ℕ) (b : Bool) → x + 2048 - 2048 * one b ≡ x + pick b 0 2048
       go x true = omega arith
@@ -159,7 +161,8 @@ module _ (t : List ℕ) (fr : Framed t) (lk : Linked t) (n : ℕ) (i : IsNode t 
 
           branch : Dec (first t p ≡ n) → Dec (next t n ≡ 0) → leb 2 reach ≡ not (eqb (first t p) n) || false
           branch (yes f) (yes d) = absurd (omega (arith, three c a, only f d))
-          branch (yes f) (no d) = rw (eq-eqb (first t p) n f, ne-eqb (next t n) 0 d) (lt-leb 2 (rank t n + 0) (omega (arith, first-rank f z)))
+          branch (yes f) (no d) = rw (eq-eqb (first t p) n f, ne-eqb (next t n) 0 d) (lt-leb 2 (rank t n + 0) (omega
+              (arith, first-rank f z)))
           branch (no f) d = rw (ne-eqb (first t p) n f) (le-leb 2 reach (omega (arith, later-rank f z)))
       go (no a) (yes b) (yes d) = rw (ne-eqb (kind t p) 5 a, eq-eqb (kind t p) 6 b, eq-eqb (next t n) 0 d)
           (le-leb 1025 (rank t n + 1024) (omega (arith, rank-some t n (i .0))))

@@ -1,6 +1,5 @@
 -- all nodes sifted, turn by turn
-use Prim.Native.Nat.{ℕ, _+_, _*_, _≤_, _<_}
-use mathlib.Core.Bool.{Bool, true, false, not, _||_}
+use Prim.Native.Nat.{ℕ, _+_, _≤_, _<_}
 use mathlib.Core.Path.{_≡_, refl, subst, sym, ap, _∙_}
 use mathlib.Core.List.{List}
 use native.Mathlib.Omega.{arith}
@@ -10,11 +9,9 @@ use lib.ListN.{length, getD, set, replicate, length-set, length-replicate}
 use lib.Seq.{getD-set-same, getD-set-other}
 use borrow.Author.Tests.{eq-eqb, ne-eqb}
 use Rattle.table.specs.declared.sweep.Sifting.{Sifting}
-use Rattle.table.specs.Pick.{pick, Range}
+use Rattle.table.specs.Pick.{Range}
 use Rattle.table.specs.Find.{one}
-use Rattle.table.specs.Bytes.{nodes, kind, word}
-use Rattle.table.specs.Naming.{inScope}
-use Rattle.table.specs.Working.{IsNode, Framed}
+use Rattle.table.specs.Bytes.{nodes, kind}
 use Rattle.table.specs.Sweep.{around, inner, tailFrom, NodeFits, boundFits, BoundsTo, Sifts, Sifted}
 use Rattle.table.proofs.Loops.{blank-at}
 use Rattle.table.proofs.SiftLaws.{around-none, inner-none}
@@ -110,7 +107,8 @@ module _ (t : List ℕ) (k : ℕ) (bounds : List ℕ) (count : ℕ) (h : BoundsT
     where
       go : Dec (kind t (k + 1) ≡ 7) → BoundsTo t (k + 1) (set bounds count (k + 1)) (count + b)
       go (yes q) = subst (λ x. BoundsTo t (k + 1) (set bounds count (k + 1)) (count + x)) (sym (e ∙ ap one (eq-eqb _ 7 q))) (bounds-with q)
-      go (no q) = subst (λ x. BoundsTo t (k + 1) (set bounds count (k + 1)) (count + x)) (sym (e ∙ ap one (ne-eqb _ 7 q))) (bounds-without q)
+      go (no q) = subst (λ x. BoundsTo t (k + 1) (set bounds count (k + 1)) (count + x)) (sym (e
+          ∙ ap one (ne-eqb _ 7 q))) (bounds-without q)
 
 module _ (t : List ℕ) (k : ℕ) (outers inners froms bounds : List ℕ) (count : ℕ) (h : SiftedTo t k outers inners froms bounds count)
     (room : k < 512) (r : Sifting) (s : Sifts t (k + 1) r) where

@@ -16,7 +16,20 @@ use Rattle.table.specs.declared.Checked.the-variants.{Accepted, Refused}
 use Rattle.table.specs.Pick.{pick}
 use Rattle.table.specs.Bytes.{functions, nodes, root}
 use Rattle.table.specs.Find.{all, lowest}
-use Rattle.table.specs.Check.{among, Verdict, accepted, refused, stage, sizes, whole, rootFits, linked, recordFits, ifAccepted, checkOf}
+use Rattle.table.specs.Check.{
+  among,
+  Verdict,
+  accepted,
+  refused,
+  stage,
+  sizes,
+  whole,
+  rootFits,
+  linked,
+  recordFits,
+  ifAccepted,
+  checkOf,
+}
 use Rattle.table.specs.Working.{Framed, Linked, Taken, Cells, Kindred, Decides, Read, frameNumber, checkNodes, faultVerdict}
 use Rattle.table.specs.Survey.{verdictOf}
 use Rattle.table.specs.Decoded.{decodedInto, surveyed}

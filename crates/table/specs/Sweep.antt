@@ -1,4 +1,5 @@
--- what the parts of the sweep ask of each other: the sweep tells in three loops that a table is accepted, and leaves other tables to the check
+-- what the parts of the sweep ask of each other: the sweep tells in three loops that a table is accepted, and leaves other tables to the
+-- check
 use Prim.Native.Nat.{ℕ, _+_, _-_, _*_, _%_, _≤_, _<_}
 use mathlib.Core.Bool.{Bool, true, _&&_, _||_, not}
 use mathlib.Core.Path.{_≡_}

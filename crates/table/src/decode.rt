@@ -9,7 +9,17 @@ ghost use Prim.Native.Nat.{_+_, _*_, _/_, _%_, _<_};
 ghost use lib.ListN.{length};
 ghost use Rattle.table.specs.Naming.{owner, parent};
 ghost use Rattle.table.specs.Bytes.{twoAt, functions};
-ghost use Rattle.table.specs.Decoded.{putFields, nodeSlot, nodeField, functionSlot, functionField, tableSlot, tableField, functionsPut, decodedInto};
+ghost use Rattle.table.specs.Decoded.{
+  putFields,
+  nodeSlot,
+  nodeField,
+  functionSlot,
+  functionField,
+  tableSlot,
+  tableField,
+  functionsPut,
+  decodedInto,
+};
 ghost use Rattle.table.specs.Working.{Framed, IsFunction, At, Kindred};
 
 pub(crate) fn wide(x: u8) -> u16
@@ -44,7 +54,8 @@ pub(crate) fn sizes(table: &[u8], cells: &mut Cells)
 
 pub(crate) fn function(table: &[u8], f: Function, cells: &mut Cells)
     requires { ⌜ Framed (now table) × IsFunction (now table) (f .0) ⌝ }
-    ensures { λ _. ⌜ now (cells .exit) ≡ putFields 3 (functionSlot (f .0)) (functionField (now (table .entry)) (f .0)) (now (cells .entry)) ⌝ }
+    ensures { λ _. ⌜ now (cells .exit) ≡ putFields 3 (functionSlot (f .0)) (functionField (now (table .entry)) (f .0)) (now
+        (cells .entry)) ⌝ }
 {
     let at = 4 * (f.0 as usize);
     let slot = decoded::function_slot(f);

@@ -6,6 +6,7 @@ mod frame;
 mod kin;
 mod kinds;
 mod linking;
+mod lookup;
 mod names;
 pub mod read;
 mod records;
@@ -44,7 +45,8 @@ pub fn check(table: &[u8]) -> Checked
 
 // The check, and an accepted table decoded into lent cells, with each node's function and parent; refused, they stay as they are.
 pub fn survey(table: &[u8], cells: &mut [u16; 4360]) -> Checked
-    ensures { λ r. ⌜ (verdictOf r ≡ checkOf (now (table .entry))) × (now (cells .exit) ≡ surveyed (now (table .entry)) (now (cells .entry))) ⌝ }
+    ensures { λ r. ⌜ (verdictOf r ≡ checkOf (now (table .entry)))
+        × (now (cells .exit) ≡ surveyed (now (table .entry)) (now (cells .entry))) ⌝ }
 {
     let mut kin = [0u32; 513];
     let checked = decide(table, &mut kin);

@@ -1,19 +1,19 @@
-// What a node's kind asks of it, node by node. Rules are looked up and not branched on: the kinds of neighbouring nodes are hard to foresee.
+// What a node's kind asks of it, node by node, without a branch on the kind.
 use crate::Function;
 use crate::Node;
 use crate::frame;
+use crate::lookup;
 use crate::records;
 ghost use mathlib.Core.Path.{_≡_};
 ghost use mathlib.Core.Bool.{true, false};
-ghost use Prim.Native.Nat.{_+_, _*_, _≤_, _<_};
+ghost use Prim.Native.Nat.{_≤_, _<_};
 ghost use lib.Dec.{eqb, leb};
-ghost use lib.ListN.{getD, replicate};
+ghost use lib.ListN.{replicate};
 ghost use Rattle.table.specs.Pick.{pick};
 ghost use Rattle.table.specs.Find.{one};
-ghost use Rattle.table.specs.Bytes.{functions, nodes, params};
-ghost use Rattle.table.specs.Check.{countsOf, within};
+ghost use Rattle.table.specs.Bytes.{functions, params};
 ghost use Rattle.table.specs.Working.{Framed, IsFunction, Linked};
-ghost use Rattle.table.specs.Sweep.{kindRules, wordRules, countRules, Fits, Sifts, SiftedBy, RootsFit, Kin, Kids};
+ghost use Rattle.table.specs.Sweep.{kindRules, wordRules, countRules, Sifts, SiftedBy, RootsFit, Kin, Kids};
 ghost use Rattle.table.specs.Sweep.{Siftable, Down};
 
 // A node sifted, in numbers that specs/Sweep names.
@@ -31,240 +31,6 @@ pub enum Residue {
     Failed,
 }
 
-const KINDS: [u16; 64] = [
-    0,
-    0,
-    0,
-    2048,
-    0,
-    0,
-    0,
-    0,
-    1,
-    0,
-    0,
-    2048,
-    0,
-    0,
-    0,
-    0,
-    0,
-    1,
-    0,
-    2048,
-    0,
-    0,
-    0,
-    0,
-    11,
-    0,
-    0,
-    2048,
-    0,
-    0,
-    0,
-    0,
-    1,
-    0,
-    1,
-    2048,
-    0,
-    0,
-    0,
-    0,
-    1,
-    0,
-    0,
-    2,
-    0,
-    0,
-    0,
-    0,
-    1,
-    0,
-    0,
-    1025,
-    0,
-    1,
-    0,
-    0,
-    1,
-    0,
-    0,
-    2048,
-    1,
-    0,
-    0,
-    0,
-];
-
-const WORDS: [u64; 8] = [0, 4294967295, 0, 0, 0, 0, 0, 4294967295];
-
-const COUNTS: [u16; 128] = [
-    0,
-    0,
-    0,
-    0,
-    0,
-    0,
-    0,
-    0,
-    0,
-    0,
-    0,
-    0,
-    0,
-    0,
-    0,
-    0,
-    0,
-    0,
-    0,
-    0,
-    0,
-    0,
-    0,
-    0,
-    0,
-    0,
-    0,
-    0,
-    0,
-    0,
-    0,
-    0,
-    0,
-    0,
-    0,
-    0,
-    0,
-    0,
-    0,
-    0,
-    0,
-    0,
-    0,
-    0,
-    0,
-    0,
-    0,
-    0,
-    514,
-    514,
-    514,
-    514,
-    514,
-    257,
-    257,
-    257,
-    514,
-    514,
-    2049,
-    0,
-    0,
-    0,
-    0,
-    0,
-    0,
-    0,
-    0,
-    0,
-    0,
-    0,
-    0,
-    0,
-    0,
-    0,
-    0,
-    0,
-    0,
-    0,
-    0,
-    0,
-    771,
-    771,
-    771,
-    771,
-    771,
-    771,
-    771,
-    771,
-    771,
-    771,
-    771,
-    771,
-    771,
-    771,
-    771,
-    771,
-    2306,
-    2306,
-    2306,
-    2306,
-    2306,
-    2306,
-    2306,
-    2306,
-    2306,
-    2306,
-    2306,
-    2306,
-    2306,
-    2306,
-    2306,
-    2306,
-    0,
-    0,
-    0,
-    0,
-    0,
-    0,
-    0,
-    0,
-    0,
-    0,
-    0,
-    0,
-    0,
-    0,
-    0,
-    0,
-];
-
-fn rule(rules: &[u16; 64], kind: u16, j: usize) -> u16
-    requires { ⌜ (now rules ≡ kindRules) × (kind < 8) × (j < 8) ⌝ }
-    ensures { λ r. ⌜ r ≡ getD kindRules (8 * kind + j) 0 ⌝ }
-{
-    let k = kind as usize;
-    rules[8 * k + j]
-}
-
-// Extra, word, and 6, 8 and 9 for calls and parameters, of a node of function `owner`, which has `own` parameters.
-fn kind_fits(
-    rules: &[u16; 64],
-    words: &[u64; 8],
-    kind: u16,
-    extra: u16,
-    word: u32,
-    owner: u16,
-    own: u16,
-    tail: u16,
-) -> bool
-    requires { ⌜ (now rules ≡ kindRules) × (now words ≡ wordRules) × (kind < 8) × (1 ≤ owner) × (owner ≤ 32) × (own ≤ 8) × (tail ≤ 1) ⌝ }
-    ensures { λ r. ⌜ (r ≡ true → Fits kind extra word owner own tail) ⌝ }
-{
-    let below = own * rule(rules, kind, 1) + rule(rules, kind, 0);
-    if below <= extra {
-        return false;
-    }
-    let call = rule(rules, kind, 2);
-    if word < (call as u32) {
-        return false;
-    }
-    let most = ((owner + tail - 1) as u64) * (call as u64) + words[kind as usize];
-    (word as u64) <= most
-}
-
 // The parameters of a call's callee; of what is no call, anything.
 fn arguments(table: &[u8], call: u16, word: u32) -> u16
     requires { ⌜ Framed (now table) × (call ≤ 1) × (call ≡ 1 → IsFunction (now table) word) ⌝ }
@@ -272,22 +38,6 @@ fn arguments(table: &[u8], call: u16, word: u32) -> u16
 {
     let at = (call as usize) * (4 * (word as usize));
     crate::decode::wide(table[at])
-}
-
-// 7: as many children as kind and operation allow.
-fn counted(counts: &[u16; 128], kind: u16, extra: u16, call: u16, params: u16, kids: u16) -> bool
-    requires { ⌜ (now counts ≡ countRules) × (kind < 8) × (extra < 16) × (call ≡ one (eqb kind 4))
-        × (call ≡ 1 → params ≤ 8) ⌝ }
-    ensures { λ r. ⌜ r ≡ within (countsOf kind extra params) kids ⌝ }
-{
-    let at = 16 * (kind as usize) + (extra as usize);
-    let c = counts[at];
-    let more = params * call;
-    if kids < c % 256 + more {
-        false
-    } else {
-        kids <= c / 256 + more
-    }
 }
 
 // What a last child has more.
@@ -328,9 +78,9 @@ fn hand_down(rules: &[u16; 64], kind: u16, n: Node, scope: u16, tail: u16) -> Si
     requires { ⌜ (now rules ≡ kindRules) × (kind < 8) × (scope ≤ n .0) × (tail ≤ 1) ⌝ }
     ensures { λ r. ⌜ Down kind (n .0) scope tail r ⌝ }
 {
-    let inner = scope + (n.0 - scope) * rule(rules, kind, 5);
-    let from = rule(rules, kind, 3) + 2048 - 2048 * tail;
-    let bound = rule(rules, kind, 4);
+    let inner = scope + (n.0 - scope) * lookup::rule(rules, kind, 5);
+    let from = lookup::rule(rules, kind, 3) + 2048 - 2048 * tail;
+    let bound = lookup::rule(rules, kind, 4);
     Sifting {
         passed: true,
         outer: scope,
@@ -369,12 +119,12 @@ fn node(
     let rank = (own / 65536) as u16;
     let tail = tail_at(from, rank + ending(next));
     let params = records::params(table, Function(owner));
-    if !kind_fits(rules, words, kind, extra, word, owner, params, tail) {
+    if !lookup::kind_fits(rules, words, kind, extra, word, owner, params, tail) {
         return failed();
     }
-    let call = rule(rules, kind, 2);
+    let call = lookup::rule(rules, kind, 2);
     let args = arguments(table, call, word);
-    if !counted(counts, kind, extra, call, args, kids) {
+    if !lookup::counted(counts, kind, extra, call, args, kids) {
         return failed();
     }
     hand_down(rules, kind, n, scope_at(inner, outer, next), tail)
@@ -393,9 +143,9 @@ pub(crate) fn sift(
         × Kids (now table) (now kids) × (now outers ≡ replicate 513 0) × (now inners ≡ replicate 513 0) × (now bounds ≡ replicate 513 0) ⌝ }
     ensures { λ r. ⌜ SiftedBy (now (table .entry)) (now (outers .exit)) (now (inners .exit)) (now (bounds .exit)) r ⌝ }
 {
-    let rules = KINDS;
-    let words = WORDS;
-    let counts = COUNTS;
+    let rules = lookup::KINDS;
+    let words = lookup::WORDS;
+    let counts = lookup::COUNTS;
     let base = frame::base(table);
     let end = frame::last_node(table).0;
     let mut froms = [0u16; 513];

@@ -7,7 +7,6 @@ use borrow.Author.Needs.{needs}
 use Rattle.table.proofs.decide.Statement.{statement}
 use Rattle.table.proofs.decide.Tie as tie
 
--- src/lib.rt:65:9
 -- the sizes are right
 frames : (c : tie.Else1) → let s : tie.Start = search in Framed (s .args .table .now)
 frames c =
@@ -17,27 +16,22 @@ frames c =
 number-requires : tie.Need-number-requires
 number-requires c κs = search needs
 
--- src/lib.rt:67:9
 returns : tie.Need-returns
 returns c =
     let told : tie.After-number = search in
     refuses _ _ _ _ (frame-refused _ _ (told .number .ensures) (c .if1 .taken))
 
--- src/lib.rt:69:8
 passes-requires : tie.Need-passes-requires
 passes-requires c κs =
     let s : tie.Start = search in
     (frames (search), s .pre)
 
--- src/lib.rt:70:34
 last-function-requires : tie.Need-last-function-requires
 last-function-requires c κs = frames (search)
 
--- src/lib.rt:70:63
 last-node-requires : tie.Need-last-node-requires
 last-node-requires c κs = frames (search)
 
--- src/lib.rt:70:9
 returns-2 : tie.Need-returns-2
 returns-2 c =
     let p : tie.After-passes = search in
@@ -47,11 +41,9 @@ returns-2 c =
     let h = p .passes .ensures (yes .if2 .taken) in
     accepts _ _ _ _ (h .0) (main .last-function .ensures) (last .last-node .ensures) (kindred _ _ (frames (search)) (h .1))
 
--- src/lib.rt:72:5
 inspect-requires : tie.Need-inspect-requires
 inspect-requires c κs = frames (search)
 
--- src/lib.rt:61:1
 returns-3 : tie.Need-returns-3
 returns-3 c = search needs
 

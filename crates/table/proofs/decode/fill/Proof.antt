@@ -90,9 +90,11 @@ loop-again c =
     let t : Turn = search in
     let one : tie.After-whole Inv-loop μ-loop = search in
     let e = s t .args .table .now in
-    let n = l t .loop .n in
-    (omega (arith, t .loop-test .taken), l t .loop .inv .1,
-    one .whole .ensures ∙ ap (putFields 8 (nodeSlot (n + 1)) (nodeField e (n + 1))) (l t .loop .inv .2) ∙ sym (nodes-more e n _))
+    let n = l t .loop .n in (
+      omega (arith, t .loop-test .taken),
+      l t .loop .inv .1,
+      one .whole .ensures ∙ ap (putFields 8 (nodeSlot (n + 1)) (nodeField e (n + 1))) (l t .loop .inv .2) ∙ sym (nodes-more e n _),
+    )
 
 returns : tie.Need-returns Inv-loop μ-loop
 unfolding decodedInto

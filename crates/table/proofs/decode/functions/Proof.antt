@@ -50,10 +50,12 @@ loop-again c =
     let l : Head = search in
     let t : Turn = search in
     let one : tie.After-function Inv-loop μ-loop = search in
-    let e = s .args .table .now in
-    (omega (arith, t .loop-test .taken), l .loop .inv .1,
-    one .function .ensures ∙ ap (putFields 3 (functionSlot (l .loop .f + 1)) (functionField e (l .loop .f + 1))) (l .loop .inv .2)
-    ∙ sym (functions-more e (l .loop .f) (s .args .cells .now)))
+    let e = s .args .table .now in (
+      omega (arith, t .loop-test .taken),
+      l .loop .inv .1,
+      one .function .ensures ∙ ap (putFields 3 (functionSlot (l .loop .f + 1)) (functionField e (l .loop .f + 1))) (l .loop .inv .2)
+          ∙ sym (functions-more e (l .loop .f) (s .args .cells .now)),
+    )
 
 returns : tie.Need-returns Inv-loop μ-loop
 returns c =

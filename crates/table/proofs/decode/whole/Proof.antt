@@ -28,7 +28,8 @@ returns c =
     let slot : tie.After-node-slot = search in
     let six : tie.After-node = search in
     let own : tie.After-put = search in
-    whole-put _ _ _ _ _ _ _ _ _ (slot .node-slot .ensures .0) (six .node .ensures) (own .put .ensures) (s .pre .1) (c .put2 .ensures) (s .pre .2)
+    whole-put _ _ _ _ _ _ _ _ _ (slot .node-slot .ensures .0) (six .node .ensures) (own .put .ensures) (s .pre .1) (c .put2 .ensures)
+    (s .pre .2)
 
 pub whole-spec : {M : Type 1} → statement M
 whole-spec =

@@ -99,9 +99,11 @@ loop-less c = omega arith
 loop-again : tie.Need-loop-again Inv-loop μ-loop
 loop-again c =
     let r : Read = search in
-    let t = turn r in
-    (omega (arith, t .loop-test .taken), l t .loop .inv .1,
-    recalled-more _ _ _ (l t .loop .inv .2) (omega (arith, node t .1, s t .pre .0 .N-high)) _ _ (owned r) (held r))
+    let t = turn r in (
+      omega (arith, t .loop-test .taken),
+      l t .loop .inv .1,
+      recalled-more _ _ _ (l t .loop .inv .2) (omega (arith, node t .1, s t .pre .0 .N-high)) _ _ (owned r) (held r),
+    )
 
 returns : tie.Need-returns Inv-loop μ-loop
 returns c =

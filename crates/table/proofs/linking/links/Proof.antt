@@ -121,7 +121,14 @@ element-write-kids : tie.Need-element-write-kids Inv-loop μ-loop
 element-write-kids c =
     let h : Handing = search in
     let t = turn h in
-    omega (arith, kin-parent _ (s t .pre .0) _ (node t) _ (own h), parent-lower (s t .args .table .now) (l t .loop .n + 1) (node t .0), node t .1, s t .pre .0 .N-high)
+    omega (
+      arith,
+      kin-parent _ (s t .pre .0) _ (node t) _ (own h),
+      parent-lower (s t .args .table .now) (l t .loop .n + 1)
+          (node t .0),
+      node t .1,
+      s t .pre .0 .N-high,
+    )
 
 loop-less : tie.Need-loop-less Inv-loop μ-loop
 loop-less c = omega arith

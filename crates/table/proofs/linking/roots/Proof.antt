@@ -66,7 +66,8 @@ node c =
 inside : (c : Root) → c .root .result .0 < 513
 inside c = omega (arith, node c .1, s (turn c) .pre .0 .N-high)
 
-fit : (c : Root) (g : ℕ) → 1 ≤ g → g ≤ l (turn c) .loop .f + 1 → Dec (g ≡ l (turn c) .loop .f + 1) → RootFits (s (turn c) .args .table .now) g
+fit : (c : Root) (g : ℕ) → 1 ≤ g → g ≤ l (turn c) .loop .f + 1 → Dec (g ≡ l (turn c) .loop .f + 1)
+    → RootFits (s (turn c) .args .table .now) g
 fit c g a b (yes e) = rw e (fits c)
 fit c g a b (no e) = l (turn c) .loop .inv .2 g a (omega arith)
 

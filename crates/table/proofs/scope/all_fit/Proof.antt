@@ -83,8 +83,12 @@ loop-again c =
     let t : Turn = search in
     let f : tie.After-bound-fits Inv-loop μ-loop = search in
     let p : tie.Else1 Inv-loop μ-loop = search in
-    let here = bound-in (s t .args .table .now) (getD (s t .args .bounds .now) (l t .loop .i) 0) (f .bound-fits .ensures (not-false _ (p .if1 .left))) in
-    (omega (arith, t .loop-test .taken), λ j h. one-more (s t .args .table .now) (s t .args .bounds .now) (l t .loop .i) here (l t .loop .inv .1) j h)
+    let here = bound-in (s t .args .table .now) (getD (s t .args .bounds .now) (l t .loop .i) 0) (f .bound-fits .ensures (not-false _
+    (p .if1 .left))) in (
+      omega (arith, t .loop-test .taken),
+      λ j h. one-more (s t .args .table .now) (s t .args .bounds .now) (l t .loop .i) here
+          (l t .loop .inv .1) j h,
+    )
 
 returns-2 : tie.Need-returns-2 Inv-loop μ-loop
 returns-2 c e n i =

@@ -1,6 +1,5 @@
 -- `scope::climbs` meets its contract. The invariant: what is in the body of `from` is in that of a. The measure is a, which falls.
 use native.Mathlib.Omega.{arith}
-use borrow.Author.Needs.{needs}
 use borrow.Author.Tests.{eqb-true}
 use Prim.Native.Nat.{_≤_}
 use mathlib.Core.Path.{subst}

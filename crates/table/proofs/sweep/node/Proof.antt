@@ -40,7 +40,8 @@ module _ (c : Read) where
   abbrev words : tie.After-word
   words = search
 
-  abbrev node : Siftable (s .args .table .now) (s .args .base) (s .args .n .0) (s .args .own) (s .args .kids) (s .args .from) (s .args .inner) (s .args .outer)
+  abbrev node : Siftable (s .args .table .now) (s .args .base) (s .args .n .0) (s .args .own) (s .args .kids) (s .args .from)
+      (s .args .inner) (s .args .outer)
   node = s .pre .0
 
   is : IsNode (s .args .table .now) (s .args .n .0)
@@ -56,7 +57,13 @@ module _ (c : Read) where
   ranks = kin-rank _ (node .place .framed) _ is _ (node .kin)
 
   ranked : rank (s .args .table .now) (s .args .n .0) ≤ 512
-  ranked = omega (arith, rank-small (s .args .table .now) (s .args .n .0) (s .args .n .0) (omega arith) (is .0), is .1, node .place .framed .N-high)
+  ranked = omega (
+    arith,
+    rank-small (s .args .table .now) (s .args .n .0) (s .args .n .0) (omega arith)
+        (is .0),
+    is .1,
+    node .place .framed .N-high,
+  )
 
   function : IsFunction (s .args .table .now) (s .args .own % 64)
   function = rw owns (owner-in _ (node .links) _ is)
@@ -102,7 +109,8 @@ abbrev passed : Called → tie.Else2
 passed c = search
 
 fits : (k : Called) → let p = fitting k in let r = read p in
-    Fits (of r .kind .result) (extras r .extra .result) (words r .word .result) (s r .args .own % 64) (p .params .result) (tails p .tail-at .result)
+    Fits (of r .kind .result) (extras r .extra .result) (words r .word .result) (s r .args .own % 64) (p .params .result)
+    (tails p .tail-at .result)
 fits k = fitted k .kind-fits .ensures (not-false _ (passed k .if2 .left))
 
 calls : (k : Called) → k .rule .result ≡ one (eqb (of (read (fitting k)) .kind .result) 4)

@@ -3,7 +3,7 @@
 use native.Mathlib.Omega.{arith}
 use borrow.Author.Needs.{needs}
 use borrow.Author.Tests.{not-false}
-use Prim.Native.Nat.{ℕ, _+_, _-_, _*_, _/_, _%_, _≤_, _<_}
+use Prim.Native.Nat.{ℕ, _+_, _-_, _/_, _%_, _≤_, _<_}
 use mathlib.Core.Path.{_≡_, refl, ap, _∙_}
 use mathlib.Core.List.{List}
 use lib.ListN.{getD}
@@ -148,7 +148,11 @@ node-requires c κs =
         roots = s t .pre .2;
         kin = kin t;
         children = s t .pre .4 .each _ (node t);
-        parent-counted = λ z. inv .fits (parent (table t) (n t)) (omega arith) (omega (arith, parent-lower (table t) (n t) (node t .0))) .counts;
+        parent-counted = λ z. inv .fits (parent (table t) (n t)) (omega arith) (omega (
+          arith,
+          parent-lower (table t) (n t)
+              (node t .0),
+        )) .counts;
         from-told = inv .from-told (own t / 64 % 1024) (omega (arith, p)) ∙ ap (tailFrom (table t)) (up t);
         inner-told = inv .inner-told (own t / 64 % 1024) (omega (arith, p)) ∙ ap (inner (table t)) (up t);
         outer-told = inv .outer-told (own t / 64 % 1024) (omega (arith, p)) ∙ ap (around (table t)) (up t);
@@ -203,8 +207,12 @@ loop-again : tie.Need-loop-again Inv-loop μ-loop
 loop-again c =
     let p : Passing = search in
     let t = turn p in
-    let inv = l t .loop .inv in
-    (omega (arith, node t .1, inv .1), inv .1, sifted-more _ _ _ _ _ _ _ (inv .2) (omega (arith, node t .1, s t .pre .0 .N-high)) _ (sifts p))
+    let inv = l t .loop .inv in (
+      omega (arith, node t .1, inv .1),
+      inv .1,
+      sifted-more _ _ _ _ _ _ _ (inv .2) (omega (arith, node t .1, s t .pre .0 .N-high)) _
+          (sifts p),
+    )
 
 returns-2 : tie.Need-returns-2 Inv-loop μ-loop
 returns-2 c =

@@ -1,4 +1,4 @@
--- `sweep::counted` meets its contract.
+-- `lookup::counted` meets its contract.
 use native.Mathlib.Omega.{arith}
 use Prim.Native.Nat.{ℕ, _+_, _*_, _/_, _%_, _≤_}
 use lib.ListN.{getD}
@@ -10,11 +10,12 @@ use Rattle.table.specs.Check.{countsOf, within}
 use Rattle.table.proofs.Tests.{first-fails, first-holds}
 use Rattle.table.proofs.RuleLaws.{one-most, flag-most, count-narrow, count-told}
 use borrow.Author.Needs.{needs}
-use Rattle.table.proofs.sweep.counted.Statement.{statement}
-use Rattle.table.proofs.sweep.counted.Tie as tie
+use Rattle.table.proofs.lookup.counted.Statement.{statement}
+use Rattle.table.proofs.lookup.counted.Tie as tie
 
 narrow : (s : tie.Start) → getD (s .args .counts .now) (16 * s .args .kind + s .args .extra) 0 / 256 ≤ 255
-narrow s = subst (λ l. getD l (16 * s .args .kind + s .args .extra) 0 / 256 ≤ 255) (sym (s .pre .0)) (count-narrow _ _ (s .pre .1) (s .pre .2))
+narrow s = subst (λ l. getD l (16 * s .args .kind + s .args .extra) 0 / 256 ≤ 255) (sym (s .pre .0)) (count-narrow _ _ (s .pre .1)
+    (s .pre .2))
 
 -- what was looked up is 7
 module _ (s : tie.Start) where

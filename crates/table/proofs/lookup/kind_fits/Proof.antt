@@ -1,4 +1,4 @@
--- `sweep::kind_fits` meets its contract: each test fails, or all are those of the kind.
+-- `lookup::kind_fits` meets its contract: each test fails, or all are those of the kind.
 use native.Mathlib.Omega.{arith}
 use Prim.Native.Nat.{_+_, _-_, _*_, _≤_}
 use mathlib.Core.Path.{ap, _∙_}
@@ -8,8 +8,8 @@ use borrow.Author.Tests.{leb-true}
 use Rattle.table.proofs.Tests.{never}
 use Rattle.table.proofs.RuleLaws.{rule-param, rule-below, rule-call, rule-word, one-most, flag-times, fits-told}
 use borrow.Author.Needs.{needs}
-use Rattle.table.proofs.sweep.kind_fits.Statement.{statement}
-use Rattle.table.proofs.sweep.kind_fits.Tie as tie
+use Rattle.table.proofs.lookup.kind_fits.Statement.{statement}
+use Rattle.table.proofs.lookup.kind_fits.Tie as tie
 
 -- what was looked up: a parameter or not, a call or not
 abbrev start : tie.After-rule → tie.Start
@@ -21,7 +21,8 @@ param p = flag-times _ _ (omega (arith, p .rule .ensures ∙ rule-param _ (start
 abbrev begin : tie.After-rule3 → tie.Start
 begin c = search
 
-call : (c : tie.After-rule3) → (let s = begin c in (s .args .owner + s .args .tail - 1) * c .rule3 .result ≤ s .args .owner + s .args .tail - 1)
+call : (c : tie.After-rule3) → (let s = begin c in
+    (s .args .owner + s .args .tail - 1) * c .rule3 .result ≤ s .args .owner + s .args .tail - 1)
 call c = flag-times _ _ (omega (arith, c .rule3 .ensures ∙ rule-call _ (begin c .pre .2), one-most (eqb (begin c .args .kind) 4)))
 
 rule-requires : tie.Need-rule-requires

@@ -1,10 +1,10 @@
--- `sweep::rule` meets its contract.
+-- `lookup::rule` meets its contract.
 use Prim.Native.Nat.{_+_, _*_}
 use mathlib.Core.Path.{ap}
 use lib.ListN.{getD}
 use borrow.Author.Needs.{needs}
-use Rattle.table.proofs.sweep.rule.Statement.{statement}
-use Rattle.table.proofs.sweep.rule.Tie as tie
+use Rattle.table.proofs.lookup.rule.Statement.{statement}
+use Rattle.table.proofs.lookup.rule.Tie as tie
 
 mul-result : tie.Need-mul-result
 mul-result c = search needs
