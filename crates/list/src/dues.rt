@@ -5,15 +5,15 @@ use table::Node;
 use table::decoded;
 use table::decoded::Cells;
 ghost use mathlib.Core.Path.{_≡_};
-ghost use mathlib.Core.Bool.{_&&_, _||_, not};
+ghost use mathlib.Core.Bool.{_&&_, _||_, not, true, false};
 ghost use Prim.Native.Nat.{_≤_, _<_};
 ghost use lib.Dec.{eqb};
-ghost use lib.ListN.{replicate};
+ghost use lib.ListN.{length, getD, replicate};
 ghost use Rattle.table.specs.Pick.{pick};
 ghost use Rattle.table.specs.Bytes.{functions, nodes};
 ghost use Rattle.table.specs.Find.{one};
 ghost use Rattle.table.specs.Working.{Read, Taken};
-ghost use Rattle.list.specs.Working.{Callees, Direct, Rows, SureTo, NeedsTo, Hands, HandedTo};
+ghost use Rattle.list.specs.Working.{Callees, Direct, twiceFrom, Words, SureTo, NeedsTo, Hands, HandedTo};
 
 // A choice of two places that are there: no branch.
 fn choose(first: bool, a: u16, b: u16) -> u16
@@ -61,21 +61,20 @@ fn defs_of(node: u16, kind: u16, first: u16, next: u16) -> u16
     choose(node == 0, 0, bound)
 }
 
-// What is due at each node from its parent, which is lower; and by function what is due at its calls.
+// What is due at each node from its parent, which is lower; and by function what is due at its calls. Of what `sure` has before, entry 0
+// alone is read.
 pub(crate) fn fill(
     table: &[u8],
     cells: &Cells,
     callees: &[u16; 513],
-    all: &[u32; 513],
     twice: &[u32; 513],
-    defs: &[u32; 513],
     pairs: &[u32; 513],
     sure: &mut [u32; 513],
     needs: &mut [u32; 64],
 )
     requires { ⌜ Read (now table) (now cells) × Callees (now table) (now callees)
-        × Rows (now table) 0 (now all) (now twice) (now defs) (now pairs) ⌝ }
-    requires { ⌜ (now sure ≡ replicate 513 0) × (now needs ≡ replicate 64 0) ⌝ }
+        × Words (now table) (twiceFrom (now table) false) 0 (now twice) × Words (now table) (twiceFrom (now table) true) 0 (now pairs) ⌝ }
+    requires { ⌜ (length (now sure) ≡ 513) × (getD (now sure) 0 0 ≡ 0) × (now needs ≡ replicate 64 0) ⌝ }
     ensures { λ _. ⌜ SureTo (now (table .entry)) (nodes (now (table .entry))) (now (sure .exit))
         × NeedsTo (now (table .entry)) (now (sure .exit)) (nodes (now (table .entry))) (now (needs .exit)) ⌝ }
 {

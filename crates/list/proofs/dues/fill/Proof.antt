@@ -20,11 +20,11 @@ use Rattle.list.proofs.dues.fill.Statement.{statement}
 use Rattle.list.proofs.dues.fill.Tie as tie
 
 abbrev Inv-loop : tie.InvT-loop
-Inv-loop table cells callees all twice defs pairs sure₀ needs₀ last n₀ sure needs n =
+Inv-loop table cells callees twice pairs sure₀ needs₀ last n₀ sure needs n =
     (n ≤ nodes table) × SureTo table n sure × NeedsTo table sure n needs × (last ≡ nodes table)
 
 abbrev μ-loop : tie.MeasureT-loop
-μ-loop table cells callees all twice defs pairs sure₀ needs₀ last n₀ sure needs n = nodes table - n
+μ-loop table cells callees twice pairs sure₀ needs₀ last n₀ sure needs n = nodes table - n
 
 abbrev Turn : Type 0
 Turn = tie.In-loop Inv-loop μ-loop
@@ -123,7 +123,7 @@ met-read c h k =
     let f = side-first b in
     let u = turn (p f) in
     let pre = s u .pre .0 in
-    met-word _ (pre .0 .taken) _ (node u) _ _ _ _ (pre .2) _ _ _ _ h (parent-read (p f)) (kind-read kind-place) (first-read f)
+    met-word _ (pre .0 .taken) _ (node u) _ _ (pre .2) (pre .3) _ _ _ _ h (parent-read (p f)) (kind-read kind-place) (first-read f)
     (next-place .next .ensures ∙ pre .0 .told .node _ 5 (node u) (omega arith)) k _ _ (b .all-of .ensures) (c .defs-of .ensures)
 
 last-requires : tie.Need-last-requires Inv-loop μ-loop
@@ -135,8 +135,8 @@ loop-holds c =
     let read : tie.After-last Inv-loop μ-loop = search in
     let z = s .pre .1 in (
       omega arith,
-      rw (z .0) (sure-none _ (s .pre .0 .0 .taken)),
-      rw (z .1) (needs-none _ (s .pre .0 .0 .taken) _),
+      sure-none _ (s .pre .0 .0 .taken) _ (z .0) (z .1),
+      rw (z .2) (needs-none _ (s .pre .0 .0 .taken) _),
       read .last .ensures ∙ s .pre .0 .0 .told .own 1 (omega arith),
     )
 
