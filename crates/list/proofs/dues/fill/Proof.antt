@@ -95,7 +95,7 @@ module _ (c : tie.After-first Inv-loop μ-loop) where
 abbrev side-first : tie.After-all-of Inv-loop μ-loop → tie.After-first Inv-loop μ-loop
 side-first c = search
 
-side-room : (c : tie.After-all-of Inv-loop μ-loop) → c .all-of .result ≤ 512
+side-room : (c : tie.After-all-of Inv-loop μ-loop) → c .all-of .result .0 ≤ 512
 side-room c =
     let f = side-first c in
     let kinded : tie.After-kind Inv-loop μ-loop = search in
@@ -104,7 +104,7 @@ side-room c =
 abbrev bound-side : tie.After-defs-of Inv-loop μ-loop → tie.After-all-of Inv-loop μ-loop
 bound-side c = search
 
-bound-room : (c : tie.After-defs-of Inv-loop μ-loop) → c .defs-of .result ≤ 512
+bound-room : (c : tie.After-defs-of Inv-loop μ-loop) → c .defs-of .result .0 ≤ 512
 bound-room c =
     let f = side-first (bound-side c) in
     let kinded : tie.After-kind Inv-loop μ-loop = search in
@@ -114,7 +114,7 @@ bound-room c =
 -- what two of the nodes side by side with it call
 met-read : (c : tie.After-defs-of Inv-loop μ-loop) → let b = bound-side c in let u = turn (p (side-first b)) in
     (h : ℕ) → Callee h
-    → bitAt (bitOr (getD (s u .args .twice .now) (b .all-of .result) 0) (getD (s u .args .pairs .now) (c .defs-of .result) 0)) h
+    → bitAt (bitOr (getD (s u .args .twice .now) (b .all-of .result .0) 0) (getD (s u .args .pairs .now) (c .defs-of .result .0) 0)) h
     ≡ metAt (s u .args .table .now) (l u .loop .n + 1) h
 met-read c h k =
     let next-place : tie.After-next Inv-loop μ-loop = search in
