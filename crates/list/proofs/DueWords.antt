@@ -21,7 +21,7 @@ use Rattle.table.proofs.Links.{link}
 use Rattle.table.proofs.Family.{parent-lower, parent-node}
 use Rattle.list.specs.Arbiters.{anyUpTo}
 use Rattle.list.specs.Tags.{calleeOf}
-use Rattle.list.specs.Working.{bitAt, Callee, has, twiceIn, metBy, metAt, Rows, SureTo, dueTo}
+use Rattle.list.specs.Working.{bitAt, Callee, has, twiceIn, metBy, metAt, Words, twiceFrom, SureTo, dueTo}
 use Rattle.list.specs.Working.{NeedsTo}
 use Rattle.list.proofs.Truths.{or-no, or-swap, any-same, any-next}
 use Rattle.list.proofs.ArbiterFacts.{and-both}
@@ -115,15 +115,16 @@ module _ (t : List ℕ) (ok : Taken t) where
   defs-few p k c d i = place-few p c i (eqb k 6 && not (eqb d 0))
 
   -- what two of the nodes side by side with n call, from what was read of its parent
-  module _ (n : ℕ) (i : IsNode t n) (all twice defs pairs : List ℕ) (r : Rows t 0 all twice defs pairs) (p k c d h : ℕ)
+  module _ (n : ℕ) (i : IsNode t n) (twice pairs : List ℕ) (shared : Words t (twiceFrom t false) 0 twice)
+      (shared-defs : Words t (twiceFrom t true) 0 pairs) (p k c d h : ℕ)
       (up : p ≡ parent t n) (kinded : (p ≡ 0 → ⊥) → k ≡ kind t p) (linked : (p ≡ 0 → ⊥) → c ≡ first t p) (on : d ≡ next t n)
       (j : Callee h) where
     -- entry 0 has nothing
     twice-none : (x : ℕ) → x ≡ 0 → has twice x h ≡ false
-    twice-none x z = ap (λ y. bitAt y h) (ap (λ y. getD twice y 0) z ∙ r .shared .none) ∙ zero-bit h
+    twice-none x z = ap (λ y. bitAt y h) (ap (λ y. getD twice y 0) z ∙ shared .none) ∙ zero-bit h
 
     pairs-none : (x : ℕ) → x ≡ 0 → has pairs x h ≡ false
-    pairs-none x z = ap (λ y. bitAt y h) (ap (λ y. getD pairs y 0) z ∙ r .shared-defs .none) ∙ zero-bit h
+    pairs-none x z = ap (λ y. bitAt y h) (ap (λ y. getD pairs y 0) z ∙ shared-defs .none) ∙ zero-bit h
 
     module _ (z : p ≡ 0 → ⊥) where
       parent-there : IsNode t p
@@ -133,12 +134,12 @@ module _ (t : List ℕ) (ok : Taken t) where
       past y = let l = link t lk p parent-there .first-on y in (omega (arith, l .0), l .1)
 
       twice-here : has twice c h ≡ twiceIn t (exprsAt t (first t p)) h
-      twice-here = ap (λ y. has twice y h) (linked z) ∙ twice-link t ok 0 twice (r .shared) (first t p) past h j
+      twice-here = ap (λ y. has twice y h) (linked z) ∙ twice-link t ok 0 twice shared (first t p) past h j
 
       pairs-here : kind t p ≡ 6 → has pairs c h ≡ twiceIn t (defsAt t (first t p)) h
       pairs-here b =
           let l = past (first-of-let t ok p parent-there b) in
-          ap (λ y. has pairs y h) (linked z) ∙ r .shared-defs .each (first t p) h (l .0) (l .1) j
+          ap (λ y. has pairs y h) (linked z) ∙ shared-defs .each (first t p) h (l .0) (l .1) j
 
     side : (a b : Bool) (x y : Bool) → (a ≡ true → b ≡ false) → (a ≡ true → has twice c h ≡ x) → (b ≡ true → has pairs c h ≡ y)
         → has twice (pick a c 0) h || has pairs (pick b c 0) h ≡ pick a x (pick b y false)
@@ -180,8 +181,8 @@ module _ (t : List ℕ) (ok : Taken t) where
             ∙ sym (ap (λ b. pick b false (metBy t (eqb d 0) p h)) (ne-eqb p 0 z))
 
   -- node by node
-  pub sure-none : SureTo t 0 (replicate 513 0)
-  sure-none = record { size = refl; none = refl; each = λ n h a b c. absurd (omega (arith, a, b)) }
+  pub sure-none : (sure : List ℕ) → length sure ≡ 513 → getD sure 0 0 ≡ 0 → SureTo t 0 sure
+  sure-none sure l z = record { size = l; none = z; each = λ n h a b c. absurd (omega (arith, a, b)) }
 
   module _ (n : ℕ) (i : IsNode t (n + 1)) (sure : List ℕ) (own : ℕ) (w : SureTo t n sure) where
     room : n + 1 < length sure

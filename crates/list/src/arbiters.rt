@@ -23,7 +23,8 @@ pub(crate) fn arbiters(table: &[u8], cells: &Cells) -> [u8; 64]
     calls::collect(table, cells, &mut callees, &mut direct);
     let main = decoded::main(cells);
     let bodies = calls::bodies(table, &direct, main);
-    let mut all = [0u32; 513];
+    // first what the siblings from each node on call, then what is due at each node
+    let mut words = [0u32; 513];
     let mut twice = [0u32; 513];
     let mut defs = [0u32; 513];
     let mut pairs = [0u32; 513];
@@ -32,31 +33,28 @@ pub(crate) fn arbiters(table: &[u8], cells: &Cells) -> [u8; 64]
         cells,
         &callees,
         &bodies,
-        &mut all,
+        &mut words,
         &mut twice,
         &mut defs,
         &mut pairs,
     );
-    let mut sure = [0u32; 513];
     let mut needs = [0u32; 64];
     dues::fill(
         table,
         cells,
         &callees,
-        &all,
         &twice,
-        &defs,
         &pairs,
-        &mut sure,
+        &mut words,
         &mut needs,
     );
-    dues::hand_on(table, &direct, main, &sure, &mut needs);
+    dues::hand_on(table, &direct, main, &words, &mut needs);
     let last = decoded::last(cells).0;
     let mut found = [0u8; 64];
     let mut i: u16 = 0;
     while 8 * i < last {
         let at = i as usize;
-        found[at] = marked::byte(table, cells, &callees, &sure, &needs, i);
+        found[at] = marked::byte(table, cells, &callees, &words, &needs, i);
         i += 1;
     }
     found

@@ -14,13 +14,13 @@ ghost use Rattle.table.specs.Working.{Read, Taken};
 ghost use Rattle.list.specs.Working.{bitAt, Callees, Direct, Reaches, BodiesTo};
 
 // The function that a node calls; 0 for what is no call of another function.
-fn callee_of(kind: u16, word: u16, own: u16) -> u16
-    ensures { λ r. ⌜ r ≡ pick (eqb kind 4 && not (eqb word own)) word 0 ⌝ }
+fn callee_of(kind: u16, word: Function, own: Function) -> Function
+    ensures { λ r. ⌜ r .0 ≡ pick (eqb kind 4 && not (eqb (word .0) (own .0))) (word .0) 0 ⌝ }
 {
     if kind == 4 {
-        return if word == own { 0 } else { word };
+        return if word.0 == own.0 { Function(0) } else { word };
     }
-    0
+    Function(0)
 }
 
 // Fills in every node's callee and what every body calls. Bit 0, of what calls nothing, means nothing.
@@ -34,37 +34,37 @@ pub(crate) fn collect(table: &[u8], cells: &Cells, callees: &mut [u16; 513], dir
     while n < last {
         n += 1;
         let node = Node(n);
-        let own = decoded::owner(cells, node).0;
+        let own = decoded::owner(cells, node);
         let kind = decoded::kind(cells, node);
-        let word = decoded::callee(cells, node).0;
+        let word = decoded::callee(cells, node);
         let g = callee_of(kind, word, own);
         let at = n as usize;
-        callees[at] = g;
-        let f = own as usize;
+        callees[at] = g.0;
+        let f = own.0 as usize;
         let old = direct[f];
-        direct[f] = old | (1u32 << g);
+        direct[f] = old | (1u32 << g.0);
     }
 }
 
 // A word if another has function g, else none.
-pub(crate) fn if_has(mask: u32, g: u16, word: u32) -> u32
-    requires { ⌜ g ≤ 31 ⌝ }
-    ensures { λ r. ⌜ r ≡ pick (bitAt mask g) word 0 ⌝ }
+pub(crate) fn if_has(mask: u32, g: Function, word: u32) -> u32
+    requires { ⌜ g .0 ≤ 31 ⌝ }
+    ensures { λ r. ⌜ r ≡ pick (bitAt mask (g .0)) word 0 ⌝ }
 {
-    let y = mask >> g;
+    let y = mask >> g.0;
     if y & 1 == 1 { word } else { 0 }
 }
 
 // What those functions below f call that a word has.
-fn reached(mask: u32, bodies: &[u32; 33], f: u16) -> u32
-    requires { ⌜ f ≤ 32 ⌝ }
-    ensures { λ r. ⌜ Reaches mask (now (bodies .entry)) (f - 1) r ⌝ }
+fn reached(mask: u32, bodies: &[u32; 33], f: Function) -> u32
+    requires { ⌜ f .0 ≤ 32 ⌝ }
+    ensures { λ r. ⌜ Reaches mask (now (bodies .entry)) (f .0 - 1) r ⌝ }
 {
     let mut sum: u32 = 0;
     let mut g: u16 = 1;
-    while g < f {
+    while g < f.0 {
         let at = g as usize;
-        sum = sum | if_has(mask, g, bodies[at]);
+        sum = sum | if_has(mask, Function(g), bodies[at]);
         g += 1;
     }
     sum
@@ -79,7 +79,7 @@ pub(crate) fn bodies(table: &[u8], direct: &[u32; 33], main: Function) -> [u32; 
     let mut f: u16 = 1;
     while f < main.0 {
         let at = f as usize;
-        let below = reached(direct[at], &bodies, f);
+        let below = reached(direct[at], &bodies, Function(f));
         bodies[at] = below | (1u32 << f);
         f += 1;
     }

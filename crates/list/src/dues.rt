@@ -5,17 +5,17 @@ use table::Node;
 use table::decoded;
 use table::decoded::Cells;
 ghost use mathlib.Core.Path.{_≡_};
-ghost use mathlib.Core.Bool.{_&&_, _||_, not};
+ghost use mathlib.Core.Bool.{_&&_, _||_, not, true, false};
 ghost use Prim.Native.Nat.{_≤_, _<_};
 ghost use lib.Dec.{eqb};
-ghost use lib.ListN.{replicate};
+ghost use lib.ListN.{length, getD, replicate};
 ghost use Rattle.table.specs.Pick.{pick};
 ghost use Rattle.table.specs.Bytes.{functions, nodes};
 ghost use Rattle.table.specs.Find.{one};
 ghost use Rattle.table.specs.Working.{Read, Taken};
-ghost use Rattle.list.specs.Working.{Callees, Direct, Rows, SureTo, NeedsTo, Hands, HandedTo};
+ghost use Rattle.list.specs.Working.{Callees, Direct, twiceFrom, Words, SureTo, NeedsTo, Hands, HandedTo};
 
-// A choice of two places that are there: no branch.
+// A choice of two numbers that are there: no branch.
 fn choose(first: bool, a: u16, b: u16) -> u16
     ensures { λ r. ⌜ r ≡ pick first a b ⌝ }
 {
@@ -43,39 +43,38 @@ fn defs_side(kind: u16) -> u16
 }
 
 // The place of what two of a node's children call: its first child, if all are side by side. Entry 0, for no such node, has nothing.
-fn all_of(node: u16, kind: u16, first: u16) -> u16
-    requires { ⌜ ((node ≡ 0 → ⊥) → kind < 8) ⌝ }
-    ensures { λ r. ⌜ r ≡ pick (eqb node 0) 0 (pick (eqb kind 3 || eqb kind 4) first 0) ⌝ }
+fn all_of(node: Node, kind: u16, first: Node) -> Node
+    requires { ⌜ ((node .0 ≡ 0 → ⊥) → kind < 8) ⌝ }
+    ensures { λ r. ⌜ r .0 ≡ pick (eqb (node .0) 0) 0 (pick (eqb kind 3 || eqb kind 4) (first .0) 0) ⌝ }
 {
-    let side = first * all_side(kind % 8);
-    choose(node == 0, 0, side)
+    let side = first.0 * all_side(kind % 8);
+    Node(choose(node.0 == 0, 0, side))
 }
 
 // The same of a let, where the last child, its body, has no part.
-fn defs_of(node: u16, kind: u16, first: u16, next: u16) -> u16
-    requires { ⌜ ((node ≡ 0 → ⊥) → kind < 8) ⌝ }
-    ensures { λ r. ⌜ r ≡ pick (eqb node 0) 0 (pick (eqb kind 6 && not (eqb next 0)) first 0) ⌝ }
+fn defs_of(node: Node, kind: u16, first: Node, next: Node) -> Node
+    requires { ⌜ ((node .0 ≡ 0 → ⊥) → kind < 8) ⌝ }
+    ensures { λ r. ⌜ r .0 ≡ pick (eqb (node .0) 0) 0 (pick (eqb kind 6 && not (eqb (next .0) 0)) (first .0) 0) ⌝ }
 {
-    let other = choose(next == 0, 0, first);
+    let other = choose(next.0 == 0, 0, first.0);
     let bound = other * defs_side(kind % 8);
-    choose(node == 0, 0, bound)
+    Node(choose(node.0 == 0, 0, bound))
 }
 
-// What is due at each node from its parent, which is lower; and by function what is due at its calls.
+// What is due at each node from its parent, which is lower; and by function what is due at its calls. Of what `sure` has before, entry 0
+// alone is read.
 pub(crate) fn fill(
     table: &[u8],
     cells: &Cells,
     callees: &[u16; 513],
-    all: &[u32; 513],
     twice: &[u32; 513],
-    defs: &[u32; 513],
     pairs: &[u32; 513],
     sure: &mut [u32; 513],
     needs: &mut [u32; 64],
 )
     requires { ⌜ Read (now table) (now cells) × Callees (now table) (now callees)
-        × Rows (now table) 0 (now all) (now twice) (now defs) (now pairs) ⌝ }
-    requires { ⌜ (now sure ≡ replicate 513 0) × (now needs ≡ replicate 64 0) ⌝ }
+        × Words (now table) (twiceFrom (now table) false) 0 (now twice) × Words (now table) (twiceFrom (now table) true) 0 (now pairs) ⌝ }
+    requires { ⌜ (length (now sure) ≡ 513) × (getD (now sure) 0 0 ≡ 0) × (now needs ≡ replicate 64 0) ⌝ }
     ensures { λ _. ⌜ SureTo (now (table .entry)) (nodes (now (table .entry))) (now (sure .exit))
         × NeedsTo (now (table .entry)) (now (sure .exit)) (nodes (now (table .entry))) (now (needs .exit)) ⌝ }
 {
@@ -86,10 +85,10 @@ pub(crate) fn fill(
         let node = Node(n);
         let parent = decoded::parent(cells, node);
         let kind = decoded::kind(cells, parent);
-        let first = decoded::first(cells, parent).0;
-        let next = decoded::next(cells, node).0;
-        let side = all_of(parent.0, kind, first) as usize;
-        let bound = defs_of(parent.0, kind, first, next) as usize;
+        let first = decoded::first(cells, parent);
+        let next = decoded::next(cells, node);
+        let side = all_of(parent, kind, first).0 as usize;
+        let bound = defs_of(parent, kind, first, next).0 as usize;
         let met = twice[side] | pairs[bound];
         let from = parent.0 as usize;
         let own = sure[from] | met;
@@ -102,13 +101,13 @@ pub(crate) fn fill(
 }
 
 // What is due wherever one of the callers of g above it is called.
-fn handed(direct: &[u32; 33], needs: &[u32; 64], g: u16, main: u16) -> u32
-    requires { ⌜ (main ≤ 32) × (g ≤ main) ⌝ }
-    ensures { λ r. ⌜ Hands (now (direct .entry)) (now (needs .entry)) g main r ⌝ }
+fn handed(direct: &[u32; 33], needs: &[u32; 64], g: Function, main: Function) -> u32
+    requires { ⌜ (main .0 ≤ 32) × (g .0 ≤ main .0) ⌝ }
+    ensures { λ r. ⌜ Hands (now (direct .entry)) (now (needs .entry)) (g .0) (main .0) r ⌝ }
 {
     let mut sum: u32 = 0;
-    let mut f: u16 = g;
-    while f < main {
+    let mut f: u16 = g.0;
+    while f < main.0 {
         f += 1;
         let at = f as usize;
         sum = sum | calls::if_has(direct[at], g, needs[at]);
@@ -130,7 +129,7 @@ pub(crate) fn hand_on(
 {
     let mut g: u16 = main.0;
     while 0 < g {
-        let more = handed(direct, needs, g, main.0);
+        let more = handed(direct, needs, Function(g), main);
         let at = g as usize;
         let old = needs[at];
         needs[at] = old | more;

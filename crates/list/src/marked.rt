@@ -1,4 +1,5 @@
 // The listed calls as bits: a call is listed if its callee is due at its node, or wherever its function is called.
+use table::Function;
 use table::Node;
 use table::decoded;
 use table::decoded::Cells;
@@ -13,13 +14,13 @@ ghost use Rattle.list.specs.Tags.{listed, bitsFrom};
 ghost use Rattle.list.specs.Working.{Bit, Callees, SureTo, HandedTo};
 
 // Whether a word has function g, as a number; no word has 0.
-fn bit_of(g: u16, word: u32) -> u8
-    requires { ⌜ g ≤ 31 ⌝ }
-    ensures { λ r. ⌜ r ≡ pick (eqb g 0) 0 (word / 2 ^ g % 2) ⌝ }
+fn bit_of(g: Function, word: u32) -> u8
+    requires { ⌜ g .0 ≤ 31 ⌝ }
+    ensures { λ r. ⌜ r ≡ pick (eqb (g .0) 0) 0 (word / 2 ^ g .0 % 2) ⌝ }
 {
-    let y = word >> g;
+    let y = word >> g.0;
     let bit = (y & 1) as u8;
-    if g == 0 { 0 } else { bit }
+    if g.0 == 0 { 0 } else { bit }
 }
 
 // Whether node n is listed, as a number. Past the last node there is no callee, so that any function will do.
@@ -29,16 +30,16 @@ fn mark(
     callees: &[u16; 513],
     sure: &[u32; 513],
     needs: &[u32; 64],
-    n: u16,
+    n: Node,
 ) -> u8
     requires { ⌜ Read (now table) (now cells) × Callees (now table) (now callees) × SureTo (now table) (nodes (now table)) (now sure)
-        × HandedTo (now table) (now sure) 0 (now needs) × Bit n ⌝ }
-    ensures { λ r. ⌜ r ≡ one (listed (now (table .entry)) n) ⌝ }
+        × HandedTo (now table) (now sure) 0 (now needs) × Bit (n .0) ⌝ }
+    ensures { λ r. ⌜ r ≡ one (listed (now (table .entry)) (n .0)) ⌝ }
 {
-    let at = n as usize;
-    let g = callees[at];
-    let own = (decoded::owner(cells, Node(n)).0 % 64) as usize;
-    bit_of(g, sure[at] | needs[own])
+    let at = n.0 as usize;
+    let callee = callees[at];
+    let own = (decoded::owner(cells, n).0 % 64) as usize;
+    bit_of(Function(callee), sure[at] | needs[own])
 }
 
 // The eight nodes of byte i.
@@ -57,7 +58,8 @@ pub(crate) fn byte(
     let mut sum: u8 = 0;
     let mut k: u16 = 8;
     while 0 < k {
-        let bit = mark(table, cells, callees, sure, needs, 8 * i + k);
+        let n = 8 * i + k;
+        let bit = mark(table, cells, callees, sure, needs, Node(n));
         sum = 2 * sum + bit;
         k -= 1;
     }

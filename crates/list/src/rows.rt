@@ -12,10 +12,10 @@ ghost use Rattle.table.specs.Working.{Read};
 ghost use Rattle.list.specs.Working.{Callees, BodiesTo, Rows};
 
 // A word unless there is no next sibling.
-fn unless_last(next: u16, word: u32) -> u32
-    ensures { λ r. ⌜ r ≡ pick (eqb next 0) 0 word ⌝ }
+fn unless_last(next: Node, word: u32) -> u32
+    ensures { λ r. ⌜ r ≡ pick (eqb (next .0) 0) 0 word ⌝ }
 {
-    if next == 0 { 0 } else { word }
+    if next.0 == 0 { 0 } else { word }
 }
 
 // From the last node down: links go up. An absent link reads entry 0, which has nothing.
@@ -40,8 +40,8 @@ pub(crate) fn fill(
     while 0 < n {
         let node = Node(n);
         let first = decoded::first(cells, node).0 as usize;
-        let next = decoded::next(cells, node).0;
-        let on = next as usize;
+        let next = decoded::next(cells, node);
+        let on = next.0 as usize;
         let at = n as usize;
         let g = callees[at] as usize;
         let own = all[first] | bodies[g];

@@ -14,12 +14,12 @@ use Rattle.list.proofs.arbiters.arbiters.Statement.{statement}
 use Rattle.list.proofs.arbiters.arbiters.Tie as tie
 
 abbrev Inv-loop : tie.InvT-loop
-Inv-loop table cells callees sure needs last found₀ i₀ found i =
-    (i ≤ 64) × BytesTo (listed table) i found × Read table cells × Callees table callees × SureTo table (nodes table) sure
-    × HandedTo table sure 0 needs × (last ≡ nodes table)
+Inv-loop table cells callees words needs last found₀ i₀ found i =
+    (i ≤ 64) × BytesTo (listed table) i found × Read table cells × Callees table callees × SureTo table (nodes table) words
+    × HandedTo table words 0 needs × (last ≡ nodes table)
 
 abbrev μ-loop : tie.MeasureT-loop
-μ-loop table cells callees sure needs last found₀ i₀ found i = 64 - i
+μ-loop table cells callees words needs last found₀ i₀ found i = 64 - i
 
 -- what is known once the calls are collected
 abbrev Collected : Type 0
@@ -76,7 +76,8 @@ fill-requires-2 : tie.Need-fill-requires-2 Inv-loop μ-loop
 fill-requires-2 c κs =
     let rows : tie.After-fill Inv-loop μ-loop = search in
     let k : Collected = search in
-    ((start k .pre, k .collect .ensures .0, rows .fill .ensures), (refl, refl))
+    let r = rows .fill .ensures in
+    ((start k .pre, k .collect .ensures .0, r .shared, r .shared-defs), (r .called .size, r .called .none, refl))
 
 hand-on-requires : tie.Need-hand-on-requires Inv-loop μ-loop
 hand-on-requires c κs =

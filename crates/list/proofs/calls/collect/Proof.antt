@@ -53,7 +53,7 @@ abbrev own-place : tie.After-callee-of Inv-loop μ-loop → tie.After-owner Inv-
 own-place c = search
 
 callee-read : (c : tie.After-callee-of Inv-loop μ-loop) → let t = turn c in
-    c .callee-of .result ≡ calleeOf (s t .args .table .now) (l t .loop .n + 1)
+    c .callee-of .result .0 ≡ calleeOf (s t .args .table .now) (l t .loop .n + 1)
 callee-read c =
     let t = turn c in
     let kind : tie.After-kind Inv-loop μ-loop = search in
@@ -67,7 +67,7 @@ module _ (c : tie.After-callee-of Inv-loop μ-loop) where
   own-few : own-place c .owner .result .0 ≤ 32
   own-few = let t = turn c in omega (arith, own-read (own-place c), owner-few _ (s t .pre .0 .taken) _ (node t) .1)
 
-  few : c .callee-of .result ≤ 31
+  few : c .callee-of .result .0 ≤ 31
   few = let t = turn c in omega (arith, callee-read c, callee-few _ (s t .pre .0 .taken) _ (node t))
 
 last-requires : tie.Need-last-requires Inv-loop μ-loop

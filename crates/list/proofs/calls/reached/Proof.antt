@@ -10,13 +10,13 @@ use Rattle.list.proofs.calls.reached.Tie as tie
 
 abbrev Inv-loop : tie.InvT-loop
 Inv-loop mask bodies f sum₀ g₀ sum g =
-    (1 ≤ g) × (g - 1 ≤ f - 1) × Reaches mask bodies (g - 1) sum
+    (1 ≤ g) × (g - 1 ≤ f .0 - 1) × Reaches mask bodies (g - 1) sum
 
 abbrev μ-loop : tie.MeasureT-loop
-μ-loop mask bodies f sum₀ g₀ sum g = f - g
+μ-loop mask bodies f sum₀ g₀ sum g = f .0 - g
 
 abbrev Turn : Type 0
-Turn = tie.In-loop Inv-loop μ-loop
+Turn = tie.Then1 Inv-loop μ-loop
 
 -- a turn: g is below f
 module _ (c : Turn) where
@@ -27,7 +27,7 @@ module _ (c : Turn) where
   l = search
 
   room : l .loop .g ≤ 31
-  room = omega (arith, c .loop-test .taken, s .pre)
+  room = omega (arith, c .if1 .taken, s .pre)
 
 loop-holds : tie.Need-loop-holds Inv-loop μ-loop
 loop-holds c = (omega arith, omega arith, reach-none _ _)
@@ -50,18 +50,18 @@ add-g c = omega (arith, room (search))
 loop-less : tie.Need-loop-less Inv-loop μ-loop
 loop-less c =
     let t : Turn = search in
-    omega (arith, t .loop-test .taken)
+    omega (arith, t .if1 .taken)
 
 loop-again : tie.Need-loop-again Inv-loop μ-loop
 loop-again c =
     let t : Turn = search in
-    (omega arith, omega (arith, t .loop-test .taken), reach-next _ _ _ _ _ (l t .loop .inv .0) (l t .loop .inv .2) (c .if-has .ensures))
+    (omega arith, omega (arith, t .if1 .taken), reach-next _ _ _ _ _ (l t .loop .inv .0) (l t .loop .inv .2) (c .if-has .ensures))
 
 returns : tie.Need-returns Inv-loop μ-loop
 returns c =
     let h : tie.At-loop Inv-loop μ-loop = search in
     let s : tie.Start Inv-loop μ-loop = search in
-    let e : h .loop .g - 1 ≡ s .args .f - 1 = omega (arith, h .loop .inv, c .loop-test) in
+    let e : h .loop .g - 1 ≡ s .args .f .0 - 1 = omega (arith, h .loop .inv, c .if1 .left) in
     rw e at (h .loop .inv .2)
 
 pub reached-spec : {M : Type 1} → statement M

@@ -15,8 +15,9 @@ all-side-requires c κs = omega arith
 mul-side : tie.Need-mul-side
 mul-side c =
     let s : tie.Start = search in
+    let flag : tie.After-all-side = search in
     let k = s .args .kind % 8 in
-    omega (arith, scaled-few (s .args .first) _ (eqb k 3 || eqb k 4) (c .all-side .ensures))
+    omega (arith, scaled-few (s .args .first .0) _ (eqb k 3 || eqb k 4) (flag .all-side .ensures))
 
 choose-requires : tie.Need-choose-requires
 choose-requires c κs = search needs
@@ -25,7 +26,7 @@ returns : tie.Need-returns
 returns c =
     let flag : tie.After-all-side = search in
     let s : tie.Start = search in
-    all-place _ (s .args .kind) (s .args .first) _ _ _ (s .pre) (flag .all-side .ensures) refl (c .choose .ensures)
+    all-place _ (s .args .kind) (s .args .first .0) _ _ _ (s .pre) (flag .all-side .ensures) refl (c .choose .ensures)
 
 pub all-of-spec : {M : Type 1} → statement M
 all-of-spec = tie.close (tie.spec all-side-requires mul-side choose-requires returns)

@@ -28,7 +28,8 @@ returns c =
     let flag : tie.After-defs-side = search in
     let other : tie.After-choose = search in
     let s : tie.Start = search in
-    defs-place _ (s .args .kind) (s .args .first) (s .args .next) _ _ _ _ (s .pre) (flag .defs-side .ensures) (other .choose .ensures) refl
+    let a = s .args in
+    defs-place _ (a .kind) (a .first .0) (a .next .0) _ _ _ _ (s .pre) (flag .defs-side .ensures) (other .choose .ensures) refl
     (c .choose2 .ensures)
 
 pub defs-of-spec : {M : Type 1} → statement M

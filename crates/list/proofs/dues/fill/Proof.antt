@@ -20,11 +20,11 @@ use Rattle.list.proofs.dues.fill.Statement.{statement}
 use Rattle.list.proofs.dues.fill.Tie as tie
 
 abbrev Inv-loop : tie.InvT-loop
-Inv-loop table cells callees all twice defs pairs sure₀ needs₀ last n₀ sure needs n =
+Inv-loop table cells callees twice pairs sure₀ needs₀ last n₀ sure needs n =
     (n ≤ nodes table) × SureTo table n sure × NeedsTo table sure n needs × (last ≡ nodes table)
 
 abbrev μ-loop : tie.MeasureT-loop
-μ-loop table cells callees all twice defs pairs sure₀ needs₀ last n₀ sure needs n = nodes table - n
+μ-loop table cells callees twice pairs sure₀ needs₀ last n₀ sure needs n = nodes table - n
 
 abbrev Turn : Type 0
 Turn = tie.In-loop Inv-loop μ-loop
@@ -95,7 +95,7 @@ module _ (c : tie.After-first Inv-loop μ-loop) where
 abbrev side-first : tie.After-all-of Inv-loop μ-loop → tie.After-first Inv-loop μ-loop
 side-first c = search
 
-side-room : (c : tie.After-all-of Inv-loop μ-loop) → c .all-of .result ≤ 512
+side-room : (c : tie.After-all-of Inv-loop μ-loop) → c .all-of .result .0 ≤ 512
 side-room c =
     let f = side-first c in
     let kinded : tie.After-kind Inv-loop μ-loop = search in
@@ -104,7 +104,7 @@ side-room c =
 abbrev bound-side : tie.After-defs-of Inv-loop μ-loop → tie.After-all-of Inv-loop μ-loop
 bound-side c = search
 
-bound-room : (c : tie.After-defs-of Inv-loop μ-loop) → c .defs-of .result ≤ 512
+bound-room : (c : tie.After-defs-of Inv-loop μ-loop) → c .defs-of .result .0 ≤ 512
 bound-room c =
     let f = side-first (bound-side c) in
     let kinded : tie.After-kind Inv-loop μ-loop = search in
@@ -114,7 +114,7 @@ bound-room c =
 -- what two of the nodes side by side with it call
 met-read : (c : tie.After-defs-of Inv-loop μ-loop) → let b = bound-side c in let u = turn (p (side-first b)) in
     (h : ℕ) → Callee h
-    → bitAt (bitOr (getD (s u .args .twice .now) (b .all-of .result) 0) (getD (s u .args .pairs .now) (c .defs-of .result) 0)) h
+    → bitAt (bitOr (getD (s u .args .twice .now) (b .all-of .result .0) 0) (getD (s u .args .pairs .now) (c .defs-of .result .0) 0)) h
     ≡ metAt (s u .args .table .now) (l u .loop .n + 1) h
 met-read c h k =
     let next-place : tie.After-next Inv-loop μ-loop = search in
@@ -123,7 +123,7 @@ met-read c h k =
     let f = side-first b in
     let u = turn (p f) in
     let pre = s u .pre .0 in
-    met-word _ (pre .0 .taken) _ (node u) _ _ _ _ (pre .2) _ _ _ _ h (parent-read (p f)) (kind-read kind-place) (first-read f)
+    met-word _ (pre .0 .taken) _ (node u) _ _ (pre .2) (pre .3) _ _ _ _ h (parent-read (p f)) (kind-read kind-place) (first-read f)
     (next-place .next .ensures ∙ pre .0 .told .node _ 5 (node u) (omega arith)) k _ _ (b .all-of .ensures) (c .defs-of .ensures)
 
 last-requires : tie.Need-last-requires Inv-loop μ-loop
@@ -135,8 +135,8 @@ loop-holds c =
     let read : tie.After-last Inv-loop μ-loop = search in
     let z = s .pre .1 in (
       omega arith,
-      rw (z .0) (sure-none _ (s .pre .0 .0 .taken)),
-      rw (z .1) (needs-none _ (s .pre .0 .0 .taken) _),
+      sure-none _ (s .pre .0 .0 .taken) _ (z .0) (z .1),
+      rw (z .2) (needs-none _ (s .pre .0 .0 .taken) _),
       read .last .ensures ∙ s .pre .0 .0 .told .own 1 (omega arith),
     )
 

@@ -9,13 +9,13 @@ use Rattle.list.proofs.dues.handed.Statement.{statement}
 use Rattle.list.proofs.dues.handed.Tie as tie
 
 abbrev Inv-loop : tie.InvT-loop
-Inv-loop direct needs g main sum₀ f₀ sum f = (g ≤ f) × (f ≤ main) × Hands direct needs g f sum
+Inv-loop direct needs g main sum₀ f₀ sum f = (g .0 ≤ f) × (f ≤ main .0) × Hands direct needs (g .0) f sum
 
 abbrev μ-loop : tie.MeasureT-loop
-μ-loop direct needs g main sum₀ f₀ sum f = main - f
+μ-loop direct needs g main sum₀ f₀ sum f = main .0 - f
 
 abbrev Turn : Type 0
-Turn = tie.In-loop Inv-loop μ-loop
+Turn = tie.Then1 Inv-loop μ-loop
 
 -- a turn: f is below main
 module _ (c : Turn) where
@@ -26,7 +26,7 @@ module _ (c : Turn) where
   l = search
 
   room : l .loop .f ≤ 31
-  room = omega (arith, c .loop-test .taken, s .pre .0)
+  room = omega (arith, c .if1 .taken, s .pre .0)
 
 loop-holds : tie.Need-loop-holds Inv-loop μ-loop
 loop-holds c =
@@ -59,19 +59,19 @@ if-has-requires c κs =
 loop-less : tie.Need-loop-less Inv-loop μ-loop
 loop-less c =
     let t : Turn = search in
-    omega (arith, t .loop-test .taken)
+    omega (arith, t .if1 .taken)
 
 loop-again : tie.Need-loop-again Inv-loop μ-loop
 loop-again c =
     let t : Turn = search in
     let inv = l t .loop .inv in
-    (omega (arith, inv .0), omega (arith, t .loop-test .taken), hands-next _ _ _ _ _ _ (inv .0) (inv .2) (c .if-has .ensures))
+    (omega (arith, inv .0), omega (arith, t .if1 .taken), hands-next _ _ _ _ _ _ (inv .0) (inv .2) (c .if-has .ensures))
 
 returns : tie.Need-returns Inv-loop μ-loop
 returns c =
     let h : tie.At-loop Inv-loop μ-loop = search in
     let s : tie.Start Inv-loop μ-loop = search in
-    let e : h .loop .f ≡ s .args .main = omega (arith, h .loop .inv, c .loop-test) in
+    let e : h .loop .f ≡ s .args .main .0 = omega (arith, h .loop .inv, c .if1 .left) in
     rw e at (h .loop .inv .2)
 
 pub handed-spec : {M : Type 1} → statement M

@@ -40,11 +40,11 @@ module _ (c : Turn) where
 loop-holds : tie.Need-loop-holds Inv-loop μ-loop
 loop-holds c = (omega arith, bits-none _ _)
 
-mul-mark : tie.Need-mul-mark Inv-loop μ-loop
-mul-mark c = omega (arith, place (search))
+mul-n : tie.Need-mul-n Inv-loop μ-loop
+mul-n c = omega (arith, place (search))
 
-add-mark : tie.Need-add-mark Inv-loop μ-loop
-add-mark c = omega (arith, place (search))
+add-n : tie.Need-add-n Inv-loop μ-loop
+add-n c = omega (arith, place (search))
 
 mark-requires : tie.Need-mark-requires Inv-loop μ-loop
 mark-requires c κs =
@@ -85,8 +85,8 @@ byte-spec =
     Inv-loop
     μ-loop
     loop-holds
-    mul-mark
-    add-mark
+    mul-n
+    add-n
     mark-requires
     mul-sum
     add-sum

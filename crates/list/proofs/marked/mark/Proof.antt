@@ -7,11 +7,14 @@ use Rattle.list.proofs.MarkLaws.{mark-is}
 use Rattle.list.proofs.marked.mark.Statement.{statement}
 use Rattle.list.proofs.marked.mark.Tie as tie
 
-mul-g : tie.Need-mul-g
-mul-g c = search needs
+cast-at : tie.Need-cast-at
+cast-at c = search needs
 
-element-copy-out-g : tie.Need-element-copy-out-g
-element-copy-out-g c = search needs
+mul-callee : tie.Need-mul-callee
+mul-callee c = search needs
+
+element-copy-out-callee : tie.Need-element-copy-out-callee
+element-copy-out-callee c = search needs
 
 owner-requires : tie.Need-owner-requires
 owner-requires c κs = search needs
@@ -34,7 +37,7 @@ element-copy-out-bit-of-2 c = search needs
 bit-of-requires : tie.Need-bit-of-requires
 bit-of-requires c κs =
     let s : tie.Start = search in
-    callee-room _ (s .pre .0 .taken) _ (s .pre .1) (s .args .n) (s .pre .4 .0)
+    callee-room _ (s .pre .0 .taken) _ (s .pre .1) (s .args .n .0) (s .pre .4 .0)
 
 returns : tie.Need-returns
 returns c =
@@ -48,8 +51,9 @@ pub mark-spec : {M : Type 1} → statement M
 mark-spec =
     tie.close
     (tie.spec
-    mul-g
-    element-copy-out-g
+    cast-at
+    mul-callee
+    element-copy-out-callee
     owner-requires
     cast-own
     mul-bit-of
