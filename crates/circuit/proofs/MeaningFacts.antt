@@ -19,13 +19,15 @@ use Rattle.circuit.specs.declared.types.Started.{Started}
 use Rattle.circuit.specs.declared.types.Halt.{Halt}
 use Rattle.circuit.specs.declared.types.Halt.the-variants as Halt
 use Rattle.circuit.specs.declared.types.Ran.{Ran}
+use Rattle.circuit.specs.declared.types.RunEnd.{RunEnd}
+use Rattle.circuit.specs.declared.types.DriveEnd.{DriveEnd}
 use Rattle.circuit.specs.declared.types.Ended.{Ended}
 use Rattle.circuit.specs.declared.types.Ended.the-variants as Ended
 use Rattle.circuit.specs.declared.types.Driven.{Driven}
 use Rattle.circuit.specs.declared.types.Found.{Found}
 use Rattle.circuit.specs.declared.types.Found.the-variants as Found
 use Rattle.circuit.specs.Meaning.{numbers, listsOf, replyOf, steppedOf, openingOf, StartedAs, haltOf, ranOf, endedOf, drivenOf}
-use Rattle.circuit.specs.Meaning.{foundOf}
+use Rattle.circuit.specs.Meaning.{foundOf, OpenedAs, steppedAs, ranAs, drivenAs}
 
 -- a function that is undone by another tells its arguments apart
 apart : {A B : Type 0} (f : A → B) (back : B → A) → ((a : A) → back (f a) ≡ a) → (a b : A) → f a ≡ f b → a ≡ b
@@ -66,30 +68,35 @@ opening-back : Circuit.Started → Opening
 opening-back (started s) = Opening.Opened
 opening-back (turned k p) = Opening.Refused k (nodeOf p)
 
-pub started-same : (old : State) (r s : Started) (x : Circuit.Started) → StartedAs old r x → StartedAs old s x → r ≡ s
-started-same old r s x p q =
-    let o = sym (undone (r .opening) (listsOf (r .state))) ∙ ap opening-back (p .answer ∙ sym (q .answer))
-    ∙ undone (s .opening) (listsOf (s .state)) in
-    let t = state-same (r .state) (s .state) (p .state ∙ sym (q .state)) in
-    (λ i. record { opening = o i; state = t i })
+opening-same : (a b : Opening) (s t : State512) → openingOf a s ≡ openingOf b t → a ≡ b
+opening-same a b s t e = sym (undone a s) ∙ ap opening-back e ∙ undone b t
   where
     undone : (a : Opening) (l : State512) → opening-back (openingOf a l) ≡ a
     undone Opening.Opened l = unfold opening-back in refl
     undone (Opening.Refused k p) l = unfold opening-back in refl
 
+pub started-same : (old : State) (r s : Started) (x : Circuit.Started) → StartedAs old r x → StartedAs old s x → r ≡ s
+started-same old r s x p q =
+    let o = opening-same (r .opening) (s .opening) (listsOf (r .state)) (listsOf (s .state)) (p .answer ∙ sym (q .answer)) in
+    let t = state-same (r .state) (s .state) (p .state ∙ sym (q .state)) in
+    (λ i. record { opening = o i; state = t i })
+
 halt-back : Runs.Halt → Halt
 halt-back whole = Halt.Whole
 halt-back (stopped k p) = Halt.Refused k (nodeOf p)
 
-pub ran-same : (r s : Ran) → ranOf r ≡ ranOf s → r ≡ s
-ran-same r s e =
-    let h = apart haltOf halt-back undone (r .halt) (s .halt) (ap (λ x. x .halt) e) in
-    let t = state-same (r .state) (s .state) (ap (λ x. x .state) e) in
-    (λ i. record { taken = e i .steps; halt = h i; state = t i })
+halt-same : (a b : Halt) → haltOf a ≡ haltOf b → a ≡ b
+halt-same = apart haltOf halt-back undone
   where
     undone : (a : Halt) → halt-back (haltOf a) ≡ a
     undone Halt.Whole = unfold halt-back in refl
     undone (Halt.Refused k p) = unfold halt-back in refl
+
+pub ran-same : (r s : Ran) → ranOf r ≡ ranOf s → r ≡ s
+ran-same r s e =
+    let h = halt-same (r .halt) (s .halt) (ap (λ x. x .halt) e) in
+    let t = state-same (r .state) (s .state) (ap (λ x. x .state) e) in
+    (λ i. record { taken = e i .steps; halt = h i; state = t i })
 
 ended-back : Runs.Ended → Ended
 ended-back (gave v) = Ended.Answered v
@@ -97,17 +104,20 @@ ended-back atRest = Ended.AtRest
 ended-back spent = Ended.Spent
 ended-back (barred k p) = Ended.Refused k (nodeOf p)
 
-pub driven-same : (r s : Driven) → drivenOf r ≡ drivenOf s → r ≡ s
-driven-same r s e =
-    let h = apart endedOf ended-back undone (r .ended) (s .ended) (ap (λ x. x .ended) e) in
-    let t = state-same (r .state) (s .state) (ap (λ x. x .state) e) in
-    (λ i. record { taken = e i .steps; ended = h i; state = t i })
+ended-same : (a b : Ended) → endedOf a ≡ endedOf b → a ≡ b
+ended-same = apart endedOf ended-back undone
   where
     undone : (a : Ended) → ended-back (endedOf a) ≡ a
     undone (Ended.Answered v) = unfold ended-back in refl
     undone Ended.AtRest = unfold ended-back in refl
     undone Ended.Spent = unfold ended-back in refl
     undone (Ended.Refused k p) = unfold ended-back in refl
+
+pub driven-same : (r s : Driven) → drivenOf r ≡ drivenOf s → r ≡ s
+driven-same r s e =
+    let h = ended-same (r .ended) (s .ended) (ap (λ x. x .ended) e) in
+    let t = state-same (r .state) (s .state) (ap (λ x. x .state) e) in
+    (λ i. record { taken = e i .steps; ended = h i; state = t i })
 
 found-back : Runs.Found → Found
 found-back (names n) = Found.Possible (nodeOf n)
@@ -121,3 +131,21 @@ found-same = apart foundOf found-back undone
     undone (Found.Possible n) = unfold found-back in refl
     undone Found.Nothing = unfold found-back in refl
     undone (Found.Refused k p) = unfold found-back in refl
+
+-- of lent arrays: the answer, and what they hold
+pub opened-lent : (old : State512) (a b : Opening) (s t : State512) (x : Circuit.Started) → OpenedAs old a s x → OpenedAs old b t x
+    → (a ≡ b) × (s ≡ t)
+opened-lent old a b s t x p q = (opening-same a b s t (p .answer ∙ sym (q .answer)), p .state ∙ sym (q .state))
+
+pub stepped-lent : (a b : Answer) (s t : State512) → steppedAs a s ≡ steppedAs b t → (a ≡ b) × (s ≡ t)
+stepped-lent a b s t e = (answer-same a b (ap (λ x. x .answer) e), ap (λ x. x .state) e)
+
+pub ran-lent : (r q : RunEnd) (s t : State512) → ranAs r s ≡ ranAs q t → (r ≡ q) × (s ≡ t)
+ran-lent r q s t e =
+    let h = halt-same (r .halt) (q .halt) (ap (λ x. x .halt) e) in
+    ((λ i. record { taken = e i .steps; halt = h i }), ap (λ x. x .state) e)
+
+pub driven-lent : (r q : DriveEnd) (s t : State512) → drivenAs r s ≡ drivenAs q t → (r ≡ q) × (s ≡ t)
+driven-lent r q s t e =
+    let h = ended-same (r .ended) (q .ended) (ap (λ x. x .ended) e) in
+    ((λ i. record { taken = e i .steps; ended = h i }), ap (λ x. x .state) e)
