@@ -1,7 +1,7 @@
 -- the call sets and the conflicts of an accepted table: every call is of a function below main; a body's set; what a node's conflicts are
 use Prim.Native.Nat.{ℕ, zero, suc, _+_, _-_, _≤_, _<_}
 use mathlib.Core.Path.{_≡_, refl, subst, sym, ap, ap₂, _∙_}
-use mathlib.Core.Bool.{Bool, true, _||_}
+use mathlib.Core.Bool.{Bool, true, false, _||_}
 use mathlib.Core.Logic.{inl, inr}
 use mathlib.Core.List.{List}
 use native.Mathlib.Omega.{arith}
@@ -26,7 +26,14 @@ use Rattle.list.specs.Working.{Callee, callsBy, callsAt, conflictsAt}
 use Rattle.list.proofs.ListedCalls.{Calling, C-all, sets-all, listed-all}
 use Rattle.list.proofs.ArbiterFacts.{C-decides, sets-decides, any-in}
 use Rattle.list.proofs.Callees.{callee-word, listed-exactly}
-use Rattle.list.proofs.Truths.{or-left, or-right}
+
+pub or-left : (a b : Bool) → a ≡ true → a || b ≡ true
+or-left true b e = refl
+or-left false b e = absurd (let z : _≡_ {A = ℕ} 0 1 = cc in omega arith)
+
+pub or-right : (a b : Bool) → b ≡ true → a || b ≡ true
+or-right true b e = refl
+or-right false b e = e
 
 -- sets that agree on the callees of an expression
 module _ (N : ℕ) (target : ℕ → ℕ) (B B′ : ℕ → Test) (m : ℕ) where

@@ -2,8 +2,9 @@
 use Prim.Native.Nat.{ℕ, _≤_, _<_}
 use mathlib.Core.Path.{_≡_, refl, subst, sym, ap, _∙_}
 use mathlib.Core.Bool.{Bool, true, false, _||_, true≢false}
-use mathlib.Core.Logic.{inl, inr}
+use mathlib.Core.Logic.{_⊎_, inl, inr}
 use mathlib.Core.List.{List}
+use native.Mathlib.Omega.{arith}
 use native.Mathlib.Decide.{ℕ-discrete}
 use Rattle.table.specs.Syntax.{Expr, Exprs, none, some}
 use Rattle.table.specs.Bytes.{nodes, first, next}
@@ -14,7 +15,16 @@ use Rattle.table.proofs.Links.{link, named, backwards}
 use Rattle.table.proofs.Family.{first-node, next-node, parent-root, parent-first, parent-next}
 use Rattle.table.proofs.Tree.{exprs-none, exprs-some, defs-none, defs-some}
 use Rattle.list.specs.Working.{siblings}
-use Rattle.list.proofs.Truths.{or-left, or-right, or-out, or-no, or-assoc}
+use Rattle.list.proofs.Meets.{or-no}
+use Rattle.list.proofs.CallLaws.{or-left, or-right}
+
+pub or-out : (a b : Bool) → a || b ≡ true → (a ≡ true) ⊎ (b ≡ true)
+or-out true b e = inl refl
+or-out false b e = inr e
+
+pub or-assoc : (a b c : Bool) → (a || b) || c ≡ a || (b || c)
+or-assoc true b c = refl
+or-assoc false b c = refl
 
 -- a sibling, one of p's children, that passes; not the last one where that has no part
 pub record Passing (t : List ℕ) (K : Expr → Bool) (defs : Bool) (p : ℕ) : Type 0 where

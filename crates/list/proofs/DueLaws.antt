@@ -9,8 +9,8 @@ use native.Mathlib.Decide.{ℕ-discrete}
 use lib.Dec.{eqb}
 use borrow.Author.Tests.{eq-eqb, ne-eqb, eqb-true}
 use Rattle.table.specs.Pick.{pick, Range}
-use Rattle.table.specs.Syntax.{Expr, Exprs}
-use Rattle.table.specs.Bytes.{functions, nodes, root, kind, first, next}
+use Rattle.table.specs.Syntax.{Expr, Exprs, none}
+use Rattle.table.specs.Bytes.{functions, nodes, root, kind, word, first, next}
 use Rattle.table.specs.Naming.{owner, parent}
 use Rattle.table.specs.Expressions.{exprsAt, exprAt, bodyOf, defsAt}
 use Rattle.table.specs.Working.{IsNode, IsFunction, Linked, Taken}
@@ -23,14 +23,13 @@ use Rattle.table.proofs.NodeCases.{is-const, is-param, is-prim, is-call, is-sel
 use Rattle.list.specs.Arbiters.{listedIn}
 use Rattle.list.specs.CallSets.{callee}
 use Rattle.list.specs.Tags.{calleeOf, listed}
-use Rattle.list.specs.Working.{callsBy, callsAt, callsAt*, conflictsAt, conflictsAt*, parallelAt, twiceIn, entryAt}
+use Rattle.list.specs.Working.{callsBy, callsAt, callsAt*, conflictsAt, conflictsAt*, parallelAt, twiceIn, entryAt, siblings}
 use Rattle.list.specs.Working.{metBy, metAt, Due, beside, below, entered}
-use Rattle.list.proofs.Truths.{or-left, or-right, or-out}
 use Rattle.list.proofs.ArbiterFacts.{any-out, and-both, both-and}
 use Rattle.list.proofs.Callees.{callee-word}
-use Rattle.list.proofs.CallLaws.{calls-called, body-set, node-listed}
+use Rattle.list.proofs.CallLaws.{or-left, or-right, calls-called, body-set, node-listed}
 use Rattle.list.proofs.ParallelLaws.{parallel-is}
-use Rattle.list.proofs.Chains.{Passing, one-child, child-in, definiens-in}
+use Rattle.list.proofs.Chains.{or-out, Passing, one-child, child-in, definiens-in}
 use Rattle.list.proofs.NodeCalls.{calls-none, calls-some, conflicts-none, conflicts-some, enters-no, enters, heldAt, node-calls}
 use Rattle.list.proofs.NodeCalls.{node-conflicts}
 
@@ -57,20 +56,6 @@ module _ (t : List ℕ) (ok : Taken t) where
       go (is-cond k x y w z e) = other _ e refl
       go (is-bind k x y q e) = other _ e refl
       go (is-bound k z s e) = other _ e refl
-
-  -- a let has children
-  pub first-of-let : (n : ℕ) → IsNode t n → kind t n ≡ 6 → first t n ≡ 0 → ⊥
-  first-of-let n i k z = go (node-case t all-passed n i)
-    where
-      go : NodeCase t n → ⊥
-      go (is-const q z e) = omega (arith, q, k)
-      go (is-param q z l e) = omega (arith, q, k)
-      go (is-prim q x e) = omega (arith, q, k)
-      go (is-call q l h x e) = omega (arith, q, k)
-      go (is-self q w l x e) = omega (arith, q, k)
-      go (is-cond q x y w u e) = omega (arith, q, k)
-      go (is-bind q x y u e) = omega (arith, x .0, z)
-      go (is-bound q u s e) = omega (arith, q, k)
 
   pub callee-function : (c : ℕ) → IsNode t c → 1 ≤ calleeOf t c → IsFunction t (calleeOf t c)
   callee-function c i l = (l, omega (arith, callee-below c i l, owner-in t lk c i .1))
@@ -187,6 +172,19 @@ module _ (t : List ℕ) (ok : Taken t) where
         both : (es : Exprs) → parallelAt t es m ≡ true → (K* es ≡ true) × (twiceIn t es h ≡ true)
         both es p = and-both (K* es) (twiceIn t es h) (sym (parallel-is t m es (λ q. r)) ∙ p)
 
+        child-there : kind t n ≡ 6 → first t n ≡ 0 → ⊥
+        child-there k z = bound-there (node-case t all-passed n i)
+          where
+            bound-there : NodeCase t n → ⊥
+            bound-there (is-const q z e) = omega (arith, q, k)
+            bound-there (is-param q z l e) = omega (arith, q, k)
+            bound-there (is-prim q x e) = omega (arith, q, k)
+            bound-there (is-call q l h x e) = omega (arith, q, k)
+            bound-there (is-self q w l x e) = omega (arith, q, k)
+            bound-there (is-cond q x y w u e) = omega (arith, q, k)
+            bound-there (is-bind q x y u e) = omega (arith, x .0, z)
+            bound-there (is-bound q u s e) = omega (arith, q, k)
+
         rest : ℕ → Bool
         rest d = pick (eqb (kind t n) 6 && not (eqb (next t d) 0)) (twiceIn t (defsAt t (first t n)) h) false
 
@@ -207,7 +205,7 @@ module _ (t : List ℕ) (ok : Taken t) where
             of false d (ap (λ a. pick a (twiceIn t (exprsAt t (first t n)) h) (rest (d .at))) q ∙ y .1)
         go false q true k p =
             let y = both (defsAt t (first t n)) p in
-            let d = one-child K K* (calls-none t m) (calls-some t m) t lk true n i (first-of-let n i (eqb-true (kind t n) 6 k)) (y .0) in
+            let d = one-child K K* (calls-none t m) (calls-some t m) t lk true n i (child-there (eqb-true (kind t n) 6 k)) (y .0) in
             of true d (ap (λ a. pick a (twiceIn t (exprsAt t (first t n)) h) (rest (d .at))) q
             ∙ ap (λ b. pick (b && not (eqb (next t (d .at)) 0)) (twiceIn t (defsAt t (first t n)) h) false) k
             ∙ ap (λ b. pick (not b) (twiceIn t (defsAt t (first t n)) h) false) (ne-eqb (next t (d .at)) 0 (d .goes-on refl)) ∙ y .1)

@@ -1,24 +1,60 @@
--- the first bytes of the set of listed calls are the tag bytes
+-- the conflicts found once every body is walked are the list, and its bytes are the tag bytes
 use Prim.Native.Nat.{ℕ, zero, suc, _+_, _-_, _*_, _/_, _%_, _^_, _≤_, _<_}
 use mathlib.Core.Path.{_≡_, refl, sym, ap, ap₂, _∙_}
-use mathlib.Core.Bool.{Bool, true, false, _&&_}
+use mathlib.Core.Bool.{Bool, true, false, _&&_, true≢false}
 use mathlib.Core.List.{List}
 use native.Mathlib.Omega.{arith}
 use native.Mathlib.Nat.{pow-suc, mul-comm, div-div-eq-div-mul, div-one}
+use native.Mathlib.Decide.{ℕ-discrete}
 use lib.Dec.{eqb, leb}
-use lib.ListN.{length, getD, take}
+use lib.ListN.{length, getD, take, replicate}
 use lib.Seq.{ext-getD, getD-take, length-take-le}
 use borrow.Author.Tests.{le-leb}
 use Rattle.table.proofs.Tests.{and-no}
 use Rattle.table.specs.Bytes.{functions, nodes}
 use Rattle.table.specs.Find.{one}
+use Rattle.table.specs.Expressions.{bodyOf}
+use Rattle.table.specs.Working.{IsFunction}
 use Rattle.table.proofs.Passed.{passed}
-use Rattle.list.specs.Arbiters.{Test}
+use Rattle.list.specs.Arbiters.{Test, listedIn}
 use Rattle.list.specs.Tags.{tagged, listed, bitsFrom, bytesFrom, tagLength, tagsOf}
 use Rattle.table.specs.Working.{Taken}
-use Rattle.list.specs.Working.{bitAt, Bit}
-use Rattle.list.proofs.BitLaws.{tagged-bit}
+use Rattle.list.specs.Working.{bitAt, Bit, callsBy, conflictsAt, Seen, Memo}
+use Rattle.list.proofs.BitLaws.{none-tagged, tagged-bit, zeros-at}
+use Rattle.list.proofs.ArbiterFacts.{any-out}
+use Rattle.list.proofs.ParallelLaws.{by-true}
 use Rattle.list.proofs.TagFacts.{byte-is, bytes-length, listed-call}
+
+module _ (t : List ℕ) where
+  -- before the first walk
+  pub memo-none : Memo t (replicate 2112 0) (replicate 33 0) (replicate 64 0)
+  memo-none = record {
+    size-bodies = refl;
+    size-called = refl;
+    size-found = refl;
+    sets = λ g m i s b. absurd (s (zeros-at 33 g));
+    masks = λ g h i s b. absurd (s (zeros-at 33 g));
+    whole = λ g m i s b e. absurd (s (zeros-at 33 g));
+    sound = λ m b e. absurd (true≢false (sym e ∙ none-tagged 64 m));
+  }
+
+  -- after the last
+  pub found-list : (bodies called found : List ℕ) → Memo t bodies called found → ((g : ℕ) → IsFunction t g → Seen called g) → (m : ℕ)
+      → Bit m
+      → tagged found m ≡ listed t m
+  unfolding listed listedIn conflictsAt callsBy
+  found-list bodies called found k all m b = by-true (tagged found m) (listed t m) (k .sound m b)
+      (λ e. let r = any-out (functions t) (λ f. conflictsAt t (bodyOf t f) m) e in
+      k .whole (r .0) m (r .1, r .2) (all (r .0) (r .1, r .2)) b (r .3))
+
+-- one more body walked
+pub all-seen : (F : ℕ) (called called′ : List ℕ) (f : ℕ) → ((g : ℕ) → f < g → g ≤ F → Seen called g)
+    → ((g : ℕ) → Seen called g → Seen called′ g) → Seen called′ f → (g : ℕ) → f - 1 < g → g ≤ F → Seen called′ g
+all-seen F called called′ f old kept here g a b = go (ℕ-discrete g f)
+  where
+    go : Dec (g ≡ f) → Seen called′ g
+    go (yes e) z = here (ap (λ k. getD called′ k 0) (sym e) ∙ z)
+    go (no e) z = kept g (old g (omega arith) b) z
 
 -- a number of k bits is what its bits are
 number-is : (s : Test) (k n x : ℕ) → x < 2 ^ k → ((j : ℕ) → j < k → bitAt x j ≡ s (n + j)) → x ≡ bitsFrom s k n

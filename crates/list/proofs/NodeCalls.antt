@@ -1,7 +1,7 @@
 -- what a node calls, and its conflicts, told from its kind, its callee and its children
 use Prim.Native.Nat.{ℕ, _≤_}
 use mathlib.Core.Path.{_≡_, refl, sym, ap, _∙_}
-use mathlib.Core.Bool.{Bool, false, _||_}
+use mathlib.Core.Bool.{Bool, true, false, _||_}
 use mathlib.Core.List.{List}
 use native.Mathlib.Omega.{arith}
 use lib.Dec.{eqb}
@@ -15,13 +15,19 @@ use Rattle.table.proofs.Passed.{Passed}
 use Rattle.table.proofs.Tree.{exprs-none, exprs-some}
 use Rattle.table.proofs.NodeCases.{NodeCase, node-case, kids-three}
 use Rattle.table.proofs.NodeCases.{is-const, is-param, is-prim, is-call, is-self, is-cond, is-bind, is-bound}
-use Rattle.list.specs.Arbiters.{noCalls, joined, callsIn, conflicts}
+use Rattle.list.specs.Arbiters.{noCalls, joined, callsIn, parallel, conflicts}
 use Rattle.list.specs.Tags.{calleeOf}
 use Rattle.list.specs.CallSets.{callee}
 use Rattle.list.specs.Working.{callsBy, callsAt, callsAt*, conflictsAt, conflictsAt*, parallelAt, entryAt}
-use Rattle.list.proofs.Truths.{or-no, or-swap, or-assoc}
+use Rattle.list.proofs.Meets.{or-no}
 use Rattle.list.proofs.Callees.{callee-word}
-use Rattle.list.proofs.Chains.{last-apart}
+use Rattle.list.proofs.Chains.{or-assoc, last-apart}
+
+or-swap : (a b : Bool) → a || b ≡ b || a
+or-swap true true = refl
+or-swap true false = refl
+or-swap false true = refl
+or-swap false false = refl
 
 module _ (t : List ℕ) (m : ℕ) where
   -- expressions one after the other

@@ -1,21 +1,45 @@
 -- PC from two masks: a call of the children's sets is in conflict exactly if its function is called in two of them
-use Prim.Native.Nat.{ℕ, _≤_}
+use Prim.Native.Nat.{ℕ, zero, suc, _+_, _*_, _≤_}
 use mathlib.Core.Path.{_≡_, refl, sym, ap, ap₂, _∙_}
 use mathlib.Core.Bool.{Bool, true, false, _&&_, _||_, not, true≢false}
 use mathlib.Core.List.{List}
 use native.Mathlib.Omega.{arith}
-use lib.Dec.{eqb}
+use lib.Dec.{eqb, leb, le→leb}
 use borrow.Author.Tests.{eq-eqb, eqb-true}
+use Rattle.table.proofs.Tests.{T-true}
 use Rattle.table.specs.Pick.{pick, Range}
 use Rattle.table.specs.Syntax.{Exprs, none, some}
 use Rattle.table.specs.Bytes.{nodes, kind, word}
 use Rattle.table.specs.Naming.{owner}
 use Rattle.table.specs.Working.{IsNode}
 use Rattle.list.specs.Arbiters.{Test, noCalls, joined, anyUpTo, callsIn, meeting, parallel}
-use Rattle.list.specs.Tags.{isCall, calleeOf}
-use Rattle.list.specs.Working.{callsBy, callsAt, callsAt*, parallelAt, calledIn, twiceIn}
-use Rattle.list.proofs.Truths.{or-left, or-right, or-no, by-true, any-none, any-same, any-or}
+use Rattle.list.specs.Tags.{tagged, isCall, calleeOf}
+use Rattle.list.specs.Working.{bitAt, Bit, Callee, callsBy, callsAt, callsAt*, parallelAt, calledIn, twiceIn, meetOf, site, Sited}
+use Rattle.list.proofs.Meets.{or-no, none-of}
+use Rattle.list.proofs.CallLaws.{or-left, or-right}
 use Rattle.list.proofs.ArbiterFacts.{any-out, any-in, and-both, both-and}
+
+-- a Bool known by when it is true
+pub by-true : (a b : Bool) → (a ≡ true → b ≡ true) → (b ≡ true → a ≡ true) → a ≡ b
+by-true true b f g = sym (f refl)
+by-true false true f g = g refl
+by-true false false f g = refl
+
+any-same : (k : ℕ) (p q : Test) → ((i : ℕ) → 1 ≤ i → i ≤ k → p i ≡ q i) → anyUpTo k p ≡ anyUpTo k q
+unfolding anyUpTo
+any-same zero p q f = refl
+any-same (suc k) p q f = ap₂ (λ a b. a || b) (f (suc k) (omega arith) (omega arith)) (any-same k p q (λ i a b. f i a (omega arith)))
+
+any-or : (k : ℕ) (p q : Test) → anyUpTo k (λ i. p i || q i) ≡ anyUpTo k p || anyUpTo k q
+unfolding anyUpTo
+any-or zero p q = refl
+any-or (suc k) p q = ap (λ a. (p (suc k) || q (suc k)) || a) (any-or k p q) ∙ swap (p (suc k)) (q (suc k)) (anyUpTo k p) (anyUpTo k q)
+  where
+    swap : (a b c d : Bool) → (a || b) || (c || d) ≡ (a || c) || (b || d)
+    swap true b c d = refl
+    swap false true true d = refl
+    swap false true false d = refl
+    swap false false c d = refl
 
 -- a node that has a callee is a call of it
 pub call-there : (t : List ℕ) (m : ℕ) → 1 ≤ calleeOf t m → (eqb (kind t m) 4 ≡ true) × (calleeOf t m ≡ word t m)
@@ -37,7 +61,7 @@ module _ (t : List ℕ) where
 
   pub called-none : (s : Test) (h : ℕ) → ((m : ℕ) → s m ≡ false) → calledIn t s h ≡ false
   unfolding calledIn
-  called-none s h f = any-none (nodes t) (λ β. s β && eqb h (calleeOf t β)) (λ i l k. ap (λ x. x && eqb h (calleeOf t i)) (f i))
+  called-none s h f = none-of (nodes t) (λ β. s β && eqb h (calleeOf t β)) (λ i l. ap (λ x. x && eqb h (calleeOf t i)) (f i))
 
   pub called-two : (s s′ : Test) (h : ℕ) → calledIn t (joined s s′) h ≡ calledIn t s h || calledIn t s′ h
   unfolding calledIn joined
@@ -148,3 +172,33 @@ module _ (t : List ℕ) where
       where
         none-there : (m : ℕ) → noCalls m ≡ false
         none-there = unfold noCalls in (λ m. refl)
+
+    -- what the code computes: the set against the sites of the functions called twice
+    pub meet-parallel : (es : Exprs) (own sites : List ℕ) (twice : ℕ) → Bit m → Sited t sites
+        → (callsAt* t es m ≡ true → Range (nodes t) m × Callee h) → tagged own m ≡ callsAt* t es m
+        → ((k : ℕ) → Callee k → bitAt twice k ≡ twiceIn t es k) → meetOf own sites twice 31 m ≡ parallelAt t es m
+    unfolding meetOf
+    meet-parallel es own sites twice b sited r e w =
+        go (callsAt* t es m) refl ∙ sym (parallel-is es (λ q. r q .0))
+      where
+        each : Test
+        each k = bitAt twice k && tagged sites (512 * k + m)
+
+        is-site : (k : ℕ) → Callee h → site t k m ≡ eqb k h
+        is-site k c = ap₂ (λ x y. x && eqb k y) (call-there t m (c .0) .0) (sym (call-there t m (c .0) .1))
+
+        at-site : (k : ℕ) → Callee k → Range (nodes t) m → Callee h → each k ≡ twiceIn t es k && eqb k h
+        at-site k c q d =
+            ap₂ (λ x y. x && y) (w k c) (sited .bits k m (c .0, omega arith) b)
+            ∙ ap₂ (λ x y. twiceIn t es k && (x && y)) (T-true (leb m (nodes t)) (le→leb m (nodes t) (q .1))) (is-site k d)
+
+        found : Range (nodes t) m → Callee h → anyUpTo 31 each ≡ twiceIn t es h
+        found q c = by-true (anyUpTo 31 each) (twiceIn t es h)
+            (λ x. let y = any-out 31 each x in
+            let z = and-both (twiceIn t es (y .0)) (eqb (y .0) h) (sym (at-site (y .0) (y .1, y .2) q c) ∙ y .3) in
+            ap (twiceIn t es) (sym (eqb-true (y .0) h (z .1))) ∙ z .0)
+            (λ x. any-in 31 each h (c .0) (c .1) (at-site h c q c ∙ both-and (twiceIn t es h) (eqb h h) x (eq-eqb h h refl)))
+
+        go : (a : Bool) → callsAt* t es m ≡ a → tagged own m && anyUpTo 31 each ≡ callsAt* t es m && twiceIn t es h
+        go true q = ap₂ (λ x y. x && y) e (let z = r q in found (z .0) (z .1))
+        go false q = ap (λ x. x && anyUpTo 31 each) (e ∙ q) ∙ sym (ap (λ x. x && twiceIn t es h) q)

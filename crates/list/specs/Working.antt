@@ -1,21 +1,22 @@
--- what the passes over a table ask of each other: calls, words of functions by node and by function, and when an arbiter is due
-use Prim.Native.Nat.{ℕ, _-_, _/_, _%_, _^_, _≤_, _<_}
+-- what the parts of the walk ask of each other: packed sets, the sites of each function, and what the walk keeps
+use Prim.Native.Nat.{ℕ, _+_, _-_, _*_, _/_, _%_, _^_, _≤_}
 use mathlib.Core.Bool.{Bool, true, false, _&&_, _||_, not}
 use mathlib.Core.Path.{_≡_}
 use mathlib.Core.List.{List, []}
-use lib.Dec.{eqb, ltb}
+use lib.Dec.{eqb, leb}
 use lib.ListN.{length, getD, take, drop, replicate}
 use Rattle.table.specs.Pick.{pick, Range}
 use Rattle.table.specs.Syntax.{Expr, Exprs, none, some}
-use Rattle.table.specs.Bytes.{functions, nodes, root, kind, first, next}
+use Rattle.table.specs.Bytes.{functions, nodes, root, kind, word, first, next}
 use Rattle.table.specs.Naming.{owner, parent}
 use Rattle.table.specs.Check.{accepted, ifAccepted}
-use Rattle.table.specs.Expressions.{exprsAt, bodyOf, defsAt}
-use Rattle.table.specs.Working.{IsNode, IsFunction}
+use Rattle.table.specs.Expressions.{exprsAt, exprAt, bodyOf, defsAt, finalAt}
+use Rattle.table.specs.Working.{IsNode, IsFunction, Taken, Cells}
 use Rattle.table.specs.Survey.{verdictOf}
 use Rattle.list.specs.declared.Listing.{Listing}
-use Rattle.list.specs.Arbiters.{Test, noCalls, anyUpTo, callsIn, callsIn*, parallel, conflicts, conflicts*, callsOf}
-use Rattle.list.specs.Tags.{calleeOf}
+use Rattle.list.specs.declared.walk.Siblings.{Siblings}
+use Rattle.list.specs.Arbiters.{Test, noCalls, joined, anyUpTo, callsIn, callsIn*, parallel, conflicts, conflicts*, callsOf}
+use Rattle.list.specs.Tags.{tagged, calleeOf, listed}
 use Rattle.list.specs.Records.{noRecord, recordsOf, recordsVerdict}
 
 -- bit k of a number
@@ -66,6 +67,10 @@ entryAt t n m = pick (eqb (calleeOf t n) 0) false (eqb n m || callsBy t (calleeO
 abbrev pub siblings : List ℕ → Bool → ℕ → Exprs
 siblings t defs c = pick defs (defsAt t c) (exprsAt t c)
 
+-- the children of n, or of a let the definientia
+abbrev pub kidsAt : List ℕ → Bool → ℕ → Exprs
+kidsAt t defs n = siblings t defs (first t n)
+
 -- h is called in two of the children of p that are evaluated side by side; a let's body, the last child, has no part in that
 unfoldable pub metBy : List ℕ → Bool → ℕ → Test
 metBy t last p h =
@@ -82,89 +87,118 @@ pub data Due (t : List ℕ) (h : ℕ) : ℕ → Type 0 where
   below : (n : ℕ) → (parent t n ≡ 0 → ⊥) → Due t h (parent t n) → Due t h n
   entered : (n c : ℕ) → IsNode t c → 1 ≤ calleeOf t c → n ≡ root t (calleeOf t c) → Due t h c → Due t h n
 
--- entry n of an array of words has function h
-abbrev pub has : List ℕ → ℕ → Test
-has words n = bitAt (getD words n 0)
+-- node m calls function h, its own maybe
+abbrev pub site : List ℕ → ℕ → ℕ → Bool
+site t h m = eqb (kind t m) 4 && eqb h (word t m)
 
--- one of the nodes up to k stands in f's body and calls g
-unfoldable pub directTo : List ℕ → (k f g : ℕ) → Bool
+-- set h of a row of sets begins at bit 512 h: of function h the nodes, up to k, that call it
+pub record SitedTo (t : List ℕ) (k : ℕ) (sites : List ℕ) : Type 0 where
+  pub size : length sites ≡ 2112
+  pub bits : (h m : ℕ) → Range 32 h → Bit m → tagged sites (512 * h + m) ≡ leb m k && site t h m
+
+abbrev pub Sited : List ℕ → List ℕ → Type 0
+Sited t sites = SitedTo t (nodes t) sites
+
+-- what the walk has at hand beside the table
+pub record Ready (t sites cells : List ℕ) : Type 0 where
+  pub sited : Sited t sites
+  pub read : Cells t cells
+
+-- what a set has in common with those of the sets 1 to k of a row that a mask names
+unfoldable pub meetOf : (set row : List ℕ) (mask k : ℕ) → Test
 unfolding anyUpTo
-directTo t k f g = anyUpTo k (λ n. eqb (owner t n) f && eqb (calleeOf t n) g)
+meetOf set row mask k m = tagged set m && anyUpTo k (λ h. bitAt mask h && tagged row (512 * h + m))
 
--- by node up to k its callee, 0 if none
-pub record CalleesTo (t : List ℕ) (k : ℕ) (callees : List ℕ) : Type 0 where
-  pub size : length callees ≡ 513
-  pub here : (n : ℕ) → 1 ≤ n → n ≤ k → getD callees n 0 ≡ calleeOf t n
-  pub past : (n : ℕ) → k < n → getD callees n 0 ≡ 0
+-- a set of 64 bytes with the members of another added
+pub record Adds (s : Test) (set set′ : List ℕ) : Type 0 where
+  pub size : length set′ ≡ 64
+  pub bits : (m : ℕ) → Bit m → tagged set′ m ≡ tagged set m || s m
 
-abbrev pub Callees : List ℕ → List ℕ → Type 0
-Callees t callees = CalleesTo t (nodes t) callees
+-- set g of a row is a set, and the row's others are as they were
+pub record Kept (g : ℕ) (set row row′ : List ℕ) : Type 0 where
+  pub size : length row′ ≡ 2112
+  pub same : (m : ℕ) → Bit m → tagged row′ (512 * g + m) ≡ tagged set m
+  pub other : (h m : ℕ) → (h ≡ g → ⊥) → Bit m → tagged row′ (512 * h + m) ≡ tagged row (512 * h + m)
 
--- by function what its body calls, as far as node k
-pub record DirectTo (t : List ℕ) (k : ℕ) (direct : List ℕ) : Type 0 where
-  pub size : length direct ≡ 33
-  pub each : (f g : ℕ) → IsFunction t f → Callee g → has direct f g ≡ directTo t k f g
+-- a row to whose set g node n was added
+pub record PutAt (g n : ℕ) (row row′ : List ℕ) : Type 0 where
+  pub size : length row′ ≡ 2112
+  pub bits : (h m : ℕ) → Range 32 h → Bit m → tagged row′ (512 * h + m) ≡ tagged row (512 * h + m) || (eqb g h && eqb n m)
 
-abbrev pub Direct : List ℕ → List ℕ → Type 0
-Direct t direct = DirectTo t (nodes t) direct
+-- a function whose body has been walked
+abbrev pub Seen : List ℕ → ℕ → Type 0
+Seen called g = getD called g 0 ≡ 0 → ⊥
 
--- what those of the functions 1 to k call that a mask has
-pub record Reaches (mask : ℕ) (bodies : List ℕ) (k sum : ℕ) : Type 0 where
-  pub bits : (h : ℕ) → Callee h → bitAt sum h ≡ anyUpTo k (λ g. bitAt mask g && has bodies g h)
+-- of each body that has been walked: its set, the functions called in it, and its conflicts among those found, which are listed
+pub record Memo (t bodies called found : List ℕ) : Type 0 where
+  pub size-bodies : length bodies ≡ 2112
+  pub size-called : length called ≡ 33
+  pub size-found : length found ≡ 64
+  pub sets : (g m : ℕ) → IsFunction t g → Seen called g → Bit m → tagged bodies (512 * g + m) ≡ callsBy t g m
+  pub masks : (g h : ℕ) → IsFunction t g → Seen called g → Callee h → bitAt (getD called g 0) h ≡ calledIn t (callsBy t g) h
+  pub whole : (g m : ℕ) → IsFunction t g → Seen called g → Bit m → conflictsAt t (bodyOf t g) m ≡ true → tagged found m ≡ true
+  pub sound : (m : ℕ) → Bit m → tagged found m ≡ true → listed t m ≡ true
 
--- of the functions 1 to k: the function itself and what its body calls; nothing for 0
-pub record BodiesTo (t : List ℕ) (k : ℕ) (bodies : List ℕ) : Type 0 where
-  pub size : length bodies ≡ 33
-  pub none : getD bodies 0 0 ≡ 0
-  pub each : (g h : ℕ) → Range k g → Callee h → has bodies g h ≡ eqb g h || calledIn t (callsBy t g) h
+-- what stays: bodies walked, and conflicts found
+pub record Grown (called called′ found found′ : List ℕ) : Type 0 where
+  pub seen : (g : ℕ) → Seen called g → Seen called′ g
+  pub stays : (m : ℕ) → Bit m → tagged found m ≡ true → tagged found′ m ≡ true
 
--- h is called in one of the siblings from c on, in two of them
-abbrev pub calledFrom : List ℕ → Bool → ℕ → Test
-calledFrom t defs c = calledIn t (callsAt* t (siblings t defs c))
+-- a walk over what has the calls s and the conflicts x: set gets the calls, mask is of the functions called
+pub record Walk (t : List ℕ) (s x : Test) (mask : ℕ) (set set′ bodies′ called called′ found found′ : List ℕ) : Type 0 where
+  pub memo : Memo t bodies′ called′ found′
+  pub grown : Grown called called′ found found′
+  pub added : Adds s set set′
+  pub functions : (h : ℕ) → Callee h → bitAt mask h ≡ calledIn t s h
+  pub finds : (m : ℕ) → Bit m → x m ≡ true → tagged found′ m ≡ true
 
-abbrev pub twiceFrom : List ℕ → Bool → ℕ → Test
-twiceFrom t defs c = twiceIn t (siblings t defs c)
+-- a walk whose functions are put to those of a mask
+pub record Onto (t : List ℕ) (s x : Test) (mask mask′ : ℕ) (set set′ bodies′ called called′ found found′ : List ℕ) : Type 0 where
+  pub own : ℕ
+  pub walk : Walk t s x own set set′ bodies′ called called′ found found′
+  pub joins : (h : ℕ) → Callee h → bitAt mask′ h ≡ bitAt mask h || bitAt own h
 
--- words by node, those past k filled
-pub record Words (t : List ℕ) (s : ℕ → Test) (k : ℕ) (words : List ℕ) : Type 0 where
-  pub size : length words ≡ 513
-  pub none : getD words 0 0 ≡ 0
-  pub each : (n h : ℕ) → k < n → n ≤ nodes t → Callee h → has words n h ≡ s n h
+abbrev pub OntoNode : (t : List ℕ) (n mask mask′ : ℕ) (set set′ bodies′ called called′ found found′ : List ℕ) → Type 0
+OntoNode t n = Onto t (callsAt t (exprAt t n)) (conflictsAt t (exprAt t n))
 
--- of the nodes past k: what is called in the siblings from there on, what in two of them, and the same without the last sibling
-pub record Rows (t : List ℕ) (k : ℕ) (all twice defs pairs : List ℕ) : Type 0 where
-  pub called : Words t (calledFrom t false) k all
-  pub shared : Words t (twiceFrom t false) k twice
-  pub called-defs : Words t (calledFrom t true) k defs
-  pub shared-defs : Words t (twiceFrom t true) k pairs
+-- a node of function f in an accepted table
+pub record Within (t : List ℕ) (f n : ℕ) : Type 0 where
+  pub taken : Taken t
+  pub node : IsNode t n
+  pub own : owner t n ≡ f
 
--- what is due at the nodes up to k from the nodes above them
-pub record SureTo (t : List ℕ) (k : ℕ) (sure : List ℕ) : Type 0 where
-  pub size : length sure ≡ 513
-  pub none : getD sure 0 0 ≡ 0
-  pub each : (n h : ℕ) → 1 ≤ n → n ≤ k → Callee h → has sure n h ≡ has sure (parent t n) h || metAt t n h
+-- a node of kind k, which is 3 to top
+pub record KindTo (t : List ℕ) (n k top : ℕ) : Type 0 where
+  pub is : k ≡ kind t n
+  pub low : 3 ≤ k
+  pub high : k ≤ top
 
--- what is due at the calls of g among the nodes up to k, in their bodies
-abbrev pub dueTo : (t sure : List ℕ) → (k g h : ℕ) → Bool
-dueTo t sure k g h = anyUpTo k (λ c. eqb (calleeOf t c) g && has sure c h)
+-- a walk along siblings; of a let it names the body
+pub record Chained (t : List ℕ) (f c : ℕ) (defs : Bool) (r : Siblings) (set set′ bodies′ called called′ found found′ : List ℕ)
+    : Type 0 where
+  pub walk : Walk t (callsAt* t (siblings t defs c)) (conflictsAt* t (siblings t defs c))
+      (r .once) set set′ bodies′ called called′ found found′
+  pub twice : (h : ℕ) → Callee h → bitAt (r .twice) h ≡ twiceIn t (siblings t defs c) h
+  pub last : defs ≡ true → IsNode t (r .last .0) × (owner t (r .last .0) ≡ f) × (c ≤ r .last .0) × (finalAt t c ≡ exprAt t (r .last .0))
 
--- and wherever their functions are called
-abbrev pub dueBy : (t sure needs : List ℕ) → (g h : ℕ) → Bool
-dueBy t sure needs g h = anyUpTo (nodes t) (λ c. eqb (calleeOf t c) g && (has sure c h || has needs (owner t c) h))
+-- node n's children are evaluated side by side; of a let (defs) all but the last
+pub record Beside (t : List ℕ) (n : ℕ) (defs : Bool) : Type 0 where
+  pub calls : (m : ℕ) → callsAt* t (kidsAt t defs n) m ≡ true → Range (nodes t) m × Callee (calleeOf t m)
+  pub conflicts : (m : ℕ) → parallelAt t (kidsAt t defs n) m ≡ true → listed t m ≡ true
 
-pub record NeedsTo (t sure : List ℕ) (k : ℕ) (needs : List ℕ) : Type 0 where
-  pub size : length needs ≡ 64
-  pub each : (g h : ℕ) → IsFunction t g → Callee h → has needs g h ≡ dueTo t sure k g h
+-- a walk over node n's children, with their conflicts
+abbrev pub WalkKids : (t : List ℕ) (n : ℕ) (defs : Bool) (mask : ℕ) (set set′ bodies′ called called′ found found′ : List ℕ) → Type 0
+WalkKids t n defs =
+    Walk t (callsAt* t (kidsAt t defs n)) (joined (parallelAt t (kidsAt t defs n)) (conflictsAt* t (kidsAt t defs n)))
 
--- what is due wherever those of the functions up to k are called that stand above g and call it
-pub record Hands (direct needs : List ℕ) (g k sum : ℕ) : Type 0 where
-  pub bits : (h : ℕ) → Callee h → bitAt sum h ≡ anyUpTo k (λ f. ltb g f && (has direct f g && has needs f h))
+abbrev pub OntoKids : (t : List ℕ) (n mask mask′ : ℕ) (set set′ bodies′ called called′ found found′ : List ℕ) → Type 0
+OntoKids t n = Onto t (callsAt* t (kidsAt t false n)) (joined (parallelAt t (kidsAt t false n)) (conflictsAt* t (kidsAt t false n)))
 
--- handed on from the functions above k
-pub record HandedTo (t sure : List ℕ) (k : ℕ) (needs : List ℕ) : Type 0 where
-  pub size : length needs ≡ 64
-  pub low : (g h : ℕ) → IsFunction t g → g ≤ k → Callee h → has needs g h ≡ dueTo t sure (nodes t) g h
-  pub high : (g h : ℕ) → k < g → g ≤ functions t → Callee h → has needs g h ≡ dueBy t sure needs g h
+pub record Sided (t : List ℕ) (f n : ℕ) (defs : Bool) (r : Siblings) (set set′ bodies′ called called′ found found′ : List ℕ)
+    : Type 0 where
+  pub walk : WalkKids t n defs (r .once) set set′ bodies′ called called′ found found′
+  pub last : defs ≡ true → IsNode t (r .last .0) × (owner t (r .last .0) ≡ f) × (first t n ≤ r .last .0)
+      × (finalAt t (first t n) ≡ exprAt t (r .last .0))
 
 -- the records of an accepted table, or none, beside what the lent list of len records is told
 pub record Offers (t : List ℕ) (len : ℕ) (r : Listing) : Type 0 where

@@ -5,7 +5,7 @@ use Rattle.table.specs.Bytes.{functions, nodes}
 use Rattle.table.specs.Survey.{verdictOf}
 use Rattle.table.specs.Working.{Read}
 use Rattle.table.proofs.SurveyLaws.{survey-taken}
-use Rattle.list.proofs.Limits.{few}
+use Rattle.list.proofs.NodeLaws.{few}
 use Rattle.list.proofs.TagVerdicts.{fill-refused, fill-wrong, fill-right}
 use borrow.Author.Needs.{needs}
 use Rattle.list.proofs.fill_tags.Statement.{statement}

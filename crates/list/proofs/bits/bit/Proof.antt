@@ -1,0 +1,27 @@
+-- `bits::bit` meets its contract
+use Prim.Native.Nat.{_*_, _-_, _^_, _%_}
+use mathlib.Core.Path.{_≡_}
+use native.Mathlib.Omega.{arith}
+use Rattle.list.proofs.BitLaws.{bit-is}
+use borrow.Author.Needs.{needs}
+use Rattle.list.proofs.bits.bit.Statement.{statement}
+use Rattle.list.proofs.bits.bit.Tie as tie
+
+sub-result : tie.Need-sub-result
+sub-result c = search needs
+
+cast-result : tie.Need-cast-result
+cast-result c = search needs
+
+shl-result : tie.Need-shl-result
+shl-result c = search needs
+
+returns : tie.Need-returns
+returns c =
+    let start : tie.Start = search in
+    let n = start .args .n .0 in
+    let e : (1 * 2 ^ ((n - 1) % 8)) % 2 ^ 8 ≡ 2 ^ ((n - 1) % 8) = bit-is _ 8 (omega arith) in
+    e
+
+pub bit-spec : {M : Type 1} → statement M
+bit-spec = tie.close (tie.spec sub-result cast-result shl-result returns)
