@@ -9,8 +9,8 @@ use native.Mathlib.Decide.{ℕ-discrete}
 use lib.Dec.{eqb}
 use borrow.Author.Tests.{eq-eqb, ne-eqb, eqb-true}
 use Rattle.table.specs.Pick.{pick, Range}
-use Rattle.table.specs.Syntax.{Expr, Exprs, none}
-use Rattle.table.specs.Bytes.{functions, nodes, root, kind, word, first, next}
+use Rattle.table.specs.Syntax.{Expr, Exprs}
+use Rattle.table.specs.Bytes.{functions, nodes, root, kind, first, next}
 use Rattle.table.specs.Naming.{owner, parent}
 use Rattle.table.specs.Expressions.{exprsAt, exprAt, bodyOf, defsAt}
 use Rattle.table.specs.Working.{IsNode, IsFunction, Linked, Taken}
@@ -23,7 +23,7 @@ use Rattle.table.proofs.NodeCases.{is-const, is-param, is-prim, is-call, is-sel
 use Rattle.list.specs.Arbiters.{listedIn}
 use Rattle.list.specs.CallSets.{callee}
 use Rattle.list.specs.Tags.{calleeOf, listed}
-use Rattle.list.specs.Working.{callsBy, callsAt, callsAt*, conflictsAt, conflictsAt*, parallelAt, twiceIn, entryAt, siblings}
+use Rattle.list.specs.Working.{callsBy, callsAt, callsAt*, conflictsAt, conflictsAt*, parallelAt, twiceIn, entryAt}
 use Rattle.list.specs.Working.{metBy, metAt, Due, beside, below, entered}
 use Rattle.list.proofs.ArbiterFacts.{any-out, and-both, both-and}
 use Rattle.list.proofs.Callees.{callee-word}

@@ -15,7 +15,7 @@ use Rattle.table.proofs.Passed.{Passed}
 use Rattle.table.proofs.Tree.{exprs-none, exprs-some}
 use Rattle.table.proofs.NodeCases.{NodeCase, node-case, kids-three}
 use Rattle.table.proofs.NodeCases.{is-const, is-param, is-prim, is-call, is-self, is-cond, is-bind, is-bound}
-use Rattle.list.specs.Arbiters.{noCalls, joined, callsIn, parallel, conflicts}
+use Rattle.list.specs.Arbiters.{noCalls, joined, callsIn, conflicts}
 use Rattle.list.specs.Tags.{calleeOf}
 use Rattle.list.specs.CallSets.{callee}
 use Rattle.list.specs.Working.{callsBy, callsAt, callsAt*, conflictsAt, conflictsAt*, parallelAt, entryAt}
