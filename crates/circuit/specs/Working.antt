@@ -50,8 +50,8 @@ abbrev pub leading : Bool → List ℕ → List ℕ
 leading defs l = pick defs (initial l) l
 
 -- the next sibling; of none, none
-abbrev pub after : List ℕ → ℕ → ℕ
-after t n = pick (eqb n 0) 0 (next t n)
+abbrev pub following : List ℕ → ℕ → ℕ
+following t n = pick (eqb n 0) 0 (next t n)
 
 unfoldable pub lastFrom : ℕ → List ℕ → ℕ
 lastFrom d [] = d

@@ -19,7 +19,7 @@ ghost use Rattle.rules.specs.State.{entry, write, opened, clear, fill};
 ghost use Rattle.rules.specs.Step.{mine};
 ghost use Rattle.rules.specs.Circuit.{actOf};
 ghost use Rattle.circuit.specs.Meaning.{stateAs};
-ghost use Rattle.circuit.specs.Working.{Grouped, after, opens, Took, Made};
+ghost use Rattle.circuit.specs.Working.{Grouped, following, opens, Took, Made};
 
 // What a register gets from the argument at `at`, and the argument after it; past the last argument, zero.
 pub struct Handed {
@@ -29,7 +29,7 @@ pub struct Handed {
 
 fn hand(table: &[u8], cells: &Cells, value: &[u32; 512], at: Node) -> Handed
     requires { ⌜ Read (now table) (now cells) × (at .0 ≤ nodes (now table)) ⌝ }
-    ensures { λ r. ⌜ (r .value ≡ entry (now (value .entry)) 0 (at .0)) × (r .rest .0 ≡ after (now (table .entry)) (at .0)) ⌝ }
+    ensures { λ r. ⌜ (r .value ≡ entry (now (value .entry)) 0 (at .0)) × (r .rest .0 ≡ following (now (table .entry)) (at .0)) ⌝ }
 {
     if at.0 == 0 {
         return Handed { value: 0, rest: at };

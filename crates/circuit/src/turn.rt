@@ -21,7 +21,7 @@ ghost use Rattle.circuit.specs.Meaning.{replyOf, steppedAs, stateAs};
 ghost use Rattle.circuit.specs.Working.{Grouped, Stands};
 
 // 22 for a tagged call, 23 for one that isn't.
-fn held(tags: &[u8], n: Node) -> u8
+fn why_blocked(tags: &[u8], n: Node) -> u8
     ensures { λ r. ⌜ r ≡ pick (tagged (now (tags .entry)) (n .0)) 22 23 ⌝ }
 {
     if list::marks(tags, n) { 22 } else { 23 }
@@ -101,7 +101,7 @@ pub(crate) fn turn(
     );
     match effect {
         Effect::Stuck => Answer::Refused(21, n),
-        Effect::Blocked => Answer::Refused(held(tags, n), n),
+        Effect::Blocked => Answer::Refused(why_blocked(tags, n), n),
         Effect::Moved => told(status, value, root),
     }
 }

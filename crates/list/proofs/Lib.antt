@@ -14,9 +14,6 @@ pub mod NodeLaws
 pub mod OntoLaws
 pub mod SiblingLaws
 pub mod ChainLaws
-pub mod Chains
-pub mod NodeCalls
-pub mod DueLaws
 pub mod ListLaws
 pub mod SiteLaws
 pub mod NodeWalks

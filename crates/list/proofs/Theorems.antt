@@ -7,8 +7,11 @@ use lib.ListN.{length}
 use Rattle.table.specs.Pick.{Range}
 use Rattle.table.specs.Bytes.{functions, nodes}
 use Rattle.table.specs.Check.{checkOf, accepted}
-use Rattle.table.proofs.SurveyLaws.{taken-by}
-use Rattle.list.specs.Tags.{Holding, bitsSet, checkWith, isCall, listed, tagged, tagsOf}
+use Rattle.table.specs.Decoded.{decodedInto}
+use Rattle.table.proofs.SurveyLaws.{taken-by, taken-framed}
+use Rattle.table.proofs.DecodedLaws.{decoded-read}
+use Rattle.list.proofs.TagVerdicts.{held-read}
+use Rattle.list.specs.Tags.{Holding, bitsSet, checkWith, heldBy, isCall, listed, tagged, tagsOf, tagsRefusal}
 use Rattle.list.specs.Records.{recordsOf}
 use Rattle.list.proofs.PaperList.{PaperList}
 use Rattle.list.proofs.PaperList as Paper
@@ -41,3 +44,10 @@ total-records t F N e = Totals.total-records t (taken-by t F N (sym e) .0)
 
 pub total-whole : (t : List ℕ) (F N : ℕ) → checkOf t ≡ accepted F N → bitsSet (tagsOf t) % 2 ^ 64 ≡ length (recordsOf t)
 total-whole t F N e = Totals.total-whole t (taken-by t F N (sym e) .0)
+
+-- what `check_held` reads off the cells that the survey filled is refusal 10
+pub tags-beside : (t cells tags : List ℕ) (F N : ℕ) → checkOf t ≡ accepted F N → length cells ≡ 4360
+    → heldBy (decodedInto t cells) tags ≡ tagsRefusal t tags
+tags-beside t cells tags F N e z =
+    let k = taken-by t F N (sym e) .0 in
+    held-read t (decodedInto t cells) tags (record { taken = k; told = decoded-read t cells (taken-framed t k) z })

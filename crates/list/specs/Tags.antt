@@ -59,7 +59,7 @@ tagsRefusal t tags =
     stage 10 (eqb (length tags) (tagLength t) && nonePast t tags) (lowest (tagFits t tags) (nodes t)) λ _.
     accepted (functions t) (nodes t)
 
--- the same, read off a decoded table
+-- the same, read off the cells of a table: of an accepted one it is the same (Theorems, tags-beside)
 unfoldable pub cellFits : (cells tags : List ℕ) → Test
 cellFits cells tags n =
     not (tagged tags n)

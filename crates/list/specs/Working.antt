@@ -1,17 +1,17 @@
 -- what the parts of the walk ask of each other: packed sets, the sites of each function, and what the walk keeps
 use Prim.Native.Nat.{ℕ, _+_, _-_, _*_, _/_, _%_, _^_, _≤_}
-use mathlib.Core.Bool.{Bool, true, false, _&&_, _||_, not}
+use mathlib.Core.Bool.{Bool, true, false, _&&_, _||_}
 use mathlib.Core.Path.{_≡_}
 use mathlib.Core.List.{List, []}
 use lib.Dec.{eqb, leb}
 use lib.ListN.{length, getD, take, drop, replicate}
 use Rattle.table.specs.Pick.{pick, Range}
 use Rattle.table.specs.Syntax.{Expr, Exprs, none, some}
-use Rattle.table.specs.Bytes.{functions, nodes, root, kind, word, first, next}
-use Rattle.table.specs.Naming.{owner, parent}
+use Rattle.table.specs.Bytes.{functions, nodes, kind, word, first}
+use Rattle.table.specs.Naming.{owner}
 use Rattle.table.specs.Check.{accepted, ifAccepted}
 use Rattle.table.specs.Expressions.{exprsAt, exprAt, bodyOf, defsAt, finalAt}
-use Rattle.table.specs.Working.{IsNode, IsFunction, Taken, Cells}
+use Rattle.table.specs.Working.{IsNode, IsFunction, Taken, Decoded}
 use Rattle.table.specs.Survey.{verdictOf}
 use Rattle.list.specs.declared.Listing.{Listing}
 use Rattle.list.specs.declared.walk.Siblings.{Siblings}
@@ -71,22 +71,6 @@ siblings t defs c = pick defs (defsAt t c) (exprsAt t c)
 abbrev pub kidsAt : List ℕ → Bool → ℕ → Exprs
 kidsAt t defs n = siblings t defs (first t n)
 
--- h is called in two of the children of p that are evaluated side by side; a let's body, the last child, has no part in that
-unfoldable pub metBy : List ℕ → Bool → ℕ → Test
-metBy t last p h =
-    pick (eqb (kind t p) 3 || eqb (kind t p) 4) (twiceIn t (exprsAt t (first t p)) h)
-    (pick (eqb (kind t p) 6 && not last) (twiceIn t (defsAt t (first t p)) h) false)
-
--- h is called in two of the nodes that are evaluated side by side, n being one of them
-unfoldable pub metAt : List ℕ → ℕ → Test
-metAt t n h = pick (eqb (parent t n) 0) false (metBy t (eqb (next t n) 0) (parent t n) h)
-
--- a call of h at n would need an arbiter: n is reached from one of several nodes side by side, two of which call h
-pub data Due (t : List ℕ) (h : ℕ) : ℕ → Type 0 where
-  beside : (n : ℕ) → metAt t n h ≡ true → Due t h n
-  below : (n : ℕ) → (parent t n ≡ 0 → ⊥) → Due t h (parent t n) → Due t h n
-  entered : (n c : ℕ) → IsNode t c → 1 ≤ calleeOf t c → n ≡ root t (calleeOf t c) → Due t h c → Due t h n
-
 -- node m calls function h, its own maybe
 abbrev pub site : List ℕ → ℕ → ℕ → Bool
 site t h m = eqb (kind t m) 4 && eqb h (word t m)
@@ -102,7 +86,7 @@ Sited t sites = SitedTo t (nodes t) sites
 -- what the walk has at hand beside the table
 pub record Ready (t sites cells : List ℕ) : Type 0 where
   pub sited : Sited t sites
-  pub read : Cells t cells
+  pub read : Decoded t cells
 
 -- what a set has in common with those of the sets 1 to k of a row that a mask names
 unfoldable pub meetOf : (set row : List ℕ) (mask k : ℕ) → Test

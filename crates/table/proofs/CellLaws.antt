@@ -15,7 +15,7 @@ use Rattle.table.specs.Bytes.{functions, nodes, word, fourAt}
 use Rattle.table.specs.Naming.{owner, parent}
 use Rattle.table.specs.Decoded.{cellAt, putCell, nodeSlot, functionSlot, tableSlot, low, high, nodeField, functionField, tableField}
 use Rattle.table.specs.Decoded.{putFields}
-use Rattle.table.specs.Working.{IsNode, IsFunction, Framed, CellsTo, Raw, Cells, numberAt, upTo, filledTo, Filled}
+use Rattle.table.specs.Working.{IsNode, IsFunction, Framed, CellsTo, Raw, Decoded, numberAt, upTo, filledTo, Filled}
 use Rattle.table.proofs.Loops.{blank-at}
 
 -- by the number of a slot
@@ -347,7 +347,7 @@ module _ (t cells : List ℕ) (fr : Framed t) where
     own = λ k b. sizes-filled (functions t) (nodes t) m h k (omega arith);
   }
 
-  pub all-read : Filled t (functions t) (nodes t) (nodes t) cells → Cells t cells
+  pub all-read : Filled t (functions t) (nodes t) (nodes t) cells → Decoded t cells
   all-read h = record {
     size = h .size;
     node = λ n k i b. filled-at t cells (functions t) (nodes t) (nodes t) n (i .0) (omega (arith, i .1, fr .N-high)) h k b

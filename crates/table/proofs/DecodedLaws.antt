@@ -12,7 +12,7 @@ use Rattle.table.specs.Pick.{pick}
 use Rattle.table.specs.Bytes.{functions, nodes}
 use Rattle.table.specs.Decoded.{cellAt, nodeSlot, functionSlot, tableSlot, nodeField, functionField, tableField}
 use Rattle.table.specs.Decoded.{putFields, functionsPut, nodesPut, decodedInto}
-use Rattle.table.specs.Working.{Framed, Cells}
+use Rattle.table.specs.Working.{Framed, Decoded}
 use Rattle.table.proofs.CellLaws.{Row, row-fields}
 
 -- one turn more
@@ -102,7 +102,7 @@ module _ (t : List ℕ) where
       subst (λ m. Stand t F m (putFields 8 (nodeSlot m) (nodeField t m) (nodesPut t n cells))) (next-number n)
       (stand-node F n _ i (omega arith) (all-nodes F n cells i (omega arith) h))
 
-pub decoded-read : (t cells : List ℕ) → Framed t → length cells ≡ 4360 → Cells t (decodedInto t cells)
+pub decoded-read : (t cells : List ℕ) → Framed t → length cells ≡ 4360 → Decoded t (decodedInto t cells)
 unfolding decodedInto
 decoded-read t cells fr z = record {
   size = all .size;

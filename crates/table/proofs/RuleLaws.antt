@@ -10,7 +10,7 @@ use borrow.Author.Tests.{eq-eqb, ne-eqb, le-leb, leb-true}
 use Rattle.table.specs.Pick.{pick}
 use Rattle.table.specs.Find.{one, all}
 use Rattle.table.specs.Check.{fields, countsOf, operationCounts, within}
-use Rattle.table.specs.Sweep.{kindRules, wordRules, countRules, Fits, tailReach}
+use Rattle.table.specs.Sweep.{kindRules, wordRules, countRules, KindFits, tailReach}
 use Rattle.table.proofs.CellLaws.{by-eight}
 use Rattle.table.proofs.FindLaws.{all-passes}
 use Rattle.table.proofs.CountLaws.{counts-by}
@@ -80,7 +80,7 @@ flag-place (suc (suc c)) w F h f = absurd (omega arith)
 -- the tests that are looked up are those of the kind
 abbrev Told : ℕ → Type 0
 Told k = (e w o p q : ℕ) → 1 ≤ o → p ≤ 8 → q ≤ 1 → e < p * ruleOf k 1 + ruleOf k 0 → ruleOf k 2 ≤ w
-    → w ≤ (o + q - 1) * ruleOf k 2 + getD wordRules k 0 → Fits k e w o p q
+    → w ≤ (o + q - 1) * ruleOf k 2 + getD wordRules k 0 → KindFits k e w o p q
 
 fits-rules : (k : ℕ) → k < 8 → Told k
 unfolding fields
@@ -140,7 +140,7 @@ fits-rules = by-eight Told
     none x h = eq-eqb x 0 (omega arith)
 
 pub fits-told : (k e w o p q a b c l : ℕ) → k < 8 → a ≡ ruleOf k 1 → b ≡ ruleOf k 0 → c ≡ ruleOf k 2 → l ≡ getD wordRules k 0
-    → 1 ≤ o → p ≤ 8 → q ≤ 1 → e < p * a + b → c ≤ w → w ≤ (o + q - 1) * c + l → Fits k e w o p q
+    → 1 ≤ o → p ≤ 8 → q ≤ 1 → e < p * a + b → c ≤ w → w ≤ (o + q - 1) * c + l → KindFits k e w o p q
 fits-told k e w o p q a b c l i ea eb ec el j m n x y z =
     fits-rules k i e w o p q j m n (rw (ea, eb) at x) (rw ec at y) (rw (ec, el) at z)
 

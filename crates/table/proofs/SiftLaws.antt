@@ -14,7 +14,7 @@ use Rattle.table.specs.Bytes.{kind, extra, word, params, first, next}
 use Rattle.table.specs.Naming.{namer, owner, parent, tailChild, tail, chain, children}
 use Rattle.table.specs.Check.{countsOf, within, counted}
 use Rattle.table.specs.Working.{IsNode, Framed, Linked}
-use Rattle.table.specs.Sweep.{rank, around, inner, tailReach, tailFrom, Fits, NodeFits, Down, Sifts}
+use Rattle.table.specs.Sweep.{rank, around, inner, tailReach, tailFrom, KindFits, NodeFits, Down, Sifts}
 use Rattle.table.specs.declared.sweep.Sifting.{Sifting}
 use Rattle.table.proofs.CountLaws.{counts-by}
 use Rattle.table.proofs.FindLaws.{both, back-step}
@@ -207,7 +207,8 @@ module _ (t : List ℕ) (n : ℕ) (i : 1 ≤ n) (k : ℕ) (ek : k ≡ kind t n) 
   }
 
 pub fits-here : (t : List ℕ) (n k e w o p q : ℕ) → k ≡ kind t n → e ≡ extra t n → w ≡ word t n → o ≡ owner t n → p ≡ params t o
-    → q ≡ one (tail t n) → Fits k e w o p q → Fits (kind t n) (extra t n) (word t n) (owner t n) (params t (owner t n)) (one (tail t n))
+    → q ≡ one (tail t n) → KindFits k e w o p q
+    → KindFits (kind t n) (extra t n) (word t n) (owner t n) (params t (owner t n)) (one (tail t n))
 fits-here t n k e w o p q ek ee ew eo ep eq f = rw (sym ek, sym ee, sym ew, sym eq, sym eo, sym ep) f
 
 pub pick-most : (b : Bool) → pick b 1024 0 ≤ 1024

@@ -30,7 +30,7 @@ use Rattle.table.specs.Check.{
   ifAccepted,
   checkOf,
 }
-use Rattle.table.specs.Working.{Framed, Linked, Taken, Cells, Kindred, Decides, Read, frameNumber, checkNodes, faultVerdict}
+use Rattle.table.specs.Working.{Framed, Linked, Taken, Decoded, Kindred, Settles, Read, frameNumber, checkNodes, faultVerdict}
 use Rattle.table.specs.Survey.{verdictOf}
 use Rattle.table.specs.Decoded.{decodedInto, surveyed}
 use Rattle.table.proofs.FindLaws.{both, all-passes, lowest-passes}
@@ -142,11 +142,11 @@ verdict-apart (Refused k p) (Accepted f n) e = absurd (let z : _≡_ {A = ℕ} 0
 verdict-apart (Refused k p) (Refused j q) e = let x : k ≡ j = cc in let y : p .0 ≡ q .0 = cc in λ i. Refused (x i) (record { 0 = y i })
 
 -- the check's answer, with kin that is nothing where it is a refusal
-pub refuses : (t kin : List ℕ) (k : ℕ) (p : Node) → checkOf t ≡ refused k (p .0) → Decides t (Refused k p) kin
+pub refuses : (t kin : List ℕ) (k : ℕ) (p : Node) → checkOf t ≡ refused k (p .0) → Settles t (Refused k p) kin
 refuses t kin k p e = record { told = sym e; kindred = λ q. absurd (let z : _≡_ {A = ℕ} 0 1 = cc in omega arith) }
 
 pub accepts : (t kin : List ℕ) (f : Function) (n : Node) → Taken t → f .0 ≡ functions t → n .0 ≡ nodes t → Kindred t kin
-    → Decides t (Accepted f n) kin
+    → Settles t (Accepted f n) kin
 accepts t kin f n e ef en h = record { told = ap₂ accepted ef en ∙ sym e; kindred = λ q. h }
 
 -- an accepted table: its answer names F and N, and its records can be read
@@ -176,4 +176,4 @@ unfolding surveyed
 survey-taken t cells cells′ r f n size told q e =
     let k = taken-by t (f .0) (n .0) (sym (ap verdictOf e) ∙ told) in
     let into = q ∙ ap (λ v. ifAccepted v (decodedInto t cells) cells) (k .0) in
-    (record { taken = k .0; told = subst (Cells t) (sym into) (decoded-read t cells (taken-framed t (k .0)) size) }, k .1, k .2)
+    (record { taken = k .0; told = subst (Decoded t) (sym into) (decoded-read t cells (taken-framed t (k .0)) size) }, k .1, k .2)

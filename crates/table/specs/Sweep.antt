@@ -1,5 +1,5 @@
--- what the parts of the sweep ask of each other: the sweep tells in three loops that a table is accepted, and leaves other tables to the
--- check
+-- what the parts of the sweep ask of each other, no part of what a reader must believe: in four loops the sweep tells that a table is
+-- accepted, and leaves what it does not pass to the check
 use Prim.Native.Nat.{ℕ, _+_, _-_, _*_, _%_, _≤_, _<_}
 use mathlib.Core.Bool.{Bool, true, _&&_, _||_, not}
 use mathlib.Core.Path.{_≡_}
@@ -97,7 +97,7 @@ tailFrom t p = pick (eqb p 0) 0 (tailReach (kind t p) + pick (tail t p) 0 2048)
 
 -- what a node's kind asks of extra and word, with 6, 8 and 9 for calls and parameters: the function's number and parameters, and whether
 -- the node is in tail position, as a number
-pub record Fits (kind extra word owner params tail : ℕ) : Type 0 where
+pub record KindFits (kind extra word owner params tail : ℕ) : Type 0 where
   pub shaped : fields kind extra word 0 ≡ true
   pub callee : kind ≡ 4 → (1 ≤ word) × (word ≤ owner)
   pub ends : kind ≡ 4 → word ≡ owner → tail ≡ 1
@@ -106,7 +106,7 @@ pub record Fits (kind extra word owner params tail : ℕ) : Type 0 where
 
 -- 5 to 9 at a node, but for bounds
 pub record NodeFits (t : List ℕ) (n : ℕ) : Type 0 where
-  pub fits : Fits (kind t n) (extra t n) (word t n) (owner t n) (params t (owner t n)) (one (tail t n))
+  pub fits : KindFits (kind t n) (extra t n) (word t n) (owner t n) (params t (owner t n)) (one (tail t n))
   pub counts : T (counted t n)
 
 unfoldable pub boundFits : List ℕ → ℕ → Bool
@@ -136,7 +136,7 @@ pub record BoundsTo (t : List ℕ) (k : ℕ) (bounds : List ℕ) (count : ℕ) :
   pub all : ((i : ℕ) → i < count → T (boundFits t (getD bounds i 0))) → (n : ℕ) → 1 ≤ n → n ≤ k → T (boundFits t n)
 
 -- node n, with its kin and the number of its children, and what its parent handed down
-pub record Siftable (t : List ℕ) (base n own kids from within outer : ℕ) : Type 0 where
+pub record Siftable (t : List ℕ) (base n own kids from inside outer : ℕ) : Type 0 where
   pub place : At t base n
   pub links : Linked t
   pub roots : RootsFit t (functions t)
@@ -144,7 +144,7 @@ pub record Siftable (t : List ℕ) (base n own kids from within outer : ℕ) : T
   pub children : kids ≡ length (children t n)
   pub parent-counted : (parent t n ≡ 0 → ⊥) → T (counted t (parent t n))
   pub from-told : from ≡ tailFrom t (parent t n)
-  pub inner-told : within ≡ inner t (parent t n)
+  pub inner-told : inside ≡ inner t (parent t n)
   pub outer-told : outer ≡ around t (parent t n)
 
 -- what a node hands down, by its kind, what is around it and whether it is in tail position

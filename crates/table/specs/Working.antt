@@ -54,8 +54,8 @@ pub record CellsTo (t cells : List ℕ) (top : ℕ) : Type 0 where
 abbrev pub Raw : List ℕ → List ℕ → Type 0
 Raw t cells = CellsTo t cells 6
 
-abbrev pub Cells : List ℕ → List ℕ → Type 0
-Cells t cells = CellsTo t cells 8
+abbrev pub Decoded : List ℕ → List ℕ → Type 0
+Decoded t cells = CellsTo t cells 8
 
 -- the number from 1 to m whose slot is s: m itself has slot 0
 abbrev pub numberAt : ℕ → ℕ → ℕ
@@ -130,7 +130,7 @@ Tails t l = (n : ℕ) → IsNode t n → getD l n false ≡ tail t n
 pub record Within (t cells : List ℕ) (n : ℕ) : Type 0 where
   pub framed : Framed t
   pub links : Linked t
-  pub read : Cells t cells
+  pub read : Decoded t cells
   pub node : IsNode t n
 
 -- and what was read of it
@@ -179,11 +179,11 @@ pub record Kindred (t kin : List ℕ) : Type 0 where
   pub parents : (n : ℕ) → IsNode t n → getD kin n 0 / 64 % 1024 ≡ parent t n
 
 -- the check's answer, and what it leaves where the table is accepted
-pub record Decides (t : List ℕ) (r : Checked) (kin : List ℕ) : Type 0 where
+pub record Settles (t : List ℕ) (r : Checked) (kin : List ℕ) : Type 0 where
   pub told : verdictOf r ≡ checkOf t
   pub kindred : Taken t → Kindred t kin
 
 -- the cells of a table that the check takes
 pub record Read (t cells : List ℕ) : Type 0 where
   pub taken : Taken t
-  pub told : Cells t cells
+  pub told : Decoded t cells

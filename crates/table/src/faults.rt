@@ -12,7 +12,7 @@ ghost use lib.ListN.{length};
 ghost use Rattle.table.specs.Bytes.{functions, nodes, params, kind, extra, word};
 ghost use Rattle.table.specs.Naming.{owner, tail as tailOf, underLast, inScope, chain};
 ghost use Rattle.table.specs.Check.{among, counted, scoped};
-ghost use Rattle.table.specs.Working.{Framed, Linked, Cells, Within, Tails, NodeAt, better, faultAt, checkNodes, faultVerdict};
+ghost use Rattle.table.specs.Working.{Framed, Linked, Decoded, Within, Tails, NodeAt, better, faultAt, checkNodes, faultVerdict};
 
 // The lowest number met so far and the lowest node that meets it; 10, past the last number here, stands for none.
 pub struct Fault {
@@ -36,7 +36,7 @@ fn callee_fits(kind: u16, word: u32, own: Function) -> bool
 
 // The number of siblings from c on.
 fn chain_length(table: &[u8], cells: &Cells, c: Node) -> usize
-    requires { ⌜ Framed (now table) × Linked (now table) × Cells (now table) (now cells) × (c .0 ≤ nodes (now table)) ⌝ }
+    requires { ⌜ Framed (now table) × Linked (now table) × Decoded (now table) (now cells) × (c .0 ≤ nodes (now table)) ⌝ }
     ensures { λ r. ⌜ r ≡ length (chain (now (table .entry)) (c .0)) ⌝ }
 {
     let mut at = c.0;
@@ -51,7 +51,7 @@ fn chain_length(table: &[u8], cells: &Cells, c: Node) -> usize
 
 // A callee's parameters; of what is no call, anything.
 fn callee_params(table: &[u8], cells: &Cells, kind: u16, word: u32) -> u16
-    requires { ⌜ Framed (now table) × Cells (now table) (now cells) × (kind ≡ 4 → (1 ≤ word) × (word ≤ functions (now table))) ⌝ }
+    requires { ⌜ Framed (now table) × Decoded (now table) (now cells) × (kind ≡ 4 → (1 ≤ word) × (word ≤ functions (now table))) ⌝ }
     ensures { λ r. ⌜ (kind ≡ 4 → r ≡ params (now (table .entry)) word) ⌝ }
 {
     if kind != 4 {
@@ -194,7 +194,7 @@ fn lower(best: Fault, number: u8, place: Node) -> Fault
 
 // The lowest number of 5 to 9 that a node meets, and the lowest node that meets it.
 pub(crate) fn lowest(table: &[u8], cells: &Cells, tails: [bool; 513]) -> Fault
-    requires { ⌜ Framed (now table) × Linked (now table) × Cells (now table) (now cells) × Tails (now table) tails ⌝ }
+    requires { ⌜ Framed (now table) × Linked (now table) × Decoded (now table) (now cells) × Tails (now table) tails ⌝ }
     ensures { λ r. ⌜ faultVerdict (now (table .entry)) r ≡ checkNodes (now (table .entry)) ⌝ }
 {
     let last = decoded::last(cells).0;

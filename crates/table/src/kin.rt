@@ -10,7 +10,7 @@ ghost use lib.Dec.{eqb};
 ghost use Rattle.table.specs.Pick.{pick};
 ghost use Rattle.table.specs.Bytes.{functions, nodes, first};
 ghost use Rattle.table.specs.Naming.{rootOf, namer as namerOf, parent as parentOf, tailChild};
-ghost use Rattle.table.specs.Working.{Framed, IsNode, Filled, Raw, Tops, Holders, Tails, Cells, Linked, Kindred};
+ghost use Rattle.table.specs.Working.{Framed, IsNode, Filled, Raw, Tops, Holders, Tails, Decoded, Linked, Kindred};
 
 // A root's function is its own, any other node's that of the node that names it.
 fn owner_of(namer: Node, root: Function, above: Function) -> Function
@@ -98,7 +98,7 @@ fn relate(table: &[u8], cells: &mut Cells, namer: Node, root: Function, n: Node)
 
 // Function and parent of each node in one number, as the sweep has them.
 pub(crate) fn recall(table: &[u8], cells: &Cells) -> [u32; 513]
-    requires { ⌜ Framed (now table) × Cells (now table) (now cells) × Linked (now table) ⌝ }
+    requires { ⌜ Framed (now table) × Decoded (now table) (now cells) × Linked (now table) ⌝ }
     ensures { λ r. ⌜ Kindred (now (table .entry)) r ⌝ }
 {
     let last = decoded::last(cells).0;

@@ -17,7 +17,7 @@ use crate::sweep::Residue;
 ghost use Rattle.table.specs.Survey.{verdictOf};
 ghost use Rattle.table.specs.Check.{checkOf};
 ghost use Rattle.table.specs.Decoded.{surveyed};
-ghost use Rattle.table.specs.Working.{Framed, Taken, Decides};
+ghost use Rattle.table.specs.Working.{Framed, Taken, Settles};
 ghost use Rattle.table.specs.Sweep.{Kin};
 ghost use mathlib.Core.Bool.{true};
 ghost use mathlib.Core.Path.{_≡_};
@@ -62,7 +62,7 @@ pub fn survey(table: &[u8], cells: &mut [u16; 4360]) -> Checked
 // The check, and of an accepted table each node's function and parent.
 fn decide(table: &[u8], kin: &mut [u32; 513]) -> Checked
     requires { ⌜ now kin ≡ replicate 513 0 ⌝ }
-    ensures { λ r. ⌜ Decides (now (table .entry)) r (now (kin .exit)) ⌝ }
+    ensures { λ r. ⌜ Settles (now (table .entry)) r (now (kin .exit)) ⌝ }
 {
     let number = frame::number(table);
     if number != 0 {
@@ -74,7 +74,8 @@ fn decide(table: &[u8], kin: &mut [u32; 513]) -> Checked
     inspect(table, kin)
 }
 
-// Whether a table of the right size is accepted, in three loops; its nodes' kin comes with it. What it does not pass is left to `inspect`.
+// Whether a table of the right size passes four loops, and so is accepted; its nodes' kin comes with it. What does not pass may be
+// accepted all the same as far as this promise goes: `inspect` decides.
 fn passes(table: &[u8], kin: &mut [u32; 513]) -> bool
     requires { ⌜ Framed (now table) × (now kin ≡ replicate 513 0) ⌝ }
     ensures { λ r. ⌜ (r ≡ true → Taken (now (table .entry)) × Kin (now (table .entry)) (now (kin .exit))) ⌝ }
@@ -99,7 +100,7 @@ fn passes(table: &[u8], kin: &mut [u32; 513]) -> bool
 // A table of the right size: refusals 4 to 9.
 fn inspect(table: &[u8], kin: &mut [u32; 513]) -> Checked
     requires { ⌜ Framed (now table) ⌝ }
-    ensures { λ r. ⌜ Decides (now (table .entry)) r (now (kin .exit)) ⌝ }
+    ensures { λ r. ⌜ Settles (now (table .entry)) r (now (kin .exit)) ⌝ }
 {
     let mut cells = [0u16; 4360];
     decode::sizes(table, &mut cells);

@@ -6,8 +6,10 @@ ghost use lib.Dec.{eqb};
 ghost use lib.ListN.{getD};
 ghost use Rattle.table.specs.Find.{one};
 ghost use Rattle.table.specs.Check.{countsOf, within};
-ghost use Rattle.table.specs.Sweep.{kindRules, wordRules, countRules, Fits};
+ghost use Rattle.table.specs.Sweep.{kindRules, wordRules, countRules, KindFits};
 
+// By kind, eight numbers (`kindRules`): what extra is below, whether it is a parameter, whether a call; from where its children reach a
+// tail position; whether it is a bound, whether a let; two that are unused.
 pub(crate) const KINDS: [u16; 64] = [
     0,
     0,
@@ -75,8 +77,10 @@ pub(crate) const KINDS: [u16; 64] = [
     0,
 ];
 
+// By kind: the highest word, where it is no call.
 pub(crate) const WORDS: [u64; 8] = [0, 4294967295, 0, 0, 0, 0, 0, 4294967295];
 
+// By kind and extra, sixteen of each: the fewest children, and 256 times the most.
 pub(crate) const COUNTS: [u16; 128] = [
     0,
     0,
@@ -208,6 +212,7 @@ pub(crate) const COUNTS: [u16; 128] = [
     0,
 ];
 
+// Number j of a kind.
 pub(crate) fn rule(rules: &[u16; 64], kind: u16, j: usize) -> u16
     requires { ⌜ (now rules ≡ kindRules) × (kind < 8) × (j < 8) ⌝ }
     ensures { λ r. ⌜ r ≡ getD kindRules (8 * kind + j) 0 ⌝ }
@@ -228,7 +233,7 @@ pub(crate) fn kind_fits(
     tail: u16,
 ) -> bool
     requires { ⌜ (now rules ≡ kindRules) × (now words ≡ wordRules) × (kind < 8) × (1 ≤ owner) × (owner ≤ 32) × (own ≤ 8) × (tail ≤ 1) ⌝ }
-    ensures { λ r. ⌜ (r ≡ true → Fits kind extra word owner own tail) ⌝ }
+    ensures { λ r. ⌜ (r ≡ true → KindFits kind extra word owner own tail) ⌝ }
 {
     let below = own * rule(rules, kind, 1) + rule(rules, kind, 0);
     if below <= extra {

@@ -9,7 +9,7 @@ ghost use Rattle.table.specs.Bytes.{nodeAt, params, spare, root, kind, e
 ghost use Rattle.table.specs.Working.{Framed, IsFunction, At};
 
 // Where node n's record begins.
-fn place(table: &[u8], base: usize, n: Node) -> usize
+fn offset(table: &[u8], base: usize, n: Node) -> usize
     requires { ⌜ At (now table) base (n .0) ⌝ }
     ensures { λ r. ⌜ (r ≡ nodeAt (now (table .entry)) (n .0)) × (r + 10 ≤ length (now (table .entry))) ⌝ }
 {
@@ -21,7 +21,7 @@ pub(crate) fn kind(table: &[u8], base: usize, n: Node) -> u16
     requires { ⌜ At (now table) base (n .0) ⌝ }
     ensures { λ r. ⌜ r ≡ kind (now (table .entry)) (n .0) ⌝ }
 {
-    let at = place(table, base, n);
+    let at = offset(table, base, n);
     decode::wide(table[at])
 }
 
@@ -29,7 +29,7 @@ pub(crate) fn extra(table: &[u8], base: usize, n: Node) -> u16
     requires { ⌜ At (now table) base (n .0) ⌝ }
     ensures { λ r. ⌜ r ≡ extra (now (table .entry)) (n .0) ⌝ }
 {
-    let at = place(table, base, n);
+    let at = offset(table, base, n);
     decode::wide(table[at + 1])
 }
 
@@ -37,7 +37,7 @@ pub(crate) fn word(table: &[u8], base: usize, n: Node) -> u32
     requires { ⌜ At (now table) base (n .0) ⌝ }
     ensures { λ r. ⌜ r ≡ word (now (table .entry)) (n .0) ⌝ }
 {
-    let at = place(table, base, n);
+    let at = offset(table, base, n);
     let low = decode::two_at(table, at + 2);
     let high = decode::two_at(table, at + 4);
     (low as u32) + 65536 * (high as u32)
@@ -47,7 +47,7 @@ pub(crate) fn first(table: &[u8], base: usize, n: Node) -> Node
     requires { ⌜ At (now table) base (n .0) ⌝ }
     ensures { λ r. ⌜ r .0 ≡ first (now (table .entry)) (n .0) ⌝ }
 {
-    let at = place(table, base, n);
+    let at = offset(table, base, n);
     Node(decode::two_at(table, at + 6))
 }
 
@@ -55,7 +55,7 @@ pub(crate) fn next(table: &[u8], base: usize, n: Node) -> Node
     requires { ⌜ At (now table) base (n .0) ⌝ }
     ensures { λ r. ⌜ r .0 ≡ next (now (table .entry)) (n .0) ⌝ }
 {
-    let at = place(table, base, n);
+    let at = offset(table, base, n);
     Node(decode::two_at(table, at + 8))
 }
 

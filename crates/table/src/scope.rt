@@ -20,7 +20,7 @@ fn same(a: u16, b: u16) -> u16
 }
 
 // Whether p is one of four, without a branch.
-fn among(a: u16, b: u16, c: u16, d: u16, p: u16) -> bool
+fn one_of_four(a: u16, b: u16, c: u16, d: u16, p: u16) -> bool
     ensures { λ r. ⌜ (r ≡ true → (a ≡ p) ⊎ ((b ≡ p) ⊎ ((c ≡ p) ⊎ (d ≡ p)))) ⌝ }
 {
     same(a, p) + same(b, p) + same(c, p) + same(d, p) != 0
@@ -55,7 +55,7 @@ fn reaches(table: &[u8], outers: &[u16; 513], inners: &[u16; 513], n: Node, p: u
     let b = outer(table, outers, inners, a);
     let c = outer(table, outers, inners, b);
     let d = outer(table, outers, inners, c);
-    if among(a, b, c, d, p) {
+    if one_of_four(a, b, c, d, p) {
         return true;
     }
     climbs(table, outers, inners, p, d)

@@ -2,6 +2,7 @@
 //! budget, one step and one start.
 
 mod check;
+mod designs;
 mod list;
 mod measure;
 mod ratios;

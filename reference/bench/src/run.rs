@@ -2,19 +2,17 @@
 
 use std::hint::black_box;
 
+use crate::designs::jobs;
 use crate::measure::{medians, Section};
 use crate::ratios::Ratios;
 use compare_circuit::lent::Lent;
 use design::asm::assemble;
 use design::circuit::{self, run_budget, Ending};
 use design::list::tags_of;
-use design::random::{accepted_of, Random};
 use design::reading::read;
-use design::states::arguments;
 use design::Tree;
 
 const SIZES: [usize; 3] = [16, 128, 512];
-const TABLES: usize = 12;
 
 /// Steps of each run but that of mult, which comes to its end.
 const BUDGET: u32 = 20_000;
@@ -36,7 +34,8 @@ const COLUMNS: [(&str, usize); 5] =
 
 pub fn section(ratios: &mut Ratios) {
     let section = Section::new("run on a budget, medians over all runs", "nodes", &COLUMNS);
-    let by_size = SIZES.map(jobs);
+    // They go on for longer than the budget, so that all runs have as many steps.
+    let by_size = SIZES.map(|size| jobs(size, BUDGET, |table, arguments| Job::new(table, &arguments, BUDGET)));
     for (size, jobs) in SIZES.iter().zip(&by_size) {
         let ratio = row(&section, &size.to_string(), jobs);
         ratios.add(&format!("run, a step at {size} nodes"), ratio, BOUND);
@@ -83,21 +82,6 @@ impl Job {
         assert_eq!(compare_circuit::drive(&table, &tags, &mut proved.clone(), budget), Ok(Ok((steps, ending))));
         Job { table, tags, proved, fast, budget, steps }
     }
-}
-
-/// Designs that go on for longer than the budget, so that all runs have as many steps.
-fn jobs(size: usize) -> Vec<Job> {
-    let mut random = Random::new(size as u64);
-    let mut jobs = Vec::new();
-    while jobs.len() < TABLES {
-        let table = accepted_of(&mut random, size);
-        let tree = Tree::read(&table).expect("an accepted table");
-        let arguments = arguments(&mut random, &tree);
-        if read(&tree, &arguments, BUDGET.into()).is_none() {
-            jobs.push(Job::new(table, &arguments, BUDGET));
-        }
-    }
-    jobs
 }
 
 /// The longest way through mult: all bits set in both arguments.

@@ -1,41 +1,38 @@
-//! One step and one start, each a call that is handed table, tags and state anew. The state is lent as five arrays.
+//! One step and one start, each a call that is handed table, tags and state anew. The proved code is lent the state as
+//! five arrays and changes them in place.
 
 use std::hint::black_box;
 
+use crate::designs::jobs;
 use crate::measure::{medians, Section};
 use crate::ratios::Ratios;
 use compare_circuit::lent::Lent;
 use design::circuit::{self, Answer};
 use design::list::tags_of;
-use design::random::{accepted_of, Random};
-use design::reading::read;
-use design::states::arguments;
-use design::Tree;
 
 const SIZES: [usize; 3] = [16, 128, 512];
-const TABLES: usize = 12;
 
 /// Calls that are made one after the other, so that handing out a state for them hardly counts.
 const STEPS: u32 = 64;
 const STARTS: u32 = 16;
 
-/// Against plain Rust that makes the same copies of the state; in place is shown for what is possible.
+/// Against plain Rust that changes the state in place too; the way with copies is shown for what they cost.
 const BOUND: f64 = 1.5;
 
 const COLUMNS: [(&str, usize); 5] = [
     ("proved ns", 0),
-    ("fast (copies) ns", 0),
     ("fast (in place) ns", 0),
-    ("ratio to copies", 2),
+    ("fast (copies) ns", 0),
     ("ratio to in place", 2),
+    ("ratio to copies", 2),
 ];
 
 pub fn section(ratios: &mut Ratios) {
-    let by_size = SIZES.map(|size| (size, jobs(size)));
+    let by_size = SIZES.map(|size| (size, jobs(size, STEPS, Job::new)));
     let title = "one step, medians over steps from a start; table, tags and state are checked in each";
     let section = Section::new(title, "nodes", &COLUMNS);
     for (size, jobs) in &by_size {
-        let times = medians(jobs, 0, [&steps_proved, &steps_copied, &steps_in_place]);
+        let times = medians(jobs, 0, [&steps_proved, &steps_in_place, &steps_copied]);
         let nanos = times.nanos.map(|nanos| nanos / f64::from(STEPS));
         section.row(&size.to_string(), &[&nanos[..], &times.ratios[..]].concat());
         ratios.add(&format!("one step, {size} nodes"), times.ratios[0], BOUND);
@@ -43,7 +40,7 @@ pub fn section(ratios: &mut Ratios) {
     println!();
     let section = Section::new("one start, medians; table and tags are checked in each", "nodes", &COLUMNS);
     for (size, jobs) in &by_size {
-        let times = medians(jobs, 0, [&starts_proved, &starts_copied, &starts_in_place]);
+        let times = medians(jobs, 0, [&starts_proved, &starts_in_place, &starts_copied]);
         let nanos = times.nanos.map(|nanos| nanos / f64::from(STARTS));
         section.row(&size.to_string(), &[&nanos[..], &times.ratios[..]].concat());
         ratios.add(&format!("one start, {size} nodes"), times.ratios[0], BOUND);
@@ -86,21 +83,6 @@ impl Job {
     }
 }
 
-/// Designs that go on for longer than the steps that are asked for.
-fn jobs(size: usize) -> Vec<Job> {
-    let mut random = Random::new(size as u64);
-    let mut jobs = Vec::new();
-    while jobs.len() < TABLES {
-        let table = accepted_of(&mut random, size);
-        let tree = Tree::read(&table).expect("an accepted table");
-        let arguments = arguments(&mut random, &tree);
-        if read(&tree, &arguments, STEPS.into()).is_none() {
-            jobs.push(Job::new(table, arguments));
-        }
-    }
-    jobs
-}
-
 fn steps_proved(job: &Job) {
     let mut state = job.proved.clone();
     for node in &job.nodes {
@@ -110,18 +92,18 @@ fn steps_proved(job: &Job) {
     }
 }
 
-fn steps_copied(job: &Job) {
-    let mut state = job.fast.clone();
-    for node in &job.nodes {
-        black_box(fast::step_lent(black_box(&job.table), black_box(&job.tags), &mut state.lend(), *node));
-        black_box(&mut state);
-    }
-}
-
 fn steps_in_place(job: &Job) {
     let mut state = job.fast.clone();
     for node in &job.nodes {
         black_box(fast::step(black_box(&job.table), black_box(&job.tags), &mut state, *node));
+        black_box(&mut state);
+    }
+}
+
+fn steps_copied(job: &Job) {
+    let mut state = job.fast.clone();
+    for node in &job.nodes {
+        black_box(fast::step_lent(black_box(&job.table), black_box(&job.tags), &mut state.lend(), *node));
         black_box(&mut state);
     }
 }
@@ -135,18 +117,18 @@ fn starts_proved(job: &Job) {
     }
 }
 
-fn starts_copied(job: &Job) {
-    let mut state = job.fast.clone();
-    for _ in 0..STARTS {
-        black_box(fast::start_lent(black_box(&job.table), black_box(&job.tags), &job.arguments, &mut state.lend()));
-        black_box(&mut state);
-    }
-}
-
 fn starts_in_place(job: &Job) {
     let mut state = job.fast.clone();
     for _ in 0..STARTS {
         black_box(fast::start(black_box(&job.table), black_box(&job.tags), &job.arguments, &mut state));
+        black_box(&mut state);
+    }
+}
+
+fn starts_copied(job: &Job) {
+    let mut state = job.fast.clone();
+    for _ in 0..STARTS {
+        black_box(fast::start_lent(black_box(&job.table), black_box(&job.tags), &job.arguments, &mut state.lend()));
         black_box(&mut state);
     }
 }

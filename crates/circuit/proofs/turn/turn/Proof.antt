@@ -141,8 +141,8 @@ returns-5 c =
 enum-told-2 : tie.Need-enum-told-2
 enum-told-2 c = search needs
 
-held-requires : tie.Need-held-requires
-held-requires c κs = search needs
+why-blocked-requires : tie.Need-why-blocked-requires
+why-blocked-requires c κs = search needs
 
 returns-6 : tie.Need-returns-6
 returns-6 c =
@@ -152,7 +152,7 @@ returns-6 c =
     let s = start (there going) in
     out-held _ (s .args .tags .now) (s .pre .0 .taken) (state s) (s .args .n .0) _ _ (act s) (took .take-busy .ensures)
     (is .enum-told2 .given .1) _
-    (c .held .ensures) ∙ sym (on going)
+    (c .why-blocked .ensures) ∙ sym (on going)
 
 enum-told-3 : tie.Need-enum-told-3
 enum-told-3 c = search needs
@@ -190,7 +190,7 @@ turn-spec =
     take-busy-requires
     enum-told
     enum-told-2
-    held-requires
+    why-blocked-requires
     enum-told-3
     told-requires-2
     returns-5

@@ -6,8 +6,8 @@ use borrow.Author.Needs.{needs}
 use Rattle.table.proofs.records.extra.Statement.{statement}
 use Rattle.table.proofs.records.extra.Tie as tie
 
-place-requires : tie.Need-place-requires
-place-requires c κs = search needs
+offset-requires : tie.Need-offset-requires
+offset-requires c κs = search needs
 
 add-wide : tie.Need-add-wide
 add-wide c = search needs
@@ -22,10 +22,10 @@ returns : tie.Need-returns
 unfolding extra
 returns c =
     let s : tie.Start = search in
-    let at : tie.After-place = search in
+    let at : tie.After-offset = search in
     let told : tie.After-wide = search in
-    told .wide .ensures ∙ ap (λ i. byteAt (s .args .table .now) (i + 1)) (at .place .ensures .0)
+    told .wide .ensures ∙ ap (λ i. byteAt (s .args .table .now) (i + 1)) (at .offset .ensures .0)
 
 pub extra-spec : {M : Type 1} → statement M
 extra-spec =
-    tie.close (tie.spec place-requires add-wide shared-slice-read-wide wide-requires returns)
+    tie.close (tie.spec offset-requires add-wide shared-slice-read-wide wide-requires returns)

@@ -6,8 +6,8 @@ use borrow.Author.Needs.{needs}
 use Rattle.table.proofs.records.next.Statement.{statement}
 use Rattle.table.proofs.records.next.Tie as tie
 
-place-requires : tie.Need-place-requires
-place-requires c κs = search needs
+offset-requires : tie.Need-offset-requires
+offset-requires c κs = search needs
 
 add-two-at : tie.Need-add-two-at
 add-two-at c = search needs
@@ -19,9 +19,9 @@ returns : tie.Need-returns
 unfolding next
 returns c =
     let s : tie.Start = search in
-    let at : tie.After-place = search in
+    let at : tie.After-offset = search in
     let told : tie.After-two-at = search in
-    told .two-at .ensures ∙ ap (λ i. twoAt (s .args .table .now) (i + 8)) (at .place .ensures .0)
+    told .two-at .ensures ∙ ap (λ i. twoAt (s .args .table .now) (i + 8)) (at .offset .ensures .0)
 
 pub next-spec : {M : Type 1} → statement M
-next-spec = tie.close (tie.spec place-requires add-two-at two-at-requires returns)
+next-spec = tie.close (tie.spec offset-requires add-two-at two-at-requires returns)

@@ -7,8 +7,8 @@ use borrow.Author.Needs.{needs}
 use Rattle.table.proofs.records.word.Statement.{statement}
 use Rattle.table.proofs.records.word.Tie as tie
 
-place-requires : tie.Need-place-requires
-place-requires c κs = search needs
+offset-requires : tie.Need-offset-requires
+offset-requires c κs = search needs
 
 add-two-at : tie.Need-add-two-at
 add-two-at c = search needs
@@ -38,18 +38,18 @@ returns : tie.Need-returns
 unfolding word fourAt
 returns c =
     let s : tie.Start = search in
-    let at : tie.After-place = search in
+    let at : tie.After-offset = search in
     let low : tie.After-two-at = search in
     let high : tie.After-two-at2 = search in
     let t = s .args .table .now in
-    ap₂ (λ x y. x + 65536 * y) (low .two-at .ensures ∙ ap (λ i. twoAt t (i + 2)) (at .place .ensures .0))
-    (high .two-at2 .ensures ∙ ap (twoAt t) (omega (arith, at .place .ensures .0)))
+    ap₂ (λ x y. x + 65536 * y) (low .two-at .ensures ∙ ap (λ i. twoAt t (i + 2)) (at .offset .ensures .0))
+    (high .two-at2 .ensures ∙ ap (twoAt t) (omega (arith, at .offset .ensures .0)))
 
 pub word-spec : {M : Type 1} → statement M
 word-spec =
     tie.close
     (tie.spec
-    place-requires
+    offset-requires
     add-two-at
     two-at-requires
     add-two-at-2

@@ -29,16 +29,16 @@ outer-requires-3 c κs = search needs
 outer-requires-4 : tie.Need-outer-requires-4
 outer-requires-4 c κs = search needs
 
-among-requires : tie.Need-among-requires
-among-requires c κs = search needs
+one-of-four-requires : tie.Need-one-of-four-requires
+one-of-four-requires c κs = search needs
 
 returns : tie.Need-returns
 returns c e =
     let k : Around = search in
-    let h : tie.After-among = search in
+    let h : tie.After-one-of-four = search in
     let found : tie.Then1 = search in
     one-of _ _ _ _ _ _ _ (first k .outer .ensures .0) (second k .outer2 .ensures .0) (third k .outer3 .ensures .0) (k .outer4 .ensures .0)
-    (h .among .ensures (found .if1 .taken))
+    (h .one-of-four .ensures (found .if1 .taken))
 
 climbs-requires : tie.Need-climbs-requires
 climbs-requires c κs = search needs
@@ -58,7 +58,7 @@ reaches-spec =
     outer-requires-2
     outer-requires-3
     outer-requires-4
-    among-requires
+    one-of-four-requires
     returns
     climbs-requires
     returns-2)

@@ -9,7 +9,7 @@ use Rattle.table.specs.Find.{one}
 use Rattle.table.specs.Bytes.{next}
 use Rattle.table.specs.Naming.{owner, tail}
 use Rattle.table.specs.Working.{IsNode, IsFunction}
-use Rattle.table.specs.Sweep.{rank, around, Fits, Siftable}
+use Rattle.table.specs.Sweep.{rank, around, KindFits, Siftable}
 use Rattle.table.proofs.Tests.{never}
 use Rattle.table.proofs.Family.{owner-in}
 use Rattle.table.proofs.HandEnd.{params-few}
@@ -109,7 +109,7 @@ abbrev passed : Called → tie.Else2
 passed c = search
 
 fits : (k : Called) → let p = fitting k in let r = read p in
-    Fits (of r .kind .result) (extras r .extra .result) (words r .word .result) (s r .args .own % 64) (p .params .result)
+    KindFits (of r .kind .result) (extras r .extra .result) (words r .word .result) (s r .args .own % 64) (p .params .result)
     (tails p .tail-at .result)
 fits k = fitted k .kind-fits .ensures (not-false _ (passed k .if2 .left))
 

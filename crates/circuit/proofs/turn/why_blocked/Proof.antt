@@ -1,8 +1,8 @@
--- `turn::held` meets its contract.
+-- `turn::why_blocked` meets its contract.
 use mathlib.Core.Path.{sym, _∙_}
 use borrow.Author.Needs.{needs}
-use Rattle.circuit.proofs.turn.held.Statement.{statement}
-use Rattle.circuit.proofs.turn.held.Tie as tie
+use Rattle.circuit.proofs.turn.why_blocked.Statement.{statement}
+use Rattle.circuit.proofs.turn.why_blocked.Tie as tie
 
 marks-requires : tie.Need-marks-requires
 marks-requires c κs = search needs
@@ -17,5 +17,5 @@ returns-2 c =
     let told : tie.After-marks = search in
     simp (sym (told .marks .ensures) ∙ c .if1 .left)
 
-pub held-spec : {M : Type 1} → statement M
-held-spec = tie.close (tie.spec marks-requires returns returns-2)
+pub why-blocked-spec : {M : Type 1} → statement M
+why-blocked-spec = tie.close (tie.spec marks-requires returns returns-2)

@@ -1,8 +1,8 @@
--- `scope::among` meets its contract.
+-- `scope::one_of_four` meets its contract.
 use Rattle.table.proofs.ScopeLaws.{four-hits}
 use borrow.Author.Needs.{needs}
-use Rattle.table.proofs.scope.among.Statement.{statement}
-use Rattle.table.proofs.scope.among.Tie as tie
+use Rattle.table.proofs.scope.one_of_four.Statement.{statement}
+use Rattle.table.proofs.scope.one_of_four.Tie as tie
 
 same-requires : tie.Need-same-requires
 same-requires c κs = search needs
@@ -33,8 +33,8 @@ returns c e =
     let d : tie.After-same4 = search in
     four-hits _ _ _ _ _ _ _ _ _ (a .same .ensures .0) (b .same2 .ensures .0) (k .same3 .ensures .0) (d .same4 .ensures .0) e
 
-pub among-spec : {M : Type 1} → statement M
-among-spec =
+pub one-of-four-spec : {M : Type 1} → statement M
+one-of-four-spec =
     tie.close
     (tie.spec
     same-requires

@@ -1,9 +1,9 @@
--- `records::place` meets its contract.
+-- `records::offset` meets its contract.
 use native.Mathlib.Omega.{arith}
 use Rattle.table.specs.Bytes.{nodeAt}
 use borrow.Author.Needs.{needs}
-use Rattle.table.proofs.records.place.Statement.{statement}
-use Rattle.table.proofs.records.place.Tie as tie
+use Rattle.table.proofs.records.offset.Statement.{statement}
+use Rattle.table.proofs.records.offset.Tie as tie
 
 cast-k : tie.Need-cast-k
 cast-k c = search needs
@@ -24,5 +24,5 @@ returns c =
     let p = s .pre in
     (omega (arith, p .start, p .low), omega (arith, p .start, p .low, p .high, p .framed .size))
 
-pub place-spec : {M : Type 1} → statement M
-place-spec = tie.close (tie.spec cast-k mul-result add-result sub-result returns)
+pub offset-spec : {M : Type 1} → statement M
+offset-spec = tie.close (tie.spec cast-k mul-result add-result sub-result returns)
