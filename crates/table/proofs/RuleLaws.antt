@@ -62,15 +62,13 @@ one-most true = omega arith
 one-most false = omega arith
 
 -- a number times 0 or 1
-pub flag-times : (x y : ℕ) → y ≤ 1 → x * y ≤ x
-flag-times x zero h = omega arith
-flag-times x (suc zero) h = omega arith
-flag-times x (suc (suc y)) h = absurd (omega arith)
-
 pub flag-most : (x y m : ℕ) → y ≤ 1 → (y ≡ 1 → x ≤ m) → x * y ≤ m
 flag-most x zero m h f = omega arith
 flag-most x (suc zero) m h f = omega (arith, f refl)
 flag-most x (suc (suc y)) m h f = absurd (omega arith)
+
+pub flag-times : (x y : ℕ) → y ≤ 1 → x * y ≤ x
+flag-times x y h = flag-most x y x h (λ e. omega arith)
 
 pub flag-place : (c w F : ℕ) → c ≤ 1 → (c ≡ 1 → (1 ≤ w) × (w ≤ F)) → c * (4 * w) ≤ 4 * F
 flag-place zero w F h f = omega arith
@@ -82,17 +80,21 @@ abbrev Told : ℕ → Type 0
 Told k = (e w o p q : ℕ) → 1 ≤ o → p ≤ 8 → q ≤ 1 → e < p * ruleOf k 1 + ruleOf k 0 → ruleOf k 2 ≤ w
     → w ≤ (o + q - 1) * ruleOf k 2 + getD wordRules k 0 → KindFits k e w o p q
 
+-- a node that is neither a call nor a parameter
+neither : (k e w o p q : ℕ) → (k ≡ 4 → ⊥) → (k ≡ 2 → ⊥) → fields k e w 0 ≡ true → e < 16 → KindFits k e w o p q
+neither k e w o p q a b f l = record {
+  shaped = f;
+  callee = λ h. absurd (a h);
+  ends = λ h. absurd (a h);
+  param = λ h. absurd (b h);
+  small = l;
+}
+
 fits-rules : (k : ℕ) → k < 8 → Told k
 unfolding fields
 fits-rules = by-eight Told
     (λ e w o p q i b j x y z. absurd (omega arith))
-    (λ e w o p q i b j x y z. record {
-      shaped = rw (none e (omega (arith, x)));
-      callee = λ k. absurd (omega arith);
-      ends = λ k. absurd (omega arith);
-      param = λ k. absurd (omega arith);
-      small = omega (arith, x);
-    })
+    (λ e w o p q i b j x y z. neither 1 e w o p q (λ h. omega arith) (λ h. omega arith) (rw (none e (omega (arith, x)))) (omega (arith, x)))
     (λ e w o p q i b j x y z. record {
       shaped = rw (none w (omega (arith, z)));
       callee = λ k. absurd (omega arith);
@@ -100,13 +102,8 @@ fits-rules = by-eight Told
       param = λ k. omega (arith, x);
       small = omega (arith, x, b);
     })
-    (λ e w o p q i b j x y z. record {
-      shaped = rw (le-leb e 10 (omega (arith, x)), none w (omega (arith, z)));
-      callee = λ k. absurd (omega arith);
-      ends = λ k. absurd (omega arith);
-      param = λ k. absurd (omega arith);
-      small = omega (arith, x);
-    })
+    (λ e w o p q i b j x y z. neither 3 e w o p q (λ h. omega arith) (λ h. omega arith)
+    (rw (le-leb e 10 (omega (arith, x)), none w (omega (arith, z)))) (omega (arith, x)))
     (λ e w o p q i b j x y z. record {
       shaped = rw (none e (omega (arith, x)));
       callee = λ k. (omega (arith, y), omega (arith, z, i, j));
@@ -114,27 +111,11 @@ fits-rules = by-eight Told
       param = λ k. absurd (omega arith);
       small = omega (arith, x);
     })
-    (λ e w o p q i b j x y z. record {
-      shaped = rw (none e (omega (arith, x)), none w (omega (arith, z)));
-      callee = λ k. absurd (omega arith);
-      ends = λ k. absurd (omega arith);
-      param = λ k. absurd (omega arith);
-      small = omega (arith, x);
-    })
-    (λ e w o p q i b j x y z. record {
-      shaped = rw (none e (omega (arith, x)), none w (omega (arith, z)));
-      callee = λ k. absurd (omega arith);
-      ends = λ k. absurd (omega arith);
-      param = λ k. absurd (omega arith);
-      small = omega (arith, x);
-    })
-    (λ e w o p q i b j x y z. record {
-      shaped = rw (none e (omega (arith, x)));
-      callee = λ k. absurd (omega arith);
-      ends = λ k. absurd (omega arith);
-      param = λ k. absurd (omega arith);
-      small = omega (arith, x);
-    })
+    (λ e w o p q i b j x y z. neither 5 e w o p q (λ h. omega arith) (λ h. omega arith)
+    (rw (none e (omega (arith, x)), none w (omega (arith, z)))) (omega (arith, x)))
+    (λ e w o p q i b j x y z. neither 6 e w o p q (λ h. omega arith) (λ h. omega arith)
+    (rw (none e (omega (arith, x)), none w (omega (arith, z)))) (omega (arith, x)))
+    (λ e w o p q i b j x y z. neither 7 e w o p q (λ h. omega arith) (λ h. omega arith) (rw (none e (omega (arith, x)))) (omega (arith, x)))
   where
     none : (x : ℕ) → x ≤ 0 → eqb x 0 ≡ true
     none x h = eq-eqb x 0 (omega arith)

@@ -5,7 +5,6 @@ use mathlib.Core.Path.{refl, subst}
 use Rattle.table.specs.Bytes.{functions}
 use Rattle.table.specs.Working.{Linked}
 use Rattle.table.specs.Sweep.{Handed, RootsFit, Kin, Kids, SiftedBy}
-use Rattle.table.specs.declared.sweep.Residue.the-variants.{Passed}
 use Rattle.table.proofs.Tests.{never}
 use Rattle.table.proofs.SweepEnd.{swept-taken}
 use Rattle.table.proofs.passes.Statement.{statement}
@@ -46,13 +45,6 @@ Told = tie.After-residue
 abbrev sifts : Told → tie.After-sift
 sifts c = search
 
-abbrev joins : Told → Joined
-joins c = search
-
-sifted : (c : Told) → let g = sifts c .sift .last .1 .1 .1 in
-    SiftedBy (start (before (joins c)) .args .table .now) (g .0) (g .1 .0) (g .1 .1 .0) (Passed (c .residue .given .0 .0))
-sifted c = subst (SiftedBy _ _ _ _) (c .residue .given .1) (sifts c .sift .ensures)
-
 roots-requires : tie.Need-roots-requires
 roots-requires c κs = search needs
 
@@ -85,7 +77,7 @@ all-fit-requires c κs =
     let m : Joined = search in
     let h = joined m in
     let g : Told = search in
-    (start (before m) .pre .0, h .0, h .1, sifted g)
+    (start (before m) .pre .0, h .0, h .1, subst (SiftedBy _ _ _ _) (g .residue .given .1) (sifts g .sift .ensures))
 
 enum-told : tie.Need-enum-told
 enum-told c = search needs
@@ -96,7 +88,7 @@ returns-3 c e =
     let h = joined m in
     let g : Told = search in
     let f : tie.After-all-fit = search in
-    let d = sifted g in
+    let d = subst (SiftedBy _ _ _ _) (g .residue .given .1) (sifts g .sift .ensures) in
     (swept-taken _ (start (before m) .pre .0) (h .0) (rooted (before m) .1) (d .fits) (f .all-fit .ensures e), h .1)
 
 returns-4 : tie.Need-returns-4

@@ -7,7 +7,7 @@ use mathlib.Core.Path.{_≡_}
 use Rattle.table.specs.Bytes.{nodes}
 use borrow.Author.Tests.{not-false}
 use lib.ListN.{getD}
-use Rattle.table.specs.Sweep.{kinOf, Links}
+use Rattle.table.specs.Sweep.{kinOf}
 use Rattle.table.specs.Working.{IsNode}
 use Rattle.table.proofs.Family.{parent-lower}
 use Rattle.table.proofs.HandLaws.{kin-parent, kin-rank, kin-small}
@@ -58,13 +58,10 @@ module _ (c : Handing) where
   abbrev t : Turn
   t = turn c
 
-  links : Links (s t .args .table .now) (l t .loop .n + 1) (l t .loop .kin) (told c .hand-on .last .1 .1 .1 .1 .0)
-  links = told c .hand-on .ensures (not-false _ (c .if1 .left))
-
   own : getD (l t .loop .kin) (l t .loop .n + 1) 0 ≡ kinOf (s t .args .table .now) (l t .loop .n + 1)
   own =
       let h = l t .loop .inv .1 in
-      own-kin _ _ _ (s t .pre .0) _ (node t) (h .handed) (h .named) links
+      own-kin _ _ _ (s t .pre .0) _ (node t) (h .handed) (h .named) (told c .hand-on .ensures (not-false _ (c .if1 .left)))
 
 base-requires : tie.Need-base-requires Inv-loop μ-loop
 base-requires c κs = search needs
@@ -139,7 +136,8 @@ loop-again c =
     let t = turn h in
     let fr = s t .pre .0 in (
       omega (arith, t .loop-test .taken),
-      linked-more _ _ _ _ fr _ (node t) (l t .loop .inv .1) (links h) _ _ (kin-parent _ fr _ (node t) _ (own h))
+      linked-more _ _ _ _ fr _ (node t) (l t .loop .inv .1) (told h .hand-on .ensures (not-false _ (h .if1 .left))) _ _
+          (kin-parent _ fr _ (node t) _ (own h))
           (kin-rank _ fr _ (node t) _ (own h)),
       l t .loop .inv .2,
     )
