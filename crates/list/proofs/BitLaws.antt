@@ -1,7 +1,7 @@
--- the bits of numbers and of packed lists: `|`, `&`, shifts, and a byte written
+-- the bits of numbers: `|`, `&`, shifts, and the byte that a node's bit is in
 use Prim.Native.Nat.{ℕ, zero, suc, _+_, _-_, _*_, _/_, _%_, _^_, _<_, _≤_, max, min}
-use mathlib.Core.Path.{_≡_, refl, sym, ap, ap₂, _∙_}
-use mathlib.Core.Bool.{Bool, true, false, _&&_, _||_}
+use mathlib.Core.Path.{_≡_, refl, sym, ap, _∙_}
+use mathlib.Core.Bool.{false, _&&_, _||_}
 use mathlib.Core.List.{List}
 use native.Mathlib.Omega.{arith}
 use native.Mathlib.Nat.{one-mul, mod-eq-of-lt, pow-suc, div-self, div-eq-of-lt, zero-div, div-div-eq-div-mul}
@@ -9,14 +9,10 @@ use native.Mathlib.Decide.{decLt, ℕ-discrete}
 use lib.Dec.{eqb}
 use lib.Pow.{pow-lt, shl-shr, pow-add, pow-pos}
 use lib.Bits.{bitAnd, bitOr, and-mask, or-shr, and-shr, or-step, and-step}
-use lib.ListN.{length, getD, set, replicate, length-set}
-use lib.Seq.{getD-set-same, getD-set-other}
+use lib.ListN.{getD, replicate}
 use borrow.Author.Tests.{eq-eqb, ne-eqb}
 use Rattle.list.specs.Tags.{tagged}
-use Rattle.list.specs.Arbiters.{Test}
-use Rattle.list.specs.Working.{bitAt, Bit, Adds, PutAt, Kept}
-use Rattle.table.specs.Pick.{Range}
-use Rattle.list.proofs.Bytewise.{Part}
+use Rattle.list.specs.Working.{bitAt}
 
 -- `1 << k` at a width w above k
 pub bit-is : (k w : ℕ) → k < w → (1 * 2 ^ k) % 2 ^ w ≡ 2 ^ k
@@ -107,124 +103,26 @@ pub tagged-bit : (l : List ℕ) (m : ℕ) → tagged l m ≡ bitAt (getD l ((m -
 unfolding tagged
 tagged-bit l m = refl
 
--- from bytes to bits: x is at each byte what f says
-pub by-bytes : (x : List ℕ) (f : ℕ → ℕ) (w : ℕ) → ((j : ℕ) → j < w → getD x j 0 ≡ f j) → (m : ℕ) → (m - 1) / 8 < w
-    → tagged x m ≡ bitAt (f ((m - 1) / 8)) ((m - 1) % 8)
-by-bytes x f w h m l = tagged-bit x m ∙ ap (λ y. bitAt y ((m - 1) % 8)) (h ((m - 1) / 8) l)
-
-pub byte-of : (m : ℕ) → Bit m → (m - 1) / 8 < 64
-byte-of m b = omega arith
-
--- bit m of set g of a row
-pub row-byte : (g m : ℕ) → 1 ≤ m → (512 * g + m - 1) / 8 ≡ 64 * g + (m - 1) / 8
-row-byte g m h = omega arith
-
-pub row-bit : (g m : ℕ) → 1 ≤ m → (512 * g + m - 1) % 8 ≡ (m - 1) % 8
-row-bit g m h = omega arith
-
-pub tagged-row : (l : List ℕ) (g m : ℕ) → 1 ≤ m → tagged l (512 * g + m) ≡ bitAt (getD l (64 * g + (m - 1) / 8) 0) ((m - 1) % 8)
-tagged-row l g m h = tagged-bit l (512 * g + m) ∙ ap₂ (λ a b. bitAt (getD l a 0) b) (row-byte g m h) (row-bit g m h)
-
--- a set of no bit
+-- zeros
 pub zeros-at : (n i : ℕ) → _≡_ {A = ℕ} (getD (replicate n 0) i 0) 0
 zeros-at zero i = refl
 zeros-at (suc n) zero = refl
 zeros-at (suc n) (suc i) = zeros-at n i
 
-pub none-tagged : (n m : ℕ) → tagged (replicate n 0) m ≡ false
-none-tagged n m = tagged-bit (replicate n 0) m ∙ ap (λ x. bitAt x ((m - 1) % 8)) (zeros-at n ((m - 1) / 8)) ∙ zero-bit ((m - 1) % 8)
-
--- a set to which something was added byte by byte
-pub adds-by : (f : ℕ → ℕ) (s : Test) (x₀ x : List ℕ) → length x ≡ 64 → ((j : ℕ) → j < 64 → getD x j 0 ≡ bitOr (getD x₀ j 0) (f j))
-    → ((m : ℕ) → Bit m → bitAt (f ((m - 1) / 8)) ((m - 1) % 8) ≡ s m) → Adds s x₀ x
-adds-by f s x₀ x l h e = record {
-  size = l;
-  bits = λ m b. by-bytes x (λ j. bitOr (getD x₀ j 0) (f j)) 64 h m (byte-of m b)
-      ∙ or-bit (getD x₀ ((m - 1) / 8) 0) (f ((m - 1) / 8)) ((m - 1) % 8)
-      ∙ ap₂ (λ p q. p || q) (sym (tagged-bit x₀ m)) (e m b);
-}
-
--- one bit written
-pub one-more : (x : List ℕ) (n : ℕ) → 1 ≤ n → (n - 1) / 8 < length x → (m : ℕ) → 1 ≤ m
-    → tagged (set x ((n - 1) / 8) (bitOr (getD x ((n - 1) / 8) 0) (2 ^ ((n - 1) % 8)))) m ≡ tagged x m || eqb n m
-one-more x n b inside m c = go (ℕ-discrete ((m - 1) / 8) at)
+-- a bit of a byte of a word
+pub byte-bit : (x k j : ℕ) → j < 8 → bitAt (x / 2 ^ k % 256) j ≡ bitAt x (k + j)
+byte-bit x k j h = ap (λ y. eqb y 1) (mod-low (x / 2 ^ k) j h) ∙ ap (λ y. eqb (y % 2) 1) (moved x k j)
   where
-    at : ℕ
-    at = (n - 1) / 8
+    mod-low : (y j : ℕ) → j < 8 → y % 256 / 2 ^ j % 2 ≡ y / 2 ^ j % 2
+    mod-low y zero h = omega arith
+    mod-low y (suc zero) h = omega arith
+    mod-low y (suc (suc zero)) h = omega arith
+    mod-low y (suc (suc (suc zero))) h = omega arith
+    mod-low y (suc (suc (suc (suc zero)))) h = omega arith
+    mod-low y (suc (suc (suc (suc (suc zero))))) h = omega arith
+    mod-low y (suc (suc (suc (suc (suc (suc zero)))))) h = omega arith
+    mod-low y (suc (suc (suc (suc (suc (suc (suc zero))))))) h = omega arith
+    mod-low y (suc (suc (suc (suc (suc (suc (suc (suc j)))))))) h = absurd (omega arith)
 
-    v : ℕ
-    v = bitOr (getD x at 0) (2 ^ ((n - 1) % 8))
-
-    or-no : (p : Bool) → p ≡ p || false
-    or-no true = refl
-    or-no false = refl
-
-    place : (n m : ℕ) → 1 ≤ n → 1 ≤ m → (m - 1) / 8 ≡ (n - 1) / 8 → eqb ((n - 1) % 8) ((m - 1) % 8) ≡ eqb n m
-    place n m p q e = here (ℕ-discrete n m)
-      where
-        here : Dec (n ≡ m) → eqb ((n - 1) % 8) ((m - 1) % 8) ≡ eqb n m
-        here (yes d) = eq-eqb ((n - 1) % 8) ((m - 1) % 8) (ap (λ x. (x - 1) % 8) d) ∙ sym (eq-eqb n m d)
-        here (no d) = ne-eqb ((n - 1) % 8) ((m - 1) % 8) (λ r. d (omega (arith, r, e))) ∙ sym (ne-eqb n m d)
-
-    go : Dec ((m - 1) / 8 ≡ at) → tagged (set x at v) m ≡ tagged x m || eqb n m
-    go (yes e) =
-        tagged-bit (set x at v) m ∙ ap (λ y. bitAt y ((m - 1) % 8)) (ap (λ i. getD (set x at v) i 0) e ∙ getD-set-same x at v 0 inside)
-        ∙ or-bit (getD x at 0) (2 ^ ((n - 1) % 8)) ((m - 1) % 8)
-        ∙ ap₂ (λ p q. p || q) (ap (λ i. bitAt (getD x i 0) ((m - 1) % 8)) (sym e) ∙ sym (tagged-bit x m))
-        (pow-bit ((n - 1) % 8) ((m - 1) % 8) ∙ place n m b c e)
-    go (no e) =
-        tagged-bit (set x at v) m ∙ ap (λ y. bitAt y ((m - 1) % 8)) (getD-set-other x at ((m - 1) / 8) v 0 e) ∙ sym (tagged-bit x m)
-        ∙ or-no (tagged x m)
-        ∙ ap (λ q. tagged x m || q) (sym (ne-eqb n m (λ d. e (ap (λ y. (y - 1) / 8) (sym d)))))
-
-pub adds-one : (x : List ℕ) (n : ℕ) → length x ≡ 64 → Bit n
-    → Adds (eqb n) x (set x ((n - 1) / 8) (bitOr (getD x ((n - 1) / 8) 0) (2 ^ ((n - 1) % 8))))
-adds-one x n l b = record {
-  size = length-set x ((n - 1) / 8) _ ∙ l;
-  bits = λ m c. one-more x n (b .0) (omega (arith, byte-of n b, l)) m (c .0);
-}
-
--- one bit written in a row
-pub put-row : (x : List ℕ) (g n : ℕ) → length x ≡ 2112 → g ≤ 32 → Bit n
-    → PutAt g n x (set x (64 * g + (n - 1) / 8) (bitOr (getD x (64 * g + (n - 1) / 8) 0) (2 ^ ((n - 1) % 8))))
-put-row x g n l k b = record { size = length-set x (64 * g + (n - 1) / 8) _ ∙ l; bits = bits }
-  where
-    q : ℕ
-    q = 512 * g + n
-
-    low : 1 ≤ q
-    low = omega (arith, b .0)
-
-    inside : (q - 1) / 8 < length x
-    inside = omega (arith, row-byte g n (b .0), byte-of n b, l)
-
-    apart : (g n h m : ℕ) → Bit n → Bit m → eqb (512 * g + n) (512 * h + m) ≡ eqb g h && eqb n m
-    apart g n h m b c = go (ℕ-discrete g h) (ℕ-discrete n m)
-      where
-        go : Dec (g ≡ h) → Dec (n ≡ m) → eqb (512 * g + n) (512 * h + m) ≡ eqb g h && eqb n m
-        go (yes d) (yes e) = eq-eqb (512 * g + n) (512 * h + m) (omega (arith, d, e))
-            ∙ sym (ap₂ (λ p q. p && q) (eq-eqb g h d) (eq-eqb n m e))
-        go (yes d) (no e) =
-            ne-eqb (512 * g + n) (512 * h + m) (λ z. e (omega (arith, d, z))) ∙ sym (ap₂ (λ p q. p && q) (eq-eqb g h d) (ne-eqb n m e))
-        go (no d) e = ne-eqb (512 * g + n) (512 * h + m) (λ z. d (omega (arith, z, b .0, b .1, c .0, c .1)))
-            ∙ sym (ap (λ p. p && eqb n m) (ne-eqb g h d))
-
-    bits : (h m : ℕ) → Range 32 h → Bit m
-        → tagged (set x (64 * g + (n - 1) / 8) (bitOr (getD x (64 * g + (n - 1) / 8) 0) (2 ^ ((n - 1) % 8)))) (512 * h + m)
-        ≡ tagged x (512 * h + m) || (eqb g h && eqb n m)
-    bits h m i c =
-        ap₂ (λ a k. tagged (set x a (bitOr (getD x a 0) (2 ^ k))) (512 * h + m)) (sym (row-byte g n (b .0))) (sym (row-bit g n (b .0)))
-        ∙ one-more x q low inside (512 * h + m) (omega (arith, c .0)) ∙ ap (λ p. tagged x (512 * h + m) || p) (apart g n h m b c)
-
--- a set that was copied into a row
-pub kept-by : (g : ℕ) (y x₀ x : List ℕ) → length x ≡ 2112 → Part (64 * g) y x₀ x 64 → Kept g y x₀ x
-kept-by g y x₀ x l p = record {
-  size = l;
-  same = λ m b. tagged-row x g m (b .0) ∙ ap (λ z. bitAt z ((m - 1) % 8)) (p .done ((m - 1) / 8) (byte-of m b)) ∙ sym (tagged-bit y m);
-  other = λ h m e b. tagged-row x h m (b .0) ∙ ap (λ z. bitAt z ((m - 1) % 8)) (outside h m e b (decLt h g))
-      ∙ sym (tagged-row x₀ h m (b .0));
-}
-  where
-    outside : (h m : ℕ) → (h ≡ g → ⊥) → Bit m → Dec (h < g) → getD x (64 * h + (m - 1) / 8) 0 ≡ getD x₀ (64 * h + (m - 1) / 8) 0
-    outside h m e b (yes d) = p .before (64 * h + (m - 1) / 8) (omega (arith, byte-of m b))
-    outside h m e b (no d) = p .past (64 * h + (m - 1) / 8) (omega (arith, byte-of m b))
+    moved : (x k j : ℕ) → x / 2 ^ k / 2 ^ j ≡ x / 2 ^ (k + j)
+    moved x k j = div-div-eq-div-mul x (2 ^ k) (2 ^ j) ∙ ap (λ y. x / y) (sym (pow-add 2 k j))

@@ -1,4 +1,5 @@
 pub mod BitLaws
+pub mod WordLaws
 pub mod Bytewise
 pub mod Meets
 pub mod ListedCalls
@@ -10,12 +11,12 @@ pub mod Callees
 pub mod CallLaws
 pub mod ParallelLaws
 pub mod WalkLaws
+pub mod CallWords
 pub mod NodeLaws
 pub mod OntoLaws
 pub mod SiblingLaws
 pub mod ChainLaws
 pub mod ListLaws
-pub mod SiteLaws
 pub mod NodeWalks
 pub mod WalkMeasure
 pub mod TagFacts

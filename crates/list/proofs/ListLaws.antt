@@ -19,31 +19,32 @@ use Rattle.table.proofs.Passed.{passed}
 use Rattle.list.specs.Arbiters.{Test, listedIn}
 use Rattle.list.specs.Tags.{tagged, listed, bitsFrom, bytesFrom, tagLength, tagsOf}
 use Rattle.table.specs.Working.{Taken}
-use Rattle.list.specs.Working.{bitAt, Bit, callsBy, conflictsAt, Seen, Memo}
-use Rattle.list.proofs.BitLaws.{none-tagged, tagged-bit, zeros-at}
+use Rattle.list.specs.Working.{bitAt, packed, siteBit, Bit, callsBy, conflictsAt, Seen, Memo}
+use Rattle.list.proofs.BitLaws.{tagged-bit, zeros-at}
+use Rattle.list.proofs.WordLaws.{none-packed}
 use Rattle.list.proofs.ArbiterFacts.{any-out}
 use Rattle.list.proofs.ParallelLaws.{by-true}
 use Rattle.list.proofs.TagFacts.{byte-is, bytes-length, listed-call}
 
 module _ (t : List ℕ) where
   -- before the first walk
-  pub memo-none : Memo t (replicate 2112 0) (replicate 33 0) (replicate 64 0)
+  pub memo-none : Memo t (replicate 33 0) (replicate 520 0)
   memo-none = record {
-    size-bodies = refl;
     size-called = refl;
-    size-found = refl;
+    size-rows = refl;
     sets = λ g m i s b. absurd (s (zeros-at 33 g));
+    sited = λ g m i s b e. absurd (s (zeros-at 33 g));
     masks = λ g h i s b. absurd (s (zeros-at 33 g));
     whole = λ g m i s b e. absurd (s (zeros-at 33 g));
-    sound = λ m b e. absurd (true≢false (sym e ∙ none-tagged 64 m));
+    sound = λ m b e. absurd (true≢false (sym e ∙ none-packed 520 m));
+    sites = λ h m i b e. absurd (true≢false (sym e ∙ none-packed 520 (siteBit h m)));
   }
 
   -- after the last
-  pub found-list : (bodies called found : List ℕ) → Memo t bodies called found → ((g : ℕ) → IsFunction t g → Seen called g) → (m : ℕ)
-      → Bit m
-      → tagged found m ≡ listed t m
+  pub found-list : (called rows : List ℕ) → Memo t called rows → ((g : ℕ) → IsFunction t g → Seen called g) → (m : ℕ) → Bit m
+      → packed rows m ≡ listed t m
   unfolding listed listedIn conflictsAt callsBy
-  found-list bodies called found k all m b = by-true (tagged found m) (listed t m) (k .sound m b)
+  found-list called rows k all m b = by-true (packed rows m) (listed t m) (k .sound m b)
       (λ e. let r = any-out (functions t) (λ f. conflictsAt t (bodyOf t f) m) e in
       k .whole (r .0) m (r .1, r .2) (all (r .0) (r .1, r .2)) b (r .3))
 

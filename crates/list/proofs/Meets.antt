@@ -1,30 +1,42 @@
--- a set held against the sets of a row that a mask names, one after the other
-use Prim.Native.Nat.{ℕ, zero, suc, _+_, _*_, _/_, _^_, _<_, _≤_}
-use mathlib.Core.Path.{_≡_, refl, subst, sym, ap, ap₂, _∙_}
+-- sets added one after the other, and the sites of the functions that a mask names, function by function
+use Prim.Native.Nat.{ℕ, zero, suc, _+_, _-_, _*_, _/_, _%_, _^_, _<_, _≤_}
+use mathlib.Core.Path.{_≡_, refl, sym, ap, ap₂, _∙_}
 use mathlib.Core.Bool.{Bool, true, false, _&&_, _||_}
 use mathlib.Core.List.{List}
 use native.Mathlib.Omega.{arith}
 use native.Mathlib.Numerals.{add-one}
-use lib.ListN.{length}
+use native.Mathlib.Nat.{pow-suc, div-eq-of-lt, div-div-eq-div-mul}
+use native.Mathlib.Decide.{decLt}
+use lib.Dec.{eqb}
+use lib.Bits.{bitOr, bitAnd}
+use lib.ListN.{length, getD, replicate}
+use borrow.Author.Tests.{eq-eqb, ne-eqb}
 use Rattle.table.proofs.Tests.{and-no}
 use Rattle.list.specs.Arbiters.{Test, anyUpTo}
-use Rattle.list.specs.Tags.{tagged}
-use Rattle.list.specs.Working.{bitAt, Bit, Adds, meetOf}
-use Rattle.list.proofs.BitLaws.{high-bit}
+use Rattle.list.specs.Working.{bitAt, packed, Bit, siteBit, Adds, unionOf, MetBy}
+use Rattle.list.proofs.BitLaws.{or-bit, and-bit, small-bit, high-bit}
+use Rattle.list.proofs.WordLaws.{none-packed, packed-bit, packed-row, by-words, word-of}
+use Rattle.list.proofs.Bytewise.{Upto}
 
 pub or-no : (p : Bool) → p || false ≡ p
 or-no true = refl
 or-no false = refl
 
+pub or-swap : (a b : Bool) → a || b ≡ b || a
+or-swap true true = refl
+or-swap true false = refl
+or-swap false true = refl
+or-swap false false = refl
+
 -- nothing added
-pub adds-none : (s : Test) (x : List ℕ) → length x ≡ 64 → ((m : ℕ) → Bit m → s m ≡ false) → Adds s x x
-adds-none s x l h = record { size = l; bits = λ m b. sym (or-no (tagged x m)) ∙ ap (λ p. tagged x m || p) (sym (h m b)) }
+pub adds-none : (s : Test) (x : List ℕ) → length x ≡ 8 → ((m : ℕ) → Bit m → s m ≡ false) → Adds s x x
+adds-none s x l h = record { size = l; bits = λ m b. sym (or-no (packed x m)) ∙ ap (λ p. packed x m || p) (sym (h m b)) }
 
 -- one addition after the other
 pub adds-two : (s s′ s″ : Test) (x y z : List ℕ) → Adds s x y → Adds s′ y z → ((m : ℕ) → Bit m → s″ m ≡ s m || s′ m) → Adds s″ x z
 adds-two s s′ s″ x y z p q h = record {
   size = q .size;
-  bits = λ m b. q .bits m b ∙ ap (λ a. a || s′ m) (p .bits m b) ∙ assoc (tagged x m) (s m) (s′ m) ∙ ap (λ a. tagged x m || a) (sym (h m b));
+  bits = λ m b. q .bits m b ∙ ap (λ a. a || s′ m) (p .bits m b) ∙ assoc (packed x m) (s m) (s′ m) ∙ ap (λ a. packed x m || a) (sym (h m b));
 }
   where
     assoc : (a b c : Bool) → (a || b) || c ≡ a || (b || c)
@@ -32,60 +44,138 @@ adds-two s s′ s″ x y z p q h = record {
     assoc false b c = refl
 
 pub adds-same : (s s′ : Test) (x y : List ℕ) → Adds s x y → ((m : ℕ) → Bit m → s′ m ≡ s m) → Adds s′ x y
-adds-same s s′ x y p h = record { size = p .size; bits = λ m b. p .bits m b ∙ ap (λ a. tagged x m || a) (sym (h m b)) }
+adds-same s s′ x y p h = record { size = p .size; bits = λ m b. p .bits m b ∙ ap (λ a. packed x m || a) (sym (h m b)) }
 
 pub none-of : (k : ℕ) (p : Test) → ((h : ℕ) → 1 ≤ h → p h ≡ false) → anyUpTo k p ≡ false
 unfolding anyUpTo
 none-of zero p f = refl
 none-of (suc k) p f = ap₂ (λ a b. a || b) (f (suc k) (omega arith)) (none-of k p f)
 
-module _ (set row : List ℕ) (mask : ℕ) where
-  pub meet-zero : (m : ℕ) → meetOf set row mask 0 m ≡ false
-  unfolding meetOf anyUpTo
-  meet-zero m = and-no (tagged set m)
+-- the sites of the functions up to h are united, and the mask has `left` of it above them; set k of the rows is that of h
+pub record Unites (rows : List ℕ) (mask k left : ℕ) (all : List ℕ) : Type 0 where
+  pub h : ℕ
+  pub at : k ≡ 32 + h
+  pub few : h ≤ 31
+  pub rest : left ≡ mask / 2 ^ (h + 1)
+  pub size : length all ≡ 8
+  pub bits : (m : ℕ) → Bit m → packed all m ≡ unionOf rows mask h m
 
-  step : (a b c d : Bool) → a && ((b && c) || d) ≡ (a && d) || (b && (a && c))
-  step true true true true = refl
-  step true true true false = refl
-  step true true false true = refl
-  step true true false false = refl
-  step true false c true = refl
-  step true false c false = refl
-  step false true c d = refl
-  step false false c d = refl
+module _ (rows : List ℕ) (mask : ℕ) where
+  union-next : (h m : ℕ) → unionOf rows mask (h + 1) m ≡ (bitAt mask (h + 1) && packed rows (siteBit (h + 1) m)) || unionOf rows mask h m
+  unfolding unionOf anyUpTo
+  union-next h m = rw add-one refl
 
-  meet-suc : (h m : ℕ) → meetOf set row mask (suc h) m
-      ≡ meetOf set row mask h m || (bitAt mask (suc h) && (tagged set m && tagged row (512 * suc h + m)))
-  unfolding meetOf anyUpTo
-  meet-suc h m =
-      step (tagged set m) (bitAt mask (suc h)) (tagged row (512 * suc h + m)) (anyUpTo h (λ h. bitAt mask h && tagged row (512 * h + m)))
-
-  meet-next : (h m : ℕ) → meetOf set row mask (h + 1) m
-      ≡ meetOf set row mask h m || (bitAt mask (h + 1) && (tagged set m && tagged row (512 * (h + 1) + m)))
-  meet-next h m = rw add-one (meet-suc h m)
-
-  pub meet-more : (h : ℕ) (x y z : List ℕ) → Adds (meetOf set row mask h) x y → bitAt mask (h + 1) ≡ true
-      → Adds (λ m. tagged set m && tagged row (512 * (h + 1) + m)) y z → Adds (meetOf set row mask (h + 1)) x z
-  meet-more h x y z p e q =
-      adds-two (meetOf set row mask h) (λ m. tagged set m && tagged row (512 * (h + 1) + m)) (meetOf set row mask (h + 1)) x y z p q
-      (λ m b. meet-next h m
-      ∙ ap (λ a. meetOf set row mask h m || (a && (tagged set m && tagged row (512 * (h + 1) + m)))) e)
-
-  pub meet-skip : (h : ℕ) (x y : List ℕ) → Adds (meetOf set row mask h) x y → bitAt mask (h + 1) ≡ false
-      → Adds (meetOf set row mask (h + 1)) x y
-  meet-skip h x y p e =
-      adds-same (meetOf set row mask h) (meetOf set row mask (h + 1)) x y p
-      (λ m b. meet-next h m
-      ∙ ap (λ a. meetOf set row mask h m || (a && (tagged set m && tagged row (512 * (h + 1) + m)))) e ∙ or-no (meetOf set row mask h m))
-
-  -- where no higher bit is left
-  pub meet-rest : (h d : ℕ) (x y : List ℕ) → mask / 2 ^ h < 2 → Adds (meetOf set row mask h) x y → Adds (meetOf set row mask (h + d)) x y
-  meet-rest h zero x y l p = subst (λ k. Adds (meetOf set row mask k) x y) (same h) p
+  pub unites-none : Unites rows mask 32 (mask / 2) (replicate 8 0)
+  unites-none = record { h = 0; at = refl; few = omega arith; rest = refl; size = refl; bits = λ m b. none-packed 8 m ∙ sym (zero-union m) }
     where
-      same : (h : ℕ) → h ≡ h + 0
-      same h = omega arith
-  meet-rest h (suc d) x y l p = subst (λ k. Adds (meetOf set row mask k) x y) (next h d)
-      (meet-skip (h + d) x y (meet-rest h d x y l p) (high-bit mask h (h + d + 1) l (omega arith)))
-    where
-      next : (h d : ℕ) → h + d + 1 ≡ h + suc d
-      next h d = omega arith
+      zero-union : (m : ℕ) → unionOf rows mask 0 m ≡ false
+      zero-union = unfold unionOf anyUpTo in (λ m. refl)
+
+  module _ (k left : ℕ) (all : List ℕ) (u : Unites rows mask k left all) where
+    -- where something is left there is a function more
+    pub unites-room : mask < 4294967296 → 0 < left → u .h + 1 ≤ 31
+    unites-room l p = go (decLt (u .h) 31)
+      where
+        go : Dec (u .h < 31) → u .h + 1 ≤ 31
+        go (yes d) = omega (arith, d)
+        go (no d) = absurd (omega (arith, p, gone))
+          where
+            top : u .h ≡ 31
+            top = omega (arith, d, u .few)
+
+            gone : left ≡ 0
+            gone = u .rest ∙ ap (λ j. mask / 2 ^ (j + 1)) top ∙ div-eq-of-lt l
+
+    half : left / 2 ≡ mask / 2 ^ (u .h + 1 + 1)
+    half = ap (λ x. x / 2) (u .rest) ∙ div-div-eq-div-mul mask (2 ^ (u .h + 1)) 2 ∙ ap (λ x. mask / x) (double (u .h + 1))
+      where
+        double : (j : ℕ) → 2 ^ j * 2 ≡ 2 ^ (j + 1)
+        double j = rw add-one (sym (pow-suc 2 j))
+
+    named : (b : Bool) → eqb (left % 2) 1 ≡ b → bitAt mask (u .h + 1) ≡ b
+    named b e = ap (λ x. eqb (x % 2) 1) (sym (u .rest)) ∙ e
+
+    next-at : k + 1 ≡ 32 + (u .h + 1)
+    next-at = omega (arith, u .at)
+
+    -- a function that is named
+    pub unites-more : (all′ : List ℕ) → u .h + 1 ≤ 31 → left % 2 ≡ 1 → Adds (λ m. packed rows (512 * (k + 1) + m)) all all′
+        → Unites rows mask (k + 1) (left / 2) all′
+    unites-more all′ l e a = record {
+      h = u .h + 1;
+      at = next-at;
+      few = l;
+      rest = half;
+      size = a .size;
+      bits = λ m b. a .bits m b ∙ ap₂ (λ p q. p || packed rows (512 * q + m)) (u .bits m b) next-at
+          ∙ or-swap (unionOf rows mask (u .h) m) (packed rows (siteBit (u .h + 1) m))
+          ∙ sym (union-next (u .h) m
+          ∙ ap (λ p. (p && packed rows (siteBit (u .h + 1) m)) || unionOf rows mask (u .h) m) (named true (eq-eqb (left % 2) 1 e)));
+    }
+
+    -- and one that is not
+    pub unites-skip : u .h + 1 ≤ 31 → (left % 2 ≡ 1 → ⊥) → Unites rows mask (k + 1) (left / 2) all
+    unites-skip l e = record {
+      h = u .h + 1;
+      at = next-at;
+      few = l;
+      rest = half;
+      size = u .size;
+      bits = λ m b. u .bits m b
+          ∙ sym (union-next (u .h) m
+          ∙ ap (λ p. (p && packed rows (siteBit (u .h + 1) m)) || unionOf rows mask (u .h) m) (named false (ne-eqb (left % 2) 1 e)));
+    }
+
+    union-rest : (h d m : ℕ) → mask / 2 ^ h < 2 → unionOf rows mask (h + d) m ≡ unionOf rows mask h m
+    union-rest h zero m l = ap (λ j. unionOf rows mask j m) (same h)
+      where
+        same : (h : ℕ) → h + 0 ≡ h
+        same h = omega arith
+    union-rest h (suc d) m l =
+        ap (λ j. unionOf rows mask j m) (next h d) ∙ union-next (h + d) m
+        ∙ ap (λ p. (p && packed rows (siteBit (h + d + 1) m)) || unionOf rows mask (h + d) m) (high-bit mask h (h + d + 1) l (omega arith))
+        ∙ union-rest h d m l
+      where
+        next : (h d : ℕ) → h + suc d ≡ h + d + 1
+        next h d = omega arith
+
+    -- where nothing is left
+    pub unites-all : left ≡ 0 → (m : ℕ) → Bit m → packed all m ≡ unionOf rows mask 31 m
+    unites-all e m b =
+        u .bits m b ∙ sym (union-rest (u .h) (31 - u .h) m low) ∙ ap (λ j. unionOf rows mask j m) (up (u .h) (u .few))
+      where
+        up : (h : ℕ) → h ≤ 31 → h + (31 - h) ≡ 31
+        up h l = omega arith
+
+        low : mask / 2 ^ u .h < 2
+        low = small (mask / 2 ^ u .h)
+            (div-div-eq-div-mul mask (2 ^ u .h) 2 ∙ ap (λ x. mask / x) (rw add-one (sym (pow-suc 2 (u .h)))) ∙ sym (u .rest) ∙ e)
+          where
+            small : (x : ℕ) → x / 2 ≡ 0 → x < 2
+            small x e = omega arith
+
+-- a mask that names no function
+pub met-none : (set rows : List ℕ) (mask : ℕ) → length rows ≡ 520 → mask < 2 → MetBy set mask rows rows
+met-none set rows mask l e = record {
+  size = l;
+  bits = λ m b. sym (ap (λ p. packed rows m || p) (ap (λ p. packed set m && p) (none m) ∙ and-no (packed set m)) ∙ or-no (packed rows m));
+  other = λ h m i b. refl;
+}
+  where
+    none : (m : ℕ) → unionOf rows mask 31 m ≡ false
+    none = unfold unionOf in (λ m. none-of 31 (λ h. bitAt mask h && packed rows (siteBit h m))
+        (λ h i. ap (λ p. p && packed rows (siteBit h m)) (small-bit mask h e i)))
+
+-- the words of set 0 written one after the other
+pub met-by : (set all rows rows′ : List ℕ) (mask : ℕ) → length rows′ ≡ 520
+    → Upto (λ j. bitOr (getD rows j 0) (bitAnd (getD set j 0) (getD all j 0))) rows rows′ 8
+    → ((m : ℕ) → Bit m → packed all m ≡ unionOf rows mask 31 m) → MetBy set mask rows rows′
+met-by set all rows rows′ mask l u e = record {
+  size = l;
+  bits = λ m b. by-words rows′ (λ j. bitOr (getD rows j 0) (bitAnd (getD set j 0) (getD all j 0))) 8 (u .done) m (word-of m b)
+      ∙ or-bit (getD rows ((m - 1) / 64) 0) (bitAnd (getD set ((m - 1) / 64) 0) (getD all ((m - 1) / 64) 0)) ((m - 1) % 64)
+      ∙ ap₂ (λ p q. p || q) (sym (packed-bit rows m)) (and-bit (getD set ((m - 1) / 64) 0) (getD all ((m - 1) / 64) 0) ((m - 1) % 64)
+      ∙ ap₂ (λ p q. p && q) (sym (packed-bit set m)) (sym (packed-bit all m) ∙ e m b));
+  other = λ h m i b. packed-row rows′ h m (b .0)
+      ∙ ap (λ x. bitAt x ((m - 1) % 64)) (u .left (8 * h + (m - 1) / 64) (omega (arith, i))) ∙ sym (packed-row rows h m (b .0));
+}

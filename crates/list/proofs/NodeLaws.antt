@@ -22,15 +22,15 @@ use Rattle.list.specs.Arbiters.{Test, noCalls, joined, callsIn, parallel
 use Rattle.list.specs.Tags.{calleeOf}
 use Rattle.list.specs.CallSets.{callee}
 use Rattle.table.specs.Decoded.{cellAt, nodeSlot, nodeField}
-use Rattle.table.specs.Working.{Taken}
+use Rattle.table.specs.Working.{Taken, Decoded}
 use Rattle.list.specs.Working.{callsBy, callsAt, callsAt*, conflictsAt, conflictsAt*, parallelAt, calledIn}
-use Rattle.list.specs.Working.{twiceIn, entryAt, siblings, kidsAt, Within, Beside, Ready}
-use Rattle.list.proofs.Meets.{or-no}
+use Rattle.list.specs.Working.{twiceIn, entryAt, siblings, kidsAt, Within, Beside}
 use Rattle.list.proofs.CallLaws.{or-left, or-right, calls-called, node-listed}
 use Rattle.list.proofs.ParallelLaws.{called-none}
-use Rattle.list.proofs.WalkLaws.{joined-is, or-swap}
+use Rattle.list.proofs.Meets.{or-no, or-swap}
+use Rattle.list.proofs.WalkLaws.{joined-is}
 use Rattle.list.proofs.Callees.{callee-word}
-use Rattle.list.proofs.SiteLaws.{call-low}
+use Rattle.list.proofs.CallWords.{call-low}
 
 -- the calls s and the conflicts x of an expression
 pub record Is (t : List ℕ) (e : Expr) (s x : Test) : Type 0 where
@@ -381,11 +381,11 @@ owner-few t f n at =
     subst (IsFunction t) (at .own) (owner-in t (passed t (functions t) (nodes t) (at .taken) .0 .linking) n (at .node))
 
 -- what was read of a node
-pub told : (t : List ℕ) (f n : ℕ) (sites cells : List ℕ) → Ready t sites cells → Within t f n → (k r : ℕ) → k < 8
+pub told : (t : List ℕ) (f n : ℕ) (cells : List ℕ) → Decoded t cells → Within t f n → (k r : ℕ) → k < 8
     → r ≡ cellAt cells (nodeSlot n) k → r ≡ nodeField t n k
-told t f n sites cells y at k r l e = e ∙ y .read .node n k (at .node) l
+told t f n cells y at k r l e = e ∙ y .node n k (at .node) l
 
 -- a call's word is its low half
-pub told-callee : (t : List ℕ) (f n : ℕ) (sites cells : List ℕ) → Ready t sites cells → Within t f n → kind t n ≡ 4 → (r : ℕ)
+pub told-callee : (t : List ℕ) (f n : ℕ) (cells : List ℕ) → Decoded t cells → Within t f n → kind t n ≡ 4 → (r : ℕ)
     → r ≡ cellAt cells (nodeSlot n) 2 → r ≡ word t n
-told-callee t f n sites cells y at k r e = e ∙ y .read .node n 2 (at .node) (omega arith) ∙ call-low t (at .taken) n (at .node) k
+told-callee t f n cells y at k r e = e ∙ y .node n 2 (at .node) (omega arith) ∙ call-low t (at .taken) n (at .node) k

@@ -1,20 +1,20 @@
 -- PC from two masks: a call of the children's sets is in conflict exactly if its function is called in two of them
-use Prim.Native.Nat.{ℕ, zero, suc, _+_, _*_, _≤_}
+use Prim.Native.Nat.{ℕ, zero, suc, _≤_}
 use mathlib.Core.Path.{_≡_, refl, sym, ap, ap₂, _∙_}
 use mathlib.Core.Bool.{Bool, true, false, _&&_, _||_, not, true≢false}
 use mathlib.Core.List.{List}
 use native.Mathlib.Omega.{arith}
-use lib.Dec.{eqb, leb, le→leb}
+use lib.Dec.{eqb}
 use borrow.Author.Tests.{eq-eqb, eqb-true}
-use Rattle.table.proofs.Tests.{T-true}
 use Rattle.table.specs.Pick.{pick, Range}
 use Rattle.table.specs.Syntax.{Exprs, none, some}
 use Rattle.table.specs.Bytes.{nodes, kind, word}
 use Rattle.table.specs.Naming.{owner}
 use Rattle.table.specs.Working.{IsNode}
 use Rattle.list.specs.Arbiters.{Test, noCalls, joined, anyUpTo, callsIn, meeting, parallel}
-use Rattle.list.specs.Tags.{tagged, isCall, calleeOf}
-use Rattle.list.specs.Working.{bitAt, Bit, Callee, callsBy, callsAt, callsAt*, parallelAt, calledIn, twiceIn, meetOf, site, Sited}
+use Rattle.list.specs.Tags.{isCall, calleeOf}
+use Rattle.list.specs.Working.{bitAt, Bit, Callee, callsBy, callsAt, callsAt*, parallelAt, calledIn, twiceIn}
+use Rattle.list.specs.Working.{packed, siteBit, unionOf, Met}
 use Rattle.list.proofs.Meets.{or-no, none-of}
 use Rattle.list.proofs.CallLaws.{or-left, or-right}
 use Rattle.list.proofs.ArbiterFacts.{any-out, any-in, and-both, both-and}
@@ -174,31 +174,23 @@ module _ (t : List ℕ) where
         none-there = unfold noCalls in (λ m. refl)
 
     -- what the code computes: the set against the sites of the functions called twice
-    pub meet-parallel : (es : Exprs) (own sites : List ℕ) (twice : ℕ) → Bit m → Sited t sites
-        → (callsAt* t es m ≡ true → Range (nodes t) m × Callee h) → tagged own m ≡ callsAt* t es m
-        → ((k : ℕ) → Callee k → bitAt twice k ≡ twiceIn t es k) → meetOf own sites twice 31 m ≡ parallelAt t es m
-    unfolding meetOf
-    meet-parallel es own sites twice b sited r e w =
-        go (callsAt* t es m) refl ∙ sym (parallel-is es (λ q. r q .0))
+    pub meet-parallel : (es : Exprs) (own rows : List ℕ) (twice : ℕ) → Bit m
+        → ((k : ℕ) → Callee k → packed rows (siteBit k m) ≡ true → h ≡ k)
+        → (callsAt* t es m ≡ true → Range (nodes t) m) → (callsAt* t es m ≡ true → Met t rows m) → packed own m ≡ callsAt* t es m
+        → ((k : ℕ) → Callee k → bitAt twice k ≡ twiceIn t es k) → packed own m && unionOf rows twice 31 m ≡ parallelAt t es m
+    unfolding unionOf
+    meet-parallel es own rows twice b sites r met e w = go (callsAt* t es m) refl ∙ sym (parallel-is es r)
       where
         each : Test
-        each k = bitAt twice k && tagged sites (512 * k + m)
+        each k = bitAt twice k && packed rows (siteBit k m)
 
-        is-site : (k : ℕ) → Callee h → site t k m ≡ eqb k h
-        is-site k c = ap₂ (λ x y. x && eqb k y) (call-there t m (c .0) .0) (sym (call-there t m (c .0) .1))
-
-        at-site : (k : ℕ) → Callee k → Range (nodes t) m → Callee h → each k ≡ twiceIn t es k && eqb k h
-        at-site k c q d =
-            ap₂ (λ x y. x && y) (w k c) (sited .bits k m (c .0, omega arith) b)
-            ∙ ap₂ (λ x y. twiceIn t es k && (x && y)) (T-true (leb m (nodes t)) (le→leb m (nodes t) (q .1))) (is-site k d)
-
-        found : Range (nodes t) m → Callee h → anyUpTo 31 each ≡ twiceIn t es h
-        found q c = by-true (anyUpTo 31 each) (twiceIn t es h)
+        found : Met t rows m → anyUpTo 31 each ≡ twiceIn t es h
+        found c = by-true (anyUpTo 31 each) (twiceIn t es h)
             (λ x. let y = any-out 31 each x in
-            let z = and-both (twiceIn t es (y .0)) (eqb (y .0) h) (sym (at-site (y .0) (y .1, y .2) q c) ∙ y .3) in
-            ap (twiceIn t es) (sym (eqb-true (y .0) h (z .1))) ∙ z .0)
-            (λ x. any-in 31 each h (c .0) (c .1) (at-site h c q c ∙ both-and (twiceIn t es h) (eqb h h) x (eq-eqb h h refl)))
+            let z = and-both (bitAt twice (y .0)) (packed rows (siteBit (y .0) m)) (y .3) in
+            ap (twiceIn t es) (sites (y .0) (y .1, y .2) (z .1)) ∙ sym (w (y .0) (y .1, y .2)) ∙ z .0)
+            (λ x. any-in 31 each h (c .0 .0) (c .0 .1) (both-and (bitAt twice h) (packed rows (siteBit h m)) (w h (c .0) ∙ x) (c .1)))
 
-        go : (a : Bool) → callsAt* t es m ≡ a → tagged own m && anyUpTo 31 each ≡ callsAt* t es m && twiceIn t es h
-        go true q = ap₂ (λ x y. x && y) e (let z = r q in found (z .0) (z .1))
+        go : (a : Bool) → callsAt* t es m ≡ a → packed own m && anyUpTo 31 each ≡ callsAt* t es m && twiceIn t es h
+        go true q = ap₂ (λ x y. x && y) e (found (met q))
         go false q = ap (λ x. x && anyUpTo 31 each) (e ∙ q) ∙ sym (ap (λ x. x && twiceIn t es h) q)

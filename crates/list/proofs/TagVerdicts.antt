@@ -19,7 +19,7 @@ use Rattle.table.specs.Check.{ifAccepted}
 use Rattle.list.specs.Arbiters.{Test}
 use Rattle.list.specs.Tags.{tagged, listed, isCall, tagLength, nonePast, tagFits, tagsRefusal, cellFits, heldBy, tagsOf, after}
 use Rattle.list.specs.Tags.{checkWith, fillVerdict}
-use Rattle.list.proofs.SiteLaws.{call-low}
+use Rattle.list.proofs.CallWords.{call-low}
 use Rattle.list.specs.Tags.{filledTags}
 use Rattle.table.specs.Working.{IsNode, Taken, Read}
 use Rattle.list.specs.Working.{Bit}

@@ -3,27 +3,27 @@ use Prim.Native.Nat.{ℕ, _+_, _-_, _*_, _/_, _%_, _^_, _≤_}
 use mathlib.Core.Bool.{Bool, true, false, _&&_, _||_}
 use mathlib.Core.Path.{_≡_}
 use mathlib.Core.List.{List, []}
-use lib.Dec.{eqb, leb}
+use lib.Dec.{eqb}
 use lib.ListN.{length, getD, take, drop, replicate}
 use Rattle.table.specs.Pick.{pick, Range}
 use Rattle.table.specs.Syntax.{Expr, Exprs, none, some}
-use Rattle.table.specs.Bytes.{functions, nodes, kind, word, first}
+use Rattle.table.specs.Bytes.{functions, nodes, kind, first}
 use Rattle.table.specs.Naming.{owner}
 use Rattle.table.specs.Check.{accepted, ifAccepted}
 use Rattle.table.specs.Expressions.{exprsAt, exprAt, bodyOf, defsAt, finalAt}
-use Rattle.table.specs.Working.{IsNode, IsFunction, Taken, Decoded}
+use Rattle.table.specs.Working.{IsNode, IsFunction, Taken}
 use Rattle.table.specs.Survey.{verdictOf}
 use Rattle.list.specs.declared.Listing.{Listing}
 use Rattle.list.specs.declared.walk.Siblings.{Siblings}
 use Rattle.list.specs.Arbiters.{Test, noCalls, joined, anyUpTo, callsIn, callsIn*, parallel, conflicts, conflicts*, callsOf}
-use Rattle.list.specs.Tags.{tagged, calleeOf, listed}
+use Rattle.list.specs.Tags.{calleeOf, listed}
 use Rattle.list.specs.Records.{noRecord, recordsOf, recordsVerdict}
 
 -- bit k of a number
 abbrev pub bitAt : ℕ → ℕ → Bool
 bitAt x k = eqb (x / 2 ^ k % 2) 1
 
--- a node that a set of 64 bytes has a bit for; a function that a mask of 32 bits has a bit for: no call is of main
+-- a node that a set of 512 bits has a bit for; a function that a mask of 32 bits has a bit for: no call is of main
 abbrev pub Bit : ℕ → Type 0
 Bit m = Range 512 m
 
@@ -71,78 +71,84 @@ siblings t defs c = pick defs (defsAt t c) (exprsAt t c)
 abbrev pub kidsAt : List ℕ → Bool → ℕ → Exprs
 kidsAt t defs n = siblings t defs (first t n)
 
--- node m calls function h, its own maybe
-abbrev pub site : List ℕ → ℕ → ℕ → Bool
-site t h m = eqb (kind t m) 4 && eqb h (word t m)
+-- bit n of packed words, the lowest bit of the first word being bit 1; past the end every word reads 0
+unfoldable pub packed : List ℕ → Test
+packed words n = bitAt (getD words ((n - 1) / 64) 0) ((n - 1) % 64)
 
--- set h of a row of sets begins at bit 512 h: of function h the nodes, up to k, that call it
-pub record SitedTo (t : List ℕ) (k : ℕ) (sites : List ℕ) : Type 0 where
-  pub size : length sites ≡ 2112
-  pub bits : (h m : ℕ) → Range 32 h → Bit m → tagged sites (512 * h + m) ≡ leb m k && site t h m
+-- the rows of the walk are 65 sets, of which set k begins at bit 512 k: 0 has the conflicts found, g the calls of body g, and 32 + h the
+-- calls of function h that were met, its sites
+abbrev pub siteBit : ℕ → ℕ → ℕ
+siteBit h m = 512 * (32 + h) + m
 
-abbrev pub Sited : List ℕ → List ℕ → Type 0
-Sited t sites = SitedTo t (nodes t) sites
-
--- what the walk has at hand beside the table
-pub record Ready (t sites cells : List ℕ) : Type 0 where
-  pub sited : Sited t sites
-  pub read : Decoded t cells
-
--- what a set has in common with those of the sets 1 to k of a row that a mask names
-unfoldable pub meetOf : (set row : List ℕ) (mask k : ℕ) → Test
+-- the sites of those of the functions 1 to k that a mask names
+unfoldable pub unionOf : (rows : List ℕ) (mask k : ℕ) → Test
 unfolding anyUpTo
-meetOf set row mask k m = tagged set m && anyUpTo k (λ h. bitAt mask h && tagged row (512 * h + m))
+unionOf rows mask k m = anyUpTo k (λ h. bitAt mask h && packed rows (siteBit h m))
 
--- a set of 64 bytes with the members of another added
+-- a set of 8 words with the members of another added
 pub record Adds (s : Test) (set set′ : List ℕ) : Type 0 where
-  pub size : length set′ ≡ 64
-  pub bits : (m : ℕ) → Bit m → tagged set′ m ≡ tagged set m || s m
+  pub size : length set′ ≡ 8
+  pub bits : (m : ℕ) → Bit m → packed set′ m ≡ packed set m || s m
 
--- set g of a row is a set, and the row's others are as they were
-pub record Kept (g : ℕ) (set row row′ : List ℕ) : Type 0 where
-  pub size : length row′ ≡ 2112
-  pub same : (m : ℕ) → Bit m → tagged row′ (512 * g + m) ≡ tagged set m
-  pub other : (h m : ℕ) → (h ≡ g → ⊥) → Bit m → tagged row′ (512 * h + m) ≡ tagged row (512 * h + m)
+-- set k of the rows is a set, and the others are as they were
+pub record Kept (k : ℕ) (set rows rows′ : List ℕ) : Type 0 where
+  pub size : length rows′ ≡ 520
+  pub same : (m : ℕ) → Bit m → packed rows′ (512 * k + m) ≡ packed set m
+  pub other : (h m : ℕ) → (h ≡ k → ⊥) → Bit m → packed rows′ (512 * h + m) ≡ packed rows (512 * h + m)
 
--- a row to whose set g node n was added
-pub record PutAt (g n : ℕ) (row row′ : List ℕ) : Type 0 where
-  pub size : length row′ ≡ 2112
-  pub bits : (h m : ℕ) → Range 32 h → Bit m → tagged row′ (512 * h + m) ≡ tagged row (512 * h + m) || (eqb g h && eqb n m)
+-- rows to whose set k node n was added
+pub record PutAt (k n : ℕ) (rows rows′ : List ℕ) : Type 0 where
+  pub size : length rows′ ≡ 520
+  pub bits : (h m : ℕ) → Bit m → packed rows′ (512 * h + m) ≡ packed rows (512 * h + m) || (eqb k h && eqb n m)
+
+-- rows to whose set 0 was added what a set has in common with the sites of the functions that a mask names
+pub record MetBy (set : List ℕ) (mask : ℕ) (rows rows′ : List ℕ) : Type 0 where
+  pub size : length rows′ ≡ 520
+  pub bits : (m : ℕ) → Bit m → packed rows′ m ≡ packed rows m || (packed set m && unionOf rows mask 31 m)
+  pub other : (h m : ℕ) → 1 ≤ h → Bit m → packed rows′ (512 * h + m) ≡ packed rows (512 * h + m)
 
 -- a function whose body has been walked
 abbrev pub Seen : List ℕ → ℕ → Type 0
 Seen called g = getD called g 0 ≡ 0 → ⊥
 
--- of each body that has been walked: its set, the functions called in it, and its conflicts among those found, which are listed
-pub record Memo (t bodies called found : List ℕ) : Type 0 where
-  pub size-bodies : length bodies ≡ 2112
-  pub size-called : length called ≡ 33
-  pub size-found : length found ≡ 64
-  pub sets : (g m : ℕ) → IsFunction t g → Seen called g → Bit m → tagged bodies (512 * g + m) ≡ callsBy t g m
-  pub masks : (g h : ℕ) → IsFunction t g → Seen called g → Callee h → bitAt (getD called g 0) h ≡ calledIn t (callsBy t g) h
-  pub whole : (g m : ℕ) → IsFunction t g → Seen called g → Bit m → conflictsAt t (bodyOf t g) m ≡ true → tagged found m ≡ true
-  pub sound : (m : ℕ) → Bit m → tagged found m ≡ true → listed t m ≡ true
+-- call m has been met: it is among the sites of its function
+abbrev pub Met : (t rows : List ℕ) → ℕ → Type 0
+Met t rows m = Callee (calleeOf t m) × (packed rows (siteBit (calleeOf t m) m) ≡ true)
 
--- what stays: bodies walked, and conflicts found
-pub record Grown (called called′ found found′ : List ℕ) : Type 0 where
+-- of each body that has been walked: its calls, which have been met, the functions called in it, and its conflicts among those found,
+-- which are listed; and a site is a call of its function
+pub record Memo (t called rows : List ℕ) : Type 0 where
+  pub size-called : length called ≡ 33
+  pub size-rows : length rows ≡ 520
+  pub sets : (g m : ℕ) → IsFunction t g → Seen called g → Bit m → packed rows (512 * g + m) ≡ callsBy t g m
+  pub sited : (g m : ℕ) → IsFunction t g → Seen called g → Bit m → callsBy t g m ≡ true → Met t rows m
+  pub masks : (g h : ℕ) → IsFunction t g → Seen called g → Callee h → bitAt (getD called g 0) h ≡ calledIn t (callsBy t g) h
+  pub whole : (g m : ℕ) → IsFunction t g → Seen called g → Bit m → conflictsAt t (bodyOf t g) m ≡ true → packed rows m ≡ true
+  pub sound : (m : ℕ) → Bit m → packed rows m ≡ true → listed t m ≡ true
+  pub sites : (h m : ℕ) → Callee h → Bit m → packed rows (siteBit h m) ≡ true → calleeOf t m ≡ h
+
+-- what stays: bodies walked, conflicts found, sites met
+pub record Grown (called called′ rows rows′ : List ℕ) : Type 0 where
   pub seen : (g : ℕ) → Seen called g → Seen called′ g
-  pub stays : (m : ℕ) → Bit m → tagged found m ≡ true → tagged found′ m ≡ true
+  pub stays : (m : ℕ) → Bit m → packed rows m ≡ true → packed rows′ m ≡ true
+  pub stands : (h m : ℕ) → Callee h → Bit m → packed rows (siteBit h m) ≡ true → packed rows′ (siteBit h m) ≡ true
 
 -- a walk over what has the calls s and the conflicts x: set gets the calls, mask is of the functions called
-pub record Walk (t : List ℕ) (s x : Test) (mask : ℕ) (set set′ bodies′ called called′ found found′ : List ℕ) : Type 0 where
-  pub memo : Memo t bodies′ called′ found′
-  pub grown : Grown called called′ found found′
+pub record Walk (t : List ℕ) (s x : Test) (mask : ℕ) (set set′ called called′ rows rows′ : List ℕ) : Type 0 where
+  pub memo : Memo t called′ rows′
+  pub grown : Grown called called′ rows rows′
   pub added : Adds s set set′
   pub functions : (h : ℕ) → Callee h → bitAt mask h ≡ calledIn t s h
-  pub finds : (m : ℕ) → Bit m → x m ≡ true → tagged found′ m ≡ true
+  pub finds : (m : ℕ) → Bit m → x m ≡ true → packed rows′ m ≡ true
+  pub met : (m : ℕ) → Bit m → s m ≡ true → Met t rows′ m
 
 -- a walk whose functions are put to those of a mask
-pub record Onto (t : List ℕ) (s x : Test) (mask mask′ : ℕ) (set set′ bodies′ called called′ found found′ : List ℕ) : Type 0 where
+pub record Onto (t : List ℕ) (s x : Test) (mask mask′ : ℕ) (set set′ called called′ rows rows′ : List ℕ) : Type 0 where
   pub own : ℕ
-  pub walk : Walk t s x own set set′ bodies′ called called′ found found′
+  pub walk : Walk t s x own set set′ called called′ rows rows′
   pub joins : (h : ℕ) → Callee h → bitAt mask′ h ≡ bitAt mask h || bitAt own h
 
-abbrev pub OntoNode : (t : List ℕ) (n mask mask′ : ℕ) (set set′ bodies′ called called′ found found′ : List ℕ) → Type 0
+abbrev pub OntoNode : (t : List ℕ) (n mask mask′ : ℕ) (set set′ called called′ rows rows′ : List ℕ) → Type 0
 OntoNode t n = Onto t (callsAt t (exprAt t n)) (conflictsAt t (exprAt t n))
 
 -- a node of function f in an accepted table
@@ -158,10 +164,10 @@ pub record KindTo (t : List ℕ) (n k top : ℕ) : Type 0 where
   pub high : k ≤ top
 
 -- a walk along siblings; of a let it names the body
-pub record Chained (t : List ℕ) (f c : ℕ) (defs : Bool) (r : Siblings) (set set′ bodies′ called called′ found found′ : List ℕ)
+pub record Chained (t : List ℕ) (f c : ℕ) (defs : Bool) (r : Siblings) (set set′ called called′ rows rows′ : List ℕ)
     : Type 0 where
   pub walk : Walk t (callsAt* t (siblings t defs c)) (conflictsAt* t (siblings t defs c))
-      (r .once) set set′ bodies′ called called′ found found′
+      (r .once) set set′ called called′ rows rows′
   pub twice : (h : ℕ) → Callee h → bitAt (r .twice) h ≡ twiceIn t (siblings t defs c) h
   pub last : defs ≡ true → IsNode t (r .last .0) × (owner t (r .last .0) ≡ f) × (c ≤ r .last .0) × (finalAt t c ≡ exprAt t (r .last .0))
 
@@ -171,16 +177,16 @@ pub record Beside (t : List ℕ) (n : ℕ) (defs : Bool) : Type 0 where
   pub conflicts : (m : ℕ) → parallelAt t (kidsAt t defs n) m ≡ true → listed t m ≡ true
 
 -- a walk over node n's children, with their conflicts
-abbrev pub WalkKids : (t : List ℕ) (n : ℕ) (defs : Bool) (mask : ℕ) (set set′ bodies′ called called′ found found′ : List ℕ) → Type 0
+abbrev pub WalkKids : (t : List ℕ) (n : ℕ) (defs : Bool) (mask : ℕ) (set set′ called called′ rows rows′ : List ℕ) → Type 0
 WalkKids t n defs =
     Walk t (callsAt* t (kidsAt t defs n)) (joined (parallelAt t (kidsAt t defs n)) (conflictsAt* t (kidsAt t defs n)))
 
-abbrev pub OntoKids : (t : List ℕ) (n mask mask′ : ℕ) (set set′ bodies′ called called′ found found′ : List ℕ) → Type 0
+abbrev pub OntoKids : (t : List ℕ) (n mask mask′ : ℕ) (set set′ called called′ rows rows′ : List ℕ) → Type 0
 OntoKids t n = Onto t (callsAt* t (kidsAt t false n)) (joined (parallelAt t (kidsAt t false n)) (conflictsAt* t (kidsAt t false n)))
 
-pub record Sided (t : List ℕ) (f n : ℕ) (defs : Bool) (r : Siblings) (set set′ bodies′ called called′ found found′ : List ℕ)
+pub record Sided (t : List ℕ) (f n : ℕ) (defs : Bool) (r : Siblings) (set set′ called called′ rows rows′ : List ℕ)
     : Type 0 where
-  pub walk : WalkKids t n defs (r .once) set set′ bodies′ called called′ found found′
+  pub walk : WalkKids t n defs (r .once) set set′ called called′ rows rows′
   pub last : defs ≡ true → IsNode t (r .last .0) × (owner t (r .last .0) ≡ f) × (first t n ≤ r .last .0)
       × (finalAt t (first t n) ≡ exprAt t (r .last .0))
 

@@ -1,8 +1,7 @@
 // The arbiter list of an accepted table as a packed set: every body is walked, main's first, and each once.
-use crate::bits;
+use crate::bits::Rows;
 use crate::walk;
 use table::Function;
-use table::Node;
 use table::decoded;
 use table::decoded::Cells;
 ghost use mathlib.Core.Path.{_≡_};
@@ -10,24 +9,22 @@ ghost use Prim.Native.Nat.{ℕ};
 ghost use lib.ListN.{length};
 ghost use Rattle.table.specs.Working.{Read};
 ghost use Rattle.list.specs.Tags.{tagged, listed};
-ghost use Rattle.list.specs.Working.{Bit, Sited};
+ghost use Rattle.list.specs.Working.{packed, Bit};
 
-// The calls of each function, self calls too.
-fn sites(table: &[u8], cells: &Cells) -> [u8; 2112]
-    requires { ⌜ Read (now table) (now cells) ⌝ }
-    ensures { λ r. ⌜ Sited (now (table .entry)) r ⌝ }
+// Set 0 of the rows as bytes.
+fn bytes(rows: &Rows) -> [u8; 64]
+    ensures { λ r. ⌜ (length r ≡ 64) × ((m : ℕ) → Bit m → tagged r m ≡ packed (now (rows .entry)) m) ⌝ }
 {
-    let mut row = [0u8; 2112];
-    let last = decoded::last(cells);
-    let mut n: u16 = 0;
-    while n < last.0 {
-        n += 1;
-        let node = Node(n);
-        if decoded::kind(cells, node) == 4 {
-            bits::put_at(&mut row, decoded::callee(cells, node), node);
-        }
+    let mut set = [0u8; 64];
+    let mut i: usize = 0;
+    while i < 64 {
+        let x = rows[i / 8];
+        let k = (8 * (i % 8)) as u16;
+        let y = x >> k;
+        set[i] = (y % 256) as u8;
+        i += 1;
     }
-    row
+    set
 }
 
 // The calls that are in conflict in one of the bodies.
@@ -35,23 +32,13 @@ pub(crate) fn arbiters(table: &[u8], cells: &Cells) -> [u8; 64]
     requires { ⌜ Read (now table) (now cells) ⌝ }
     ensures { λ r. ⌜ (length r ≡ 64) × ((m : ℕ) → Bit m → tagged r m ≡ listed (now (table .entry)) m) ⌝ }
 {
-    let row = sites(table, cells);
-    let mut bodies = [0u8; 2112];
+    let mut rows = [0u64; 520];
     let mut called = [0u32; 33];
-    let mut found = [0u8; 64];
     let main = decoded::main(cells);
     let mut f: u16 = main.0;
     while 0 < f {
-        walk::body_walk(
-            &table,
-            cells,
-            &row,
-            Function(f),
-            &mut bodies,
-            &mut called,
-            &mut found,
-        );
+        walk::body_walk(&table, cells, Function(f), &mut called, &mut rows);
         f -= 1;
     }
-    found
+    bytes(&rows)
 }

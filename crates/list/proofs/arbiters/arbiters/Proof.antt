@@ -11,16 +11,11 @@ use Rattle.list.proofs.arbiters.arbiters.Statement.{statement}
 use Rattle.list.proofs.arbiters.arbiters.Tie as tie
 
 abbrev Inv-loop : tie.InvT-loop
-Inv-loop t1 cells table row bodies₀ called₀ found₀ f₀ bodies called found f =
-    (f ≤ functions table) × Memo table bodies called found × ((g : ℕ) → f < g → g ≤ functions table → Seen called g)
+Inv-loop t1 cells table rows₀ called₀ f₀ rows called f =
+    (f ≤ functions table) × Memo table called rows × ((g : ℕ) → f < g → g ≤ functions table → Seen called g)
 
 abbrev μ-loop : tie.MeasureT-loop
-μ-loop t1 cells table row bodies₀ called₀ found₀ f₀ bodies called found f = f
-
-sites-requires : tie.Need-sites-requires Inv-loop μ-loop
-sites-requires c κs =
-    let s : tie.Start Inv-loop μ-loop = search in
-    s .pre
+μ-loop t1 cells table rows₀ called₀ f₀ rows called f = f
 
 main-requires : tie.Need-main-requires Inv-loop μ-loop
 main-requires c κs = search needs
@@ -35,11 +30,10 @@ body-walk-requires : tie.Need-body-walk-requires Inv-loop μ-loop
 body-walk-requires c κs =
     let turn : tie.In-loop Inv-loop μ-loop = search in
     let l : tie.At-loop Inv-loop μ-loop = search in
-    let row : tie.After-sites Inv-loop μ-loop = search in
     let s : tie.Start Inv-loop μ-loop = search in
     let inv = l .loop .inv in (
       (s .pre .taken, (omega (arith, turn .loop-test .taken), inv .0)),
-      (record { sited = row .sites .ensures; read = s .pre .told }, inv .1),
+      (s .pre .told, inv .1),
     )
 
 sub-f : tie.Need-sub-f Inv-loop μ-loop
@@ -53,13 +47,17 @@ loop-again c =
     let l : tie.At-loop Inv-loop μ-loop = search in
     let inv = l .loop .inv in
     let r = c .body-walk .ensures in
-    (omega arith, r .0, all-seen _ (l .loop .called) (c .body-walk .last .1 .1 .1 .1 .1 .0) _ (inv .2) (r .1 .seen) (r .2))
+    (omega arith, r .0, all-seen _ (l .loop .called) (c .body-walk .last .1 .1 .1 .0) _ (inv .2) (r .1 .seen) (r .2))
+
+bytes-requires : tie.Need-bytes-requires Inv-loop μ-loop
+bytes-requires c κs = tt
 
 returns : tie.Need-returns Inv-loop μ-loop
 returns c =
     let l : tie.At-loop Inv-loop μ-loop = search in
     let inv = l .loop .inv in
-    (inv .1 .size-found, found-list _ _ _ _ (inv .1) (λ g i. inv .2 g (omega (arith, i .0)) (i .1)))
+    let r = c .bytes .ensures in
+    (r .0, λ m b. r .1 m b ∙ found-list _ _ _ (inv .1) (λ g i. inv .2 g (omega (arith, i .0)) (i .1)) m b)
 
 pub arbiters-spec : {M : Type 1} → statement M
 arbiters-spec =
@@ -67,11 +65,11 @@ arbiters-spec =
     (tie.spec
     Inv-loop
     μ-loop
-    sites-requires
     main-requires
     loop-holds
     body-walk-requires
     sub-f
     loop-less
     loop-again
+    bytes-requires
     returns)

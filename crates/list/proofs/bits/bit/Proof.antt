@@ -20,7 +20,7 @@ returns : tie.Need-returns
 returns c =
     let start : tie.Start = search in
     let n = start .args .n .0 in
-    let e : (1 * 2 ^ ((n - 1) % 8)) % 2 ^ 8 ≡ 2 ^ ((n - 1) % 8) = bit-is _ 8 (omega arith) in
+    let e : (1 * 2 ^ ((n - 1) % 64)) % 2 ^ 64 ≡ 2 ^ ((n - 1) % 64) = bit-is _ 64 (omega arith) in
     e
 
 pub bit-spec : {M : Type 1} → statement M

@@ -1,88 +1,86 @@
--- `bits::meet` meets its contract. The invariant: what the set has in common with the sets up to h is joined.
--- The measure is the functions left.
-use mathlib.Core.Path.{_≡_, sym, subst, _∙_}
-use Prim.Native.Nat.{_+_, _-_, _≤_}
+-- `bits::meet` meets its contract. The invariant: what is common in the words up to i is joined, the others are as they were.
+-- The measure is the words left.
+use mathlib.Core.Path.{_≡_, subst, ap}
+use Prim.Native.Nat.{_-_, _≤_}
 use native.Mathlib.Omega.{arith}
 use borrow.Author.Needs.{needs}
-use Rattle.list.specs.Working.{Adds, meetOf}
-use Rattle.list.proofs.Meets.{adds-none, meet-zero, meet-more, meet-skip, meet-rest}
+use lib.ListN.{length, getD, length-set}
+use lib.Bits.{bitOr, bitAnd}
+use Rattle.list.proofs.Meets.{met-none, met-by}
+use Rattle.list.proofs.Bytewise.{Upto, upto-none, upto-more}
 use Rattle.list.proofs.bits.meet.Statement.{statement}
 use Rattle.list.proofs.bits.meet.Tie as tie
 
 abbrev Inv-loop : tie.InvT-loop
-Inv-loop found₀ set row mask h₀ found h = (h ≤ 31) × Adds (meetOf set row mask h) found₀ found
+Inv-loop rows₀ set mask all i₀ rows i =
+    (i ≤ 8) × (length rows ≡ 520) × Upto (λ j. bitOr (getD rows₀ j 0) (bitAnd (getD set j 0) (getD all j 0))) rows₀ rows i
 
 abbrev μ-loop : tie.MeasureT-loop
-μ-loop found₀ set row mask h₀ found h = 31 - h
-
-loop-holds : tie.Need-loop-holds Inv-loop μ-loop
-loop-holds c =
-    let a = c .args in
-    (omega arith, adds-none _ _ (c .pre) (λ m b. meet-zero _ _ (a .mask) m))
-
-cast-left : tie.Need-cast-left Inv-loop μ-loop
-cast-left c = search needs
-
-shr-left : tie.Need-shr-left Inv-loop μ-loop
-shr-left c = omega arith
+μ-loop rows₀ set mask all i₀ rows i = 8 - i
 
 returns : tie.Need-returns Inv-loop μ-loop
 returns c =
-    let at-loop : tie.At-loop Inv-loop μ-loop = search in
-    let start : tie.Start Inv-loop μ-loop = search in
-    let a = start .args in
-    let l = at-loop .loop in
-    let e : l .h + (31 - l .h) ≡ 31 = omega (arith, l .inv .0) in
-    subst (λ k. Adds (meetOf (a .set .now) (a .row .now) (a .mask) k) (a .found .now) (l .found)) e (meet-rest _ _ (a .mask) (l .h)
-    (31 - l .h) _ (l .found) (c .if1 .taken) (l .inv .1))
+    let s : tie.Start Inv-loop μ-loop = search in
+    met-none _ _ _ (s .pre) (c .if1 .taken)
 
-add-h : tie.Need-add-h Inv-loop μ-loop
-add-h c = omega arith
+union-requires : tie.Need-union-requires Inv-loop μ-loop
+union-requires c κs = tt
 
-has-requires : tie.Need-has-requires Inv-loop μ-loop
-has-requires c κs = omega arith
+loop-holds : tie.Need-loop-holds Inv-loop μ-loop
+loop-holds c =
+    let s : tie.Start Inv-loop μ-loop = search in
+    (omega arith, s .pre, upto-none _ _)
 
-meet-at-requires : tie.Need-meet-at-requires Inv-loop μ-loop
-meet-at-requires c κs =
-    let at-loop : tie.At-loop Inv-loop μ-loop = search in
-    (at-loop .loop .inv .1 .size, omega arith)
+mul-x : tie.Need-mul-x Inv-loop μ-loop
+mul-x c = search needs
+
+element-copy-out-x : tie.Need-element-copy-out-x Inv-loop μ-loop
+element-copy-out-x c = omega arith
+
+mul-y : tie.Need-mul-y Inv-loop μ-loop
+mul-y c = search needs
+
+element-copy-out-y : tie.Need-element-copy-out-y Inv-loop μ-loop
+element-copy-out-y c = omega arith
+
+mul-z : tie.Need-mul-z Inv-loop μ-loop
+mul-z c = search needs
+
+array-read-z : tie.Need-array-read-z Inv-loop μ-loop
+array-read-z c = omega arith
+
+mul-rows : tie.Need-mul-rows Inv-loop μ-loop
+mul-rows c = search needs
+
+element-write-rows : tie.Need-element-write-rows Inv-loop μ-loop
+element-write-rows c = omega arith
+
+add-i : tie.Need-add-i Inv-loop μ-loop
+add-i c = omega arith
 
 loop-less : tie.Need-loop-less Inv-loop μ-loop
 loop-less c = omega arith
 
 loop-again : tie.Need-loop-again Inv-loop μ-loop
 loop-again c =
-    let then2 : tie.Then2 Inv-loop μ-loop = search in
-    let after-has : tie.After-has Inv-loop μ-loop = search in
-    let at-loop : tie.At-loop Inv-loop μ-loop = search in
-    let start : tie.Start Inv-loop μ-loop = search in
-    let a = start .args in
-    let l = at-loop .loop in (
+    let l : tie.At-loop Inv-loop μ-loop = search in
+    let s : tie.Start Inv-loop μ-loop = search in
+    let united : tie.After-union Inv-loop μ-loop = search in
+    let i = l .loop .i in
+    let inv = l .loop .inv in
+    let both = bitAnd (getD (s .args .set .now) i 0) (getD (united .union .result) i 0) in (
       omega arith,
-      meet-more _ _ (a .mask) (l .h) _ (l .found) _ (l .inv .1) (sym (after-has .has .ensures) ∙ then2 .if2 .taken)
-          (c .meet-at .ensures),
+      simp length-set (inv .1),
+      upto-more _ _ _ i _ (omega (arith, inv .1)) (inv .2) (ap (λ x. bitOr x both) (inv .2 .left i (omega arith))),
     )
-
-loop-less-2 : tie.Need-loop-less-2 Inv-loop μ-loop
-loop-less-2 c = omega arith
-
-loop-again-2 : tie.Need-loop-again-2 Inv-loop μ-loop
-loop-again-2 c =
-    let after-has : tie.After-has Inv-loop μ-loop = search in
-    let at-loop : tie.At-loop Inv-loop μ-loop = search in
-    let start : tie.Start Inv-loop μ-loop = search in
-    let a = start .args in
-    let l = at-loop .loop in
-    (omega arith, meet-skip _ _ (a .mask) (l .h) _ (l .found) (l .inv .1) (sym (after-has .has .ensures) ∙ c .if2 .left))
 
 returns-2 : tie.Need-returns-2 Inv-loop μ-loop
 returns-2 c =
-    let at-loop : tie.At-loop Inv-loop μ-loop = search in
-    let start : tie.Start Inv-loop μ-loop = search in
-    let a = start .args in
-    let l = at-loop .loop in
-    let e : l .h ≡ 31 = omega arith in
-    subst (λ k. Adds (meetOf (a .set .now) (a .row .now) (a .mask) k) (a .found .now) (l .found)) e (l .inv .1)
+    let l : tie.At-loop Inv-loop μ-loop = search in
+    let united : tie.After-union Inv-loop μ-loop = search in
+    let inv = l .loop .inv in
+    let e : l .loop .i ≡ 8 = omega arith in
+    met-by _ _ _ _ _ (inv .1) (subst (Upto _ _ _) e (inv .2)) (united .union .ensures .1)
 
 pub meet-spec : {M : Type 1} → statement M
 meet-spec =
@@ -90,15 +88,18 @@ meet-spec =
     (tie.spec
     Inv-loop
     μ-loop
-    loop-holds
-    cast-left
-    shr-left
     returns
-    add-h
-    has-requires
-    meet-at-requires
+    union-requires
+    loop-holds
+    mul-x
+    element-copy-out-x
+    mul-y
+    element-copy-out-y
+    mul-z
+    array-read-z
+    mul-rows
+    element-write-rows
+    add-i
     loop-less
     loop-again
-    loop-less-2
-    loop-again-2
     returns-2)

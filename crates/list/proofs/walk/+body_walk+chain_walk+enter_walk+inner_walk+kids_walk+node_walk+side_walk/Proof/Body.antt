@@ -55,7 +55,7 @@ module _ (t : ℕ) where
   roots : (c : After-root) → c .root .result .0 ≡ root (start c .args .table .now .now) (start c .args .g .0)
   roots c =
       let p = start c .pre .1 in
-      c .root .ensures ∙ p .1 .0 .read .function _ 2 (p .0 .1) (omega arith)
+      c .root .ensures ∙ p .1 .0 .function _ 2 (p .0 .1) (omega arith)
 
   pub root-requires : lts.Need-root-requires given (measures.body-walk-at t) body-walk.Post
   root-requires c κs = tt
@@ -75,7 +75,7 @@ module _ (t : ℕ) where
   keep-requires c κs =
       let after-node-walk : After-node-walk = search in
       let s : Start = search in
-      (after-node-walk .node-walk .ensures .walk .memo .size-bodies, let p = s .pre .1 .0 in omega (arith, p .1 .1, few _ (p .0) .0))
+      (after-node-walk .node-walk .ensures .walk .memo .size-rows, let p = s .pre .1 .0 in omega (arith, p .1 .1, few _ (p .0) .0))
 
   pub mul-called : lts.Need-mul-called given (measures.body-walk-at t) body-walk.Post
   mul-called c =
@@ -94,4 +94,4 @@ module _ (t : ℕ) where
       let after-root : After-root = search in
       let s : Start = search in
       let p = s .pre .1 .0 in
-      at-body _ (p .0) _ _ _ _ _ _ _ _ _ _ (p .1) (roots after-root) (after-node-walk .node-walk .ensures) (c .keep .ensures)
+      at-body _ (p .0) _ _ _ _ _ _ _ _ _ (p .1) (roots after-root) (after-node-walk .node-walk .ensures) (c .keep .ensures)

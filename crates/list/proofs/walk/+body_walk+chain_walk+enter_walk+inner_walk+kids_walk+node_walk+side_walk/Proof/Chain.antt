@@ -13,12 +13,12 @@ use Rattle.list.proofs.walk.+body_walk+chain_walk+enter_walk+inner_walk
 use Rattle.list.proofs.walk.+body_walk+chain_walk+enter_walk+inner_walk+kids_walk+node_walk+side_walk.Proof.Measures as measures
 
 abbrev pub Inv-loop : lts.InvT-loop
-Inv-loop table cells sites f defs bodies₀ called₀ found₀ set₀ at₀ once₀ twice₀ after₀ bodies called found set at once twice after =
-    Along (table .now) (f .0) (at₀ .0) defs (at .0) once twice set₀ set bodies called₀ called found₀ found × (after .0 ≡ next (table
+Inv-loop table cells f defs called₀ rows₀ set₀ at₀ once₀ twice₀ after₀ called rows set at once twice after =
+    Along (table .now) (f .0) (at₀ .0) defs (at .0) once twice set₀ set called₀ called rows₀ rows × (after .0 ≡ next (table
     .now) (at .0))
 
 abbrev pub μ-loop : lts.MeasureT-loop
-μ-loop table cells sites f defs bodies₀ called₀ found₀ set₀ at₀ once₀ twice₀ after₀ bodies called found set at once twice after =
+μ-loop table cells f defs called₀ rows₀ set₀ at₀ once₀ twice₀ after₀ called rows set at once twice after =
     nodes (table .now) - at .0
 
 module _ (t : ℕ) where
@@ -51,7 +51,7 @@ module _ (t : ℕ) where
   loop-holds c =
       let start : Start = search in
       let p = start .pre .1 in
-      (along-none _ _ _ _ _ _ _ _ (p .1 .0) (p .0) (p .1 .1 .1), told _ _ _ _ _ (p .1 .1 .0) (p .1 .0) 5 _ (omega arith) (c .next .ensures))
+      (along-none _ _ _ _ _ _ _ (p .1 .0) (p .0) (p .1 .1 .1), told _ _ _ _ (p .1 .1 .0) (p .1 .0) 5 _ (omega arith) (c .next .ensures))
 
   pub node-walk-requires : lts.Need-node-walk-requires given (measures.chain-walk-at t) chain-walk.Post Inv-loop μ-loop
   node-walk-requires c κs =
@@ -94,8 +94,8 @@ module _ (t : ℕ) where
       let start : Start = search in
       let i = at-loop .loop .inv in
       let z = then1 .if1 .taken in (
-        along-more _ _ _ _ _ _ _ _ _ _ _ _ _ _ (i .0) _ _ _ _ _ _ (λ q. z (i .1 ∙ q)) (i .1) (after-node-walk .node-walk .ensures),
-        told _ _ _ _ _ (start .pre .1 .1 .1 .0) (on then1) 5 _ (omega arith) (c .next2 .ensures),
+        along-more _ _ _ _ _ _ _ _ _ _ _ _ _ (i .0) _ _ _ _ _ (λ q. z (i .1 ∙ q)) (i .1) (after-node-walk .node-walk .ensures),
+        told _ _ _ _ (start .pre .1 .1 .1 .0) (on then1) 5 _ (omega arith) (c .next2 .ensures),
       )
 
   pub returns : lts.Need-returns given (measures.chain-walk-at t) chain-walk.Post Inv-loop μ-loop
@@ -103,7 +103,7 @@ module _ (t : ℕ) where
       let else1 : Else1 = search in
       let at-loop : At-loop = search in
       let i = at-loop .loop .inv in
-      along-body _ _ _ _ _ _ _ _ _ _ _ _ _ _ (i .0) _ (c .if2 .taken) refl (sym (i .1) ∙ else1 .if1 .left)
+      along-body _ _ _ _ _ _ _ _ _ _ _ _ _ (i .0) _ (c .if2 .taken) refl (sym (i .1) ∙ else1 .if1 .left)
 
   pub node-walk-requires-2 : lts.Need-node-walk-requires-2 given (measures.chain-walk-at t) chain-walk.Post Inv-loop μ-loop
   node-walk-requires-2 c κs =
@@ -120,5 +120,5 @@ module _ (t : ℕ) where
       let else1 : Else1 = search in
       let at-loop : At-loop = search in
       let i = at-loop .loop .inv in
-      along-last _ _ _ _ _ _ _ _ _ _ _ _ _ _ (i .0) _ _ _ _ _ _ (else2 .if2 .left) (sym (i .1) ∙ else1 .if1 .left)
+      along-last _ _ _ _ _ _ _ _ _ _ _ _ _ (i .0) _ _ _ _ _ (else2 .if2 .left) (sym (i .1) ∙ else1 .if1 .left)
       (c .node-walk2 .ensures)

@@ -69,7 +69,7 @@ module _ (t : ℕ) where
   firsts : (c : After-first) → c .first .result .0 ≡ first (start c .args .table .now .now) (start c .args .n .0)
   firsts c =
       let p = start c .pre .1 in
-      told _ _ _ _ _ (p .1 .1 .1 .0) (p .1 .0) 4 _ (omega arith) (c .first .ensures)
+      told _ _ _ _ (p .1 .1 .1 .0) (p .1 .0) 4 _ (omega arith) (c .first .ensures)
 
   pub first-requires : lts.Need-first-requires given (measures.inner-walk-at t) inner-walk.Post
   first-requires c κs = tt
@@ -92,7 +92,7 @@ module _ (t : ℕ) where
       let then1 : Then1 = search in
       let s : Start = search in
       let p = s .pre .1 in
-      onto-one _ _ _ _ _ _ _ _ _ _ _ _ (at-choice _ _ _ (p .1 .0) _ _ _ _ _ _ _ _ _ _ (p .1 .1 .0 .is) (then1 .if1 .taken)
+      onto-one _ _ _ _ _ _ _ _ _ _ _ (at-choice _ _ _ (p .1 .0) _ _ _ _ _ _ _ _ _ (p .1 .1 .0 .is) (then1 .if1 .taken)
       (firsts after-first) (after-chain-walk .chain-walk .ensures))
 
   pub side-walk-requires : lts.Need-side-walk-requires given (measures.inner-walk-at t) inner-walk.Post
@@ -134,7 +134,7 @@ module _ (t : ℕ) where
       let then2 : Then2 = search in
       let s : Start = search in
       let p = s .pre .1 in
-      at-let _ _ _ (p .1 .0) _ _ _ _ _ _ _ _ _ _ _ _ _ _ _ (p .1 .1 .0 .is) (then2 .if2 .taken) (after-side-walk .side-walk .ensures)
+      at-let _ _ _ (p .1 .0) _ _ _ _ _ _ _ _ _ _ _ _ _ (p .1 .1 .0 .is) (then2 .if2 .taken) (after-side-walk .side-walk .ensures)
       (c .node-walk .ensures)
 
   pub enter-walk-requires : lts.Need-enter-walk-requires given (measures.inner-walk-at t) inner-walk.Post
@@ -188,5 +188,5 @@ module _ (t : ℕ) where
       let else1 : Else1 = search in
       let s : Start = search in
       let p = s .pre .1 in
-      at-apart _ _ _ (p .1 .0) _ _ _ _ _ _ _ _ _ _ _ _ _ _ _ (p .1 .1 .0) (else1 .if1 .left) (else2 .if2 .left)
+      at-apart _ _ _ (p .1 .0) _ _ _ _ _ _ _ _ _ _ _ _ _ (p .1 .1 .0) (else1 .if1 .left) (else2 .if2 .left)
       (after-enter-walk .enter-walk .ensures) (c .kids-walk .ensures)

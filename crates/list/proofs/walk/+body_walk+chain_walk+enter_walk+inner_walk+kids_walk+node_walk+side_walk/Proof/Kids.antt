@@ -54,7 +54,7 @@ module _ (t : ℕ) where
   firsts : (c : After-first) → c .first .result .0 ≡ first (start c .args .table .now .now) (start c .args .n .0)
   firsts c =
       let p = start c .pre .1 in
-      told _ _ _ _ _ (p .1 .1 .1 .0) (p .1 .0) 4 _ (omega arith) (c .first .ensures)
+      told _ _ _ _ (p .1 .1 .1 .0) (p .1 .0) 4 _ (omega arith) (c .first .ensures)
 
   pub first-requires : lts.Need-first-requires given (measures.kids-walk-at t) kids-walk.Post
   first-requires c κs = tt
@@ -64,7 +64,7 @@ module _ (t : ℕ) where
       let after-first : After-first = search in
       let s : Start = search in
       let p = s .pre .1 in
-      onto-none _ _ _ _ _ _ _ _ _ _ _ (kids-none _ _ _ (p .1 .0) _ _ _ _ (sym (firsts after-first) ∙ c .if1 .taken) (p .0)
+      onto-none _ _ _ _ _ _ _ _ _ _ (kids-none _ _ _ (p .1 .0) _ _ _ (sym (firsts after-first) ∙ c .if1 .taken) (p .0)
       (p .1 .1 .1 .1))
 
   abbrev some : After-next → Else1
@@ -82,7 +82,7 @@ module _ (t : ℕ) where
       subst (Within _ _) (sym e) (u .0)
 
   nexts : (c : After-next) → c .next .result .0 ≡ next (start (read (some c)) .args .table .now .now) (read (some c) .first .result .0)
-  nexts c = told _ _ _ _ _ (start (read (some c)) .pre .1 .1 .1 .1 .0) (there (some c)) 5 _ (omega arith) (c .next .ensures)
+  nexts c = told _ _ _ _ (start (read (some c)) .pre .1 .1 .1 .1 .0) (there (some c)) 5 _ (omega arith) (c .next .ensures)
 
   pub next-requires : lts.Need-next-requires given (measures.kids-walk-at t) kids-walk.Post
   next-requires c κs = tt
@@ -114,7 +114,7 @@ module _ (t : ℕ) where
       let o = c .node-walk .ensures in
       record {
         own = o .own;
-        walk = kids-one _ _ _ (p .1 .1 .0) _ _ _ _ _ _ _ _ _ (p .1 .1 .1 .0) w e (sym (nexts after-next) ∙ then2 .if2 .taken) (o .walk);
+        walk = kids-one _ _ _ (p .1 .1 .0) _ _ _ _ _ _ _ _ (p .1 .1 .1 .0) w e (sym (nexts after-next) ∙ then2 .if2 .taken) (o .walk);
         joins = o .joins;
       }
 
@@ -130,4 +130,4 @@ module _ (t : ℕ) where
   pub returns-3 : lts.Need-returns-3 given (measures.kids-walk-at t) kids-walk.Post
   returns-3 c =
       let after-side-walk : After-side-walk = search in
-      onto-one _ _ _ _ _ _ _ _ _ _ _ _ (after-side-walk .side-walk .ensures .walk)
+      onto-one _ _ _ _ _ _ _ _ _ _ _ (after-side-walk .side-walk .ensures .walk)

@@ -36,7 +36,7 @@ module _ (t : ℕ) where
   kinded : (c : After-kind) → c .kind .result ≡ kind (start c .args .table .now .now) (start c .args .n .0)
   kinded c =
       let p = start c .pre .1 in
-      told _ _ _ _ _ (p .1 .1 .0) (p .1 .0) 0 _ (omega arith) (c .kind .ensures)
+      told _ _ _ _ (p .1 .1 .0) (p .1 .0) 0 _ (omega arith) (c .kind .ensures)
 
   pub kind-requires : lts.Need-kind-requires given (measures.node-walk-at t) node-walk.Post
   kind-requires c κs = tt
@@ -46,14 +46,14 @@ module _ (t : ℕ) where
       let after-kind : After-kind = search in
       let start : Start = search in
       let p = start .pre .1 in
-      onto-none _ _ _ _ _ _ _ _ _ _ _ (at-low _ _ _ (p .1 .0) _ _ _ _ _ (kinded after-kind) (c .if1 .taken) (p .0) (p .1 .1 .1))
+      onto-none _ _ _ _ _ _ _ _ _ _ (at-low _ _ _ (p .1 .0) _ _ _ _ (kinded after-kind) (c .if1 .taken) (p .0) (p .1 .1 .1))
 
   pub returns-2 : lts.Need-returns-2 given (measures.node-walk-at t) node-walk.Post
   returns-2 c =
       let after-kind : After-kind = search in
       let start : Start = search in
       let p = start .pre .1 in
-      onto-none _ _ _ _ _ _ _ _ _ _ _ (at-high _ _ _ (p .1 .0) _ _ _ _ _ (kinded after-kind) (c .if2 .taken) (p .0) (p .1 .1 .1))
+      onto-none _ _ _ _ _ _ _ _ _ _ (at-high _ _ _ (p .1 .0) _ _ _ _ (kinded after-kind) (c .if2 .taken) (p .0) (p .1 .1 .1))
 
   pub inner-walk-requires : lts.Need-inner-walk-requires given (measures.node-walk-at t) node-walk.Post
   inner-walk-requires c κs =

@@ -5,7 +5,7 @@ use native.Mathlib.Omega.{arith}
 use Rattle.table.specs.Bytes.{first}
 use Rattle.list.specs.Working.{Within}
 use Rattle.list.proofs.NodeLaws.{told, first-there}
-use Rattle.list.proofs.ChainLaws.{side-all}
+use Rattle.list.proofs.ChainLaws.{side-idle, side-all}
 use Rattle.list.proofs.walk.side_walk.Reads as side-walk
 use Rattle.table.proofs.decoded.first.Reads as first-reads
 use Rattle.list.proofs.walk.chain_walk.Reads as chain-walk
@@ -37,6 +37,9 @@ module _ (t : ℕ) where
   abbrev After-meet : Type 0
   After-meet = lts.After-meet given (measures.side-walk-at t) side-walk.Post
 
+  abbrev Then1 : Type 0
+  Then1 = lts.Then1 given (measures.side-walk-at t) side-walk.Post
+
   abbrev Start : Type 0
   Start = lts.Start given (measures.side-walk-at t) side-walk.Post
 
@@ -47,7 +50,7 @@ module _ (t : ℕ) where
   firsts : (c : After-first) → c .first .result .0 ≡ first (start c .args .table .now .now) (start c .args .n .0)
   firsts c =
       let p = start c .pre .1 in
-      told _ _ _ _ _ (p .1 .1 .1 .0) (p .1 .0) 4 _ (omega arith) (c .first .ensures)
+      told _ _ _ _ (p .1 .1 .1 .0) (p .1 .0) 4 _ (omega arith) (c .first .ensures)
 
   pub first-requires : lts.Need-first-requires given (measures.side-walk-at t) side-walk.Post
   first-requires c κs = tt
@@ -66,7 +69,7 @@ module _ (t : ℕ) where
   pub meet-requires : lts.Need-meet-requires given (measures.side-walk-at t) side-walk.Post
   meet-requires c κs =
       let after-chain-walk : After-chain-walk = search in
-      after-chain-walk .chain-walk .ensures .walk .memo .size-found
+      after-chain-walk .chain-walk .ensures .walk .memo .size-rows
 
   pub join-requires : lts.Need-join-requires given (measures.side-walk-at t) side-walk.Post
   join-requires c κs =
@@ -75,10 +78,20 @@ module _ (t : ℕ) where
 
   pub returns : lts.Need-returns given (measures.side-walk-at t) side-walk.Post
   returns c =
+      let then1 : Then1 = search in
+      let after-chain-walk : After-chain-walk = search in
+      let after-first : After-first = search in
+      let s : Start = search in
+      let p = s .pre .1 in
+      side-idle _ _ _ (p .1 .0) _ _ _ _ _ _ _ _ _ (p .1 .1 .0 .0) (firsts after-first) (after-chain-walk .chain-walk .ensures)
+      (then1 .if1 .taken) (p .0)
+
+  pub returns-2 : lts.Need-returns-2 given (measures.side-walk-at t) side-walk.Post
+  returns-2 c =
       let after-meet : After-meet = search in
       let after-chain-walk : After-chain-walk = search in
       let after-first : After-first = search in
       let s : Start = search in
       let p = s .pre .1 in
-      side-all _ _ _ (p .1 .0) _ _ _ _ _ _ _ _ _ _ _ _ _ (p .1 .1 .0 .0) (p .1 .1 .1 .0 .sited) (firsts after-first)
-      (after-chain-walk .chain-walk .ensures) (after-meet .meet .ensures) (c .join .ensures)
+      side-all _ _ _ (p .1 .0) _ _ _ _ _ _ _ _ _ (p .1 .1 .0 .0) (firsts after-first) (after-chain-walk .chain-walk .ensures) _ _
+      (after-meet .meet .ensures) (c .join .ensures)
