@@ -4,7 +4,8 @@ use std::hint::black_box;
 
 use crate::measure::{medians, Section};
 use crate::ratios::Ratios;
-use design::random::{accepted_of, Random};
+use design::generator::accepted_of;
+use design::random::Random;
 
 const SIZES: [usize; 4] = [64, 128, 256, 512];
 const TABLES: usize = 24;

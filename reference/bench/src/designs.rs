@@ -1,6 +1,7 @@
 //! The random designs that the run, one step and one start are timed on.
 
-use design::random::{accepted_of, Random};
+use design::generator::accepted_of;
+use design::random::Random;
 use design::reading::read;
 use design::states::arguments;
 use design::Tree;

@@ -4,8 +4,9 @@ use std::hint::black_box;
 
 use crate::measure::{medians, Section};
 use crate::ratios::Ratios;
+use design::generator::accepted_of;
 use design::list::fill_tags;
-use design::random::{accepted_of, Random};
+use design::random::Random;
 use design::towers::{deep_beside, deep_calls, tower_beside, tower_of_arguments};
 
 const SIZES: [usize; 4] = [64, 128, 256, 512];

@@ -7,7 +7,8 @@ use design::asm::assemble;
 use design::check;
 use design::damage::damaged;
 use design::difference::{ensure, shown, told, Outcome};
-use design::random::{accepted, accepted_of, Random};
+use design::generator::{accepted, accepted_of};
+use design::random::Random;
 
 /// Tables per seed and seeds: 120000 tables in all.
 const TABLES: usize = 30000;

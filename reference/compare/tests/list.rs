@@ -7,8 +7,9 @@ use design::asm::assemble;
 use design::damage::damaged;
 use design::difference::{ensure, shown, told, Outcome};
 use design::features::features;
+use design::generator::{accepted, accepted_of, accepted_sharing};
 use design::list::{check_tags, records, tag_bytes, total};
-use design::random::{accepted, accepted_of, accepted_sharing, Random};
+use design::random::Random;
 use design::states::{damaged_tags, tags};
 use design::towers::{any_comb, any_deep, any_tower, deep_beside, deep_calls, tower_beside, tower_of_arguments};
 use design::{Kind, Node, Refusal, Tree};
@@ -52,10 +53,6 @@ fn code(answer: Result<(), Refusal>) -> u32 {
     answer.map_or_else(|refusal| refusal.code(), |()| 0)
 }
 
-fn noise(random: &mut Random, length: usize) -> Vec<u8> {
-    (0..length).map(|_| random.number() as u8).collect()
-}
-
 fn same(what: &str, found: u32, wanted: u32, bytes: &[u8], tags: &[u8]) -> Outcome {
     ensure(found == wanted, || {
         format!("{what}: found {}, wanted {}: table {}, tags {}", told(found), told(wanted), shown(bytes), shown(tags))
@@ -64,7 +61,7 @@ fn same(what: &str, found: u32, wanted: u32, bytes: &[u8], tags: &[u8]) -> Outco
 
 /// Lends a list of noise within a larger buffer; returns the answer and the list.
 fn fill(random: &mut Random, bytes: &[u8], length: usize) -> Result<(u32, Vec<u8>, Vec<u8>), String> {
-    let before = noise(random, length + 2 * GUARD);
+    let before = random.bytes(length + 2 * GUARD);
     let mut after = before.clone();
     let lent = GUARD..GUARD + length;
     let answer = list_fill_tags(bytes, &mut after[lent.clone()]);
@@ -123,7 +120,7 @@ fn agree(seen: &mut Seen, random: &mut Random, bytes: &[u8]) -> Outcome {
     agree_on_tags(seen, bytes, &tree, &in_order)?;
     let out_of_order = damaged_tags(random, &tree);
     agree_on_tags(seen, bytes, &tree, &out_of_order)?;
-    let any = noise(random, own.len());
+    let any = random.bytes(own.len());
     agree_on_tags(seen, bytes, &tree, &any)?;
     let length = random.pick(&[0, 1, 2 * own.len(), 64, 65, 200]);
     agree_on_tags(seen, bytes, &tree, &vec![0; length])?;
@@ -153,7 +150,7 @@ fn agree_on_any(seen: &mut Seen, random: &mut Random, bytes: &[u8]) -> Outcome {
             let nodes = usize::from(u16::from_le_bytes([bytes.get(2).copied().unwrap_or(8), 0]));
             for length in [nodes.div_ceil(8), random.below(70)] {
                 fill_refused(random, bytes, length, refusal.code())?;
-                let any = noise(random, length);
+                let any = random.bytes(length);
                 same("tags with a bad table", list_check_tags(bytes, &any), refusal.code(), bytes, &any)?;
             }
             Ok(())
@@ -281,7 +278,7 @@ fn totals() -> Outcome {
     let mut random = Random::new(215);
     for length in (0..=200).chain([1000, 5252, 65536]) {
         for _ in 0..10 {
-            let mut bytes = noise(&mut random, length);
+            let mut bytes = random.bytes(length);
             if random.once_in(4) {
                 bytes.fill(random.pick(&[0, 1, 0x80, 0xff]));
             }

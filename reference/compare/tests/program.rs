@@ -7,8 +7,9 @@ use std::process::{Command, Stdio};
 use design::asm::assemble;
 use design::damage::damaged;
 use design::difference::{ensure, shown, Outcome};
+use design::generator::{accepted, accepted_of, accepted_sharing};
 use design::list::program;
-use design::random::{accepted, accepted_of, accepted_sharing, Random};
+use design::random::Random;
 use design::towers::{any_comb, any_deep, any_tower, deep_beside, tower_beside};
 
 /// The longest table has 32 functions and 512 nodes.

@@ -3,8 +3,9 @@
 use compare::list_record;
 use design::damage::damaged;
 use design::difference::{ensure, shown, Outcome};
+use design::generator::{accepted, accepted_sharing};
 use design::list::records;
-use design::random::{accepted, accepted_sharing, Random};
+use design::random::Random;
 use design::Tree;
 
 const TABLES: usize = 51000;

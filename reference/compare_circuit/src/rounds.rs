@@ -2,8 +2,9 @@
 
 use design::circuit::{self, check_state, possible, step_with, Answer, Ending, State};
 use design::difference::{ensure, shown, Outcome};
+use design::generator::{accepted, accepted_of, accepted_sharing, accepted_sharing_of};
 use design::list::tags_of;
-use design::random::{accepted, accepted_of, accepted_sharing, accepted_sharing_of, Random};
+use design::random::Random;
 use design::states::{any_state, arguments, damage_state, tags};
 use design::{Node, Refusal, Tree};
 

@@ -6,7 +6,8 @@ use compare_circuit::{drive, query, run, start, step};
 use design::circuit::{self, Answer, State};
 use design::damage::damaged;
 use design::difference::{ensure, shown, Outcome};
-use design::random::{accepted, Random};
+use design::generator::accepted;
+use design::random::Random;
 use design::states::{any_state, arguments, damage_state, damaged_tags, tags};
 use design::{Refusal, Tree};
 
@@ -32,7 +33,10 @@ fn some_tags(random: &mut Random, bytes: &[u8]) -> Vec<u8> {
     match Tree::read(bytes) {
         Ok(tree) if random.once_in(3) => damaged_tags(random, &tree),
         Ok(tree) => tags(random, &tree),
-        Err(_) => (0..random.below(66)).map(|_| random.number() as u8).collect(),
+        Err(_) => {
+            let length = random.below(66);
+            random.bytes(length)
+        }
     }
 }
 

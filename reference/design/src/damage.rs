@@ -1,6 +1,7 @@
 //! Random tables that are mostly refused: accepted ones with something changed, and bytes from nowhere.
 
-use crate::random::{accepted, with_strays, Random};
+use crate::generator::{accepted, with_strays};
+use crate::random::Random;
 use crate::table::{Function, Node, Table};
 use crate::table::{BOUND, CALL, CONSTANT, IF, LET, PARAMETER, PRIMITIVE};
 
@@ -40,7 +41,7 @@ pub fn damaged(random: &mut Random) -> Vec<u8> {
 /// Bytes with no plan at all.
 fn noise(random: &mut Random) -> Vec<u8> {
     let count = random.below(40);
-    (0..count).map(|_| random.number() as u8).collect()
+    random.bytes(count)
 }
 
 /// The right length for its F and N, and small random numbers in all fields.

@@ -7,6 +7,7 @@ pub mod damage;
 pub mod difference;
 pub mod draft;
 pub mod features;
+pub mod generator;
 pub mod lexer;
 pub mod list;
 mod maker;

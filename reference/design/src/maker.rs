@@ -1,7 +1,7 @@
 //! Random function bodies, node by node.
 
 use crate::draft::Draft;
-use crate::random::{split, Random};
+use crate::random::Random;
 use crate::table::{BOUND, CALL, CONSTANT, IF, LET, OPERATIONS, PARAMETER, PRIMITIVE};
 
 /// Which of the fitting functions are called.
@@ -129,7 +129,7 @@ impl<'a> Maker<'a> {
     }
 
     fn split(&mut self, total: usize, parts: usize) -> Vec<usize> {
-        split(self.random, total, parts, self.taste.deep)
+        self.random.split(total, parts, self.taste.deep)
     }
 
     fn primitive(&mut self, size: usize) -> usize {

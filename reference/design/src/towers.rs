@@ -1,7 +1,8 @@
 //! Designs at the ends of what a table can hold: towers of functions, each calling the one below it, and deep chains.
 
 use crate::draft::{Draft, Head};
-use crate::random::{numbered, split, Random};
+use crate::generator::numbered;
+use crate::random::Random;
 use crate::table::{CALL, CONSTANT, IF, LET, PARAMETER, PRIMITIVE};
 
 const LEVELS: usize = 32;
@@ -123,7 +124,7 @@ impl Level<'_> {
 
     /// Parts that together have this many calls; some may have none.
     fn parts(&mut self, calls: usize, count: usize) -> Vec<usize> {
-        let sizes = split(self.random, calls + count, count, false);
+        let sizes = self.random.split(calls + count, count, false);
         sizes.into_iter().map(|size| self.part(size - 1)).collect()
     }
 
@@ -156,7 +157,7 @@ impl Level<'_> {
     }
 
     fn each_some(&mut self, node: usize, calls: usize, count: usize) -> usize {
-        let sizes = split(self.random, calls, count, false);
+        let sizes = self.random.split(calls, count, false);
         let children = sizes.into_iter().map(|size| self.part(size)).collect();
         self.draft.items[node].children = children;
         node

@@ -1,8 +1,9 @@
 //! The circuit against the plain reading, over random designs and random schedules.
 
 use design::circuit::{check_state, query, run_budget, run_list, start, step, step_with, Answer, Ending, State};
+use design::generator::accepted;
 use design::list::tags_of;
-use design::random::{accepted, Random};
+use design::random::Random;
 use design::reading::read;
 use design::states::{any_state, arguments, damage_state, tags};
 use design::{Node, Refusal, Tree};

@@ -1,8 +1,9 @@
 //! The arbiter list in its forms, and the wrong turns that tempt.
 
 use design::asm::assemble;
+use design::generator::accepted;
 use design::list::{check_tags, fill_records, fill_tags, program, records, tags_of, total, Record};
-use design::random::{accepted, Random};
+use design::random::Random;
 use design::states::damaged_tags;
 use design::{Function, Node, Refusal, Tree};
 

@@ -4,7 +4,8 @@ use std::collections::BTreeMap;
 
 use design::asm::{assemble, disassemble};
 use design::damage::damaged;
-use design::random::{accepted, accepted_of, Random};
+use design::generator::{accepted, accepted_of};
+use design::random::Random;
 use design::{check, Table};
 
 #[test]

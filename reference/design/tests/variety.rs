@@ -3,7 +3,8 @@
 use std::collections::BTreeMap;
 
 use design::features::features;
-use design::random::{accepted, Random};
+use design::generator::accepted;
+use design::random::Random;
 use design::Tree;
 
 #[test]
