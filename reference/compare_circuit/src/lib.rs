@@ -35,7 +35,7 @@ fn strange<T>(what: &str, answer: u64) -> Told<T> {
 fn refusal(what: &str, answer: u64) -> Told<Refusal> {
     match answer as u32 {
         0..=0xffff => strange(what, answer),
-        code => Ok(Refusal { number: (code >> 16) as u16, place: code as u16 }),
+        code => Ok(Refusal { number: (code >> 16) as u16, place: Node(code as u16) }),
     }
 }
 

@@ -9,7 +9,7 @@ use design::difference::{ensure, shown, Outcome};
 use design::generator::accepted;
 use design::random::Random;
 use design::states::{any_state, arguments, damage_state, damaged_tags, tags};
-use design::{Refusal, Tree};
+use design::{Node, Refusal, Tree};
 
 const STARTS: usize = 8_000;
 
@@ -59,12 +59,12 @@ fn note_refusal(seen: &mut Seen, refusal: Refusal, bytes: &[u8], tags: &[u8]) {
     let right_length = Tree::read(bytes).is_ok_and(|tree| tags.len() == tree.node_count().div_ceil(8));
     seen.refused(refusal.number);
     match (refusal.number, refusal.place) {
-        (4, 0) => seen.note("4 at a root out of range"),
+        (4, Node(0)) => seen.note("4 at a root out of range"),
         (4, _) => seen.note("4 at a node"),
-        (5, 0) => seen.note("5 at a function record"),
+        (5, Node(0)) => seen.note("5 at a function record"),
         (5, _) => seen.note("5 at a node"),
-        (10, 0) if right_length => seen.note("10 for a tag past N"),
-        (10, 0) => seen.note("10 for the length"),
+        (10, Node(0)) if right_length => seen.note("10 for a tag past N"),
+        (10, Node(0)) => seen.note("10 for the length"),
         (10, _) => seen.note("10 at a node"),
         _ => {}
     }

@@ -9,6 +9,7 @@ use design::random::Random;
 use design::reading::{read, Reading};
 use design::states::{any_state, arguments, damage_state};
 use design::towers::{any_comb, any_deep, any_tower};
+use design::Node;
 
 /// Schedules from a start, and rounds from any state.
 const SCHEDULES: usize = 20_000;
@@ -164,7 +165,7 @@ fn two_calls_beside_each_other() -> Outcome {
             ensure(answer == Answer::Taken, || format!("{answer:?} at {node}"))?;
         }
         let answer = round.step(5)?;
-        let fits = matches!(answer, Answer::Refused(refusal) if (refusal.number, refusal.place) == (number, 5));
+        let fits = matches!(answer, Answer::Refused(refusal) if (refusal.number, refusal.place) == (number, Node(5)));
         ensure(fits, || format!("{answer:?} with tags {tags:#b}"))?;
     }
     Ok(())

@@ -10,15 +10,15 @@ use crate::table::{MOST_FUNCTIONS, MOST_NODES, MOST_PARAMETERS, OPERATIONS};
 pub fn check(bytes: &[u8]) -> Result<(), Refusal> {
     let table = Table::new(bytes);
     if bytes.len() < 4 {
-        return Err(Refusal { number: 1, place: 0 });
+        return Err(Refusal { number: 1, place: Node(0) });
     }
     let functions_fit = (1..=MOST_FUNCTIONS).contains(&table.function_count());
     let nodes_fit = (1..=MOST_NODES).contains(&table.node_count());
     if !functions_fit || !nodes_fit {
-        return Err(Refusal { number: 2, place: 0 });
+        return Err(Refusal { number: 2, place: Node(0) });
     }
     if bytes.len() != table.wanted_length() {
-        return Err(Refusal { number: 3, place: 0 });
+        return Err(Refusal { number: 3, place: Node(0) });
     }
     refuse(4, links(&table))?;
     refuse(5, fields(&table))?;
@@ -32,21 +32,21 @@ pub fn check(bytes: &[u8]) -> Result<(), Refusal> {
     refuse(9, lowest(&table, |node| is_self_call(&table, &owners, node) && !tails.contains(&node)))
 }
 
-fn refuse(number: u16, place: Option<u16>) -> Result<(), Refusal> {
+fn refuse(number: u16, place: Option<Node>) -> Result<(), Refusal> {
     match place {
         Some(place) => Err(Refusal { number, place }),
         None => Ok(()),
     }
 }
 
-fn lowest(table: &Table, fault: impl Fn(Node) -> bool) -> Option<u16> {
-    table.nodes().find(|node| fault(*node)).map(|node| node.0)
+fn lowest(table: &Table, fault: impl Fn(Node) -> bool) -> Option<Node> {
+    table.nodes().find(|node| fault(*node))
 }
 
 /// Refusal 4: roots, firsts and nexts.
-fn links(table: &Table) -> Option<u16> {
+fn links(table: &Table) -> Option<Node> {
     if table.functions().any(|function| !table.has_node(table.root(function).0)) {
-        return Some(0);
+        return Some(Node(0));
     }
     let roots: BTreeSet<Node> = table.functions().map(|function| table.root(function)).collect();
     // Every mention counts, also one that is itself a fault.
@@ -67,10 +67,10 @@ fn links(table: &Table) -> Option<u16> {
 }
 
 /// Refusal 5: counts, kinds, operations and fields that have to be zero.
-fn fields(table: &Table) -> Option<u16> {
+fn fields(table: &Table) -> Option<Node> {
     let bad_record = |function| table.parameter_count(function) > MOST_PARAMETERS || table.second_byte(function) != 0;
     if table.functions().any(bad_record) {
-        return Some(0);
+        return Some(Node(0));
     }
     lowest(table, |node| {
         let no_extra = table.extra(node) == 0;

@@ -88,7 +88,7 @@ pub fn start(bytes: &[u8], tags: &[u8], arguments: &[u32], state: &mut State) ->
     let tree = Tree::read(bytes)?;
     check_tags(&tree, tags)?;
     if arguments.len() != tree.parameters(tree.main()) {
-        return Err(Refusal { number: 11, place: 0 });
+        return Err(Refusal { number: 11, place: Node(0) });
     }
     *state = State::zero();
     state.function_mut(tree.main()).registers[..arguments.len()].copy_from_slice(arguments);
@@ -111,12 +111,12 @@ pub fn step(bytes: &[u8], tags: &[u8], state: &mut State, node: u16) -> Answer {
 /// The step of a table and tags that are known to be in order.
 pub fn step_with(tree: &Tree, tags: &[u8], state: &mut State, node: u16) -> Answer {
     if node < 1 || usize::from(node) > tree.node_count() {
-        return Answer::Refused(Refusal { number: 12, place: 0 });
+        return Answer::Refused(Refusal { number: 12, place: Node(0) });
     }
     if let Err(refusal) = check_state(tree, state) {
         return Answer::Refused(refusal);
     }
-    let refused = |number| Answer::Refused(Refusal { number, place: node });
+    let refused = |number| Answer::Refused(Refusal { number, place: Node(node) });
     let main_root = tree.root(tree.main());
     if state.done(main_root) {
         return refused(20);
@@ -138,7 +138,7 @@ pub fn check_state(tree: &Tree, state: &State) -> Result<(), Refusal> {
     let bad_status = |node: Node| state.node(node).status > DONE;
     let bad_occupant = |function: Function| usize::from(state.function(function).occupant.0) > tree.node_count();
     if tree.nodes().any(bad_status) || tree.functions().any(bad_occupant) {
-        return Err(Refusal { number: 24, place: 0 });
+        return Err(Refusal { number: 24, place: Node(0) });
     }
     Ok(())
 }

@@ -12,13 +12,13 @@ pub struct Function(pub u16);
 #[derive(Clone, Copy, PartialEq, Eq, PartialOrd, Ord, Hash, Debug)]
 pub struct Refusal {
     pub number: u16,
-    pub place: u16,
+    pub place: Node,
 }
 
 impl Refusal {
     /// Both halves in one number, as the other implementations return it.
     pub fn code(self) -> u32 {
-        u32::from(self.number) * 65536 + u32::from(self.place)
+        u32::from(self.number) * 65536 + u32::from(self.place.0)
     }
 }
 

@@ -124,7 +124,7 @@ fn any_state_is_settled() {
                 assert_eq!(ending == (0, Ending::Spent), possible);
                 assert_eq!(matches!(ending, (0, Ending::Answered(_))), main_done);
             }
-            Err(refusal) => assert_eq!(refusal, Refusal { number: 24, place: 0 }),
+            Err(refusal) => assert_eq!(refusal, Refusal { number: 24, place: Node(0) }),
         }
     }
     for number in [12, 20, 21, 22, 23, 24] {
@@ -135,7 +135,7 @@ fn any_state_is_settled() {
 #[test]
 fn order_of_the_refusals() {
     let bytes = design::asm::assemble("fun f(x) = x  fun main(x) = f(x)").expect("a text in order");
-    let refused = |number, place| Refusal { number, place };
+    let refused = |number, place| Refusal { number, place: Node(place) };
     let mut state = State::zero();
     assert_eq!(start(&bytes[..9], &[1, 1], &[], &mut state), Err(refused(3, 0)));
     assert_eq!(start(&bytes, &[1, 1], &[], &mut state), Err(refused(10, 0)));

@@ -22,7 +22,7 @@ fn list(bytes: &[u8]) -> Vec<u16> {
 }
 
 fn refused(number: u16, place: u16) -> Result<(), Refusal> {
-    Err(Refusal { number, place })
+    Err(Refusal { number, place: Node(place) })
 }
 
 /// Reading and circuit come to the same value, in this many steps.
@@ -65,7 +65,7 @@ fn beside_with_other_tags() {
     for (tags, number) in [([0b10100], 22), ([0b10000], 22), ([0], 23), ([0b100], 23)] {
         let mut state = State::zero();
         start(&bytes, &tags, &[4], &mut state).expect("a start");
-        let refusal = Refusal { number, place: 5 };
+        let refusal = Refusal { number, place: Node(5) };
         assert_eq!(run_list(&bytes, &tags, &mut state, &[2, 3, 5, 4, 6, 3, 5]), (6, Some(refusal)));
         let before = state.clone();
         assert_eq!(step(&bytes, &tags, &mut state, 5), Answer::Refused(refusal));
@@ -75,7 +75,7 @@ fn beside_with_other_tags() {
         assert_eq!(run_list(&bytes, &tags, &mut state, &[1, 3, 5, 1, 5]), (5, None));
         assert_eq!(step(&bytes, &tags, &mut state, 2), Answer::Answered(4));
         assert_eq!(run_list(&bytes, &tags, &mut state, &[]), (0, None));
-        let past = Refusal { number: 20, place: 1 };
+        let past = Refusal { number: 20, place: Node(1) };
         assert_eq!(run_list(&bytes, &tags, &mut state, &[1]), (0, Some(past)));
     }
 }

@@ -6,13 +6,13 @@ use std::path::PathBuf;
 
 use design::asm::assemble;
 use design::list::program;
-use design::{check, Refusal, Table};
+use design::{check, Node, Refusal, Table};
 
 fn examples() -> PathBuf {
     PathBuf::from(env!("CARGO_MANIFEST_DIR")).join("../../examples")
 }
 
-const OUT_OF_TAIL: Result<(), Refusal> = Err(Refusal { number: 9, place: 2 });
+const OUT_OF_TAIL: Result<(), Refusal> = Err(Refusal { number: 9, place: Node(2) });
 
 const EXPECTED: [(&str, Result<(), Refusal>, &str); 9] = [
     ("twice", Ok(()), "design 2 4\ntotal 0\n"),

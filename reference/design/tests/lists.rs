@@ -53,9 +53,9 @@ fn records_come_by_callee_and_then_by_node() {
     assert_eq!(fill_records(&bytes, &mut lent), Ok(4));
     assert_eq!((&lent[..4], lent[4]), (&wanted[..], kept));
     let mut lent = [kept; 3];
-    assert_eq!(fill_records(&bytes, &mut lent), Err(Refusal { number: 10, place: 0 }));
+    assert_eq!(fill_records(&bytes, &mut lent), Err(Refusal { number: 10, place: Node(0) }));
     assert_eq!(lent, [kept; 3]);
-    assert_eq!(fill_records(&bytes[..3], &mut lent), Err(Refusal { number: 1, place: 0 }));
+    assert_eq!(fill_records(&bytes[..3], &mut lent), Err(Refusal { number: 1, place: Node(0) }));
 }
 
 #[test]
@@ -66,7 +66,7 @@ fn lent_tags() {
     assert_eq!(lent, [0b1100]);
     for length in [0, 2] {
         let mut lent = vec![0xff; length];
-        assert_eq!(fill_tags(&bytes, &mut lent), Err(Refusal { number: 10, place: 0 }));
+        assert_eq!(fill_tags(&bytes, &mut lent), Err(Refusal { number: 10, place: Node(0) }));
         assert_eq!(lent, vec![0xff; length]);
     }
 }
@@ -75,7 +75,7 @@ fn lent_tags() {
 fn tags_handed_in() {
     let tree = Tree::read(&table("fun f() = 1  fun main() = if f() then main() else f()")).expect("accepted");
     // 1; 2 if, 3 call, 4 self call, 5 call.
-    let refused = |place| Err(Refusal { number: 10, place });
+    let refused = |place| Err(Refusal { number: 10, place: Node(place) });
     for (tags, answer) in [
         (&[0b10100][..], Ok(())),
         (&[0][..], Ok(())),

@@ -34,7 +34,7 @@ fn takes(bytes: &[u8], before: &State, asked: u16, wanted: &State) {
 fn refuses(bytes: &[u8], before: &State, asked: u16, number: u16) {
     let tags = no_tags(bytes);
     let mut after = before.clone();
-    assert_eq!(step(bytes, &tags, &mut after, asked), Answer::Refused(Refusal { number, place: asked }));
+    assert_eq!(step(bytes, &tags, &mut after, asked), Answer::Refused(Refusal { number, place: Node(asked) }));
     assert!(after == *before);
 }
 

@@ -1,7 +1,7 @@
 //! Refusals 4 to 9 one by one, with the place each of them names.
 
 use design::asm::assemble;
-use design::{check, Refusal};
+use design::{check, Node, Refusal};
 
 /// Fields of a node record by their offset.
 const KIND: usize = 0;
@@ -29,7 +29,7 @@ impl Bytes {
     }
 
     fn refused(self, number: u16, place: u16) {
-        assert_eq!(check(&self.0), Err(Refusal { number, place }));
+        assert_eq!(check(&self.0), Err(Refusal { number, place: Node(place) }));
     }
 
     fn accepted(self) {

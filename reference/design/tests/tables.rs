@@ -6,7 +6,7 @@ use design::asm::{assemble, disassemble};
 use design::damage::damaged;
 use design::generator::{accepted, accepted_of};
 use design::random::Random;
-use design::{check, Table};
+use design::{check, Node, Table};
 
 #[test]
 fn accepted_tables_are_accepted() {
@@ -40,7 +40,7 @@ fn each_refusal_occurs_often() {
     let mut seen: BTreeMap<(u16, bool), usize> = BTreeMap::new();
     for _ in 0..10000 {
         if let Err(refusal) = check(&damaged(&mut random)) {
-            *seen.entry((refusal.number, refusal.place != 0)).or_insert(0) += 1;
+            *seen.entry((refusal.number, refusal.place != Node(0))).or_insert(0) += 1;
         }
     }
     println!("{seen:?}");
