@@ -5,17 +5,16 @@ use std::fmt::Debug;
 use design::circuit::State;
 use design::difference::{ensure, Outcome};
 use design::Node;
+use numbers::{MOST_FUNCTIONS, MOST_NODES, MOST_PARAMETERS};
 
-pub const NODES: usize = 512;
-pub const FUNCTIONS: usize = 32;
-pub const REGISTERS: usize = 8 * FUNCTIONS;
+pub const REGISTERS: usize = MOST_PARAMETERS * MOST_FUNCTIONS;
 
 /// Entries before and after each array that nobody may touch.
 const GUARD: usize = 16;
 
-const NODES_GUARDED: usize = GUARD + NODES + GUARD;
+const NODES_GUARDED: usize = GUARD + MOST_NODES + GUARD;
 const REGISTERS_GUARDED: usize = GUARD + REGISTERS + GUARD;
-const FUNCTIONS_GUARDED: usize = GUARD + FUNCTIONS + GUARD;
+const FUNCTIONS_GUARDED: usize = GUARD + MOST_FUNCTIONS + GUARD;
 
 /// An array with its guards around it.
 #[derive(Clone, PartialEq, Eq)]
@@ -68,11 +67,11 @@ pub struct Lent {
 
 /// The five arrays as the C functions take them.
 pub(crate) struct Arrays {
-    pub status: *mut [u8; NODES],
-    pub second: *mut [bool; NODES],
-    pub value: *mut [u32; NODES],
+    pub status: *mut [u8; MOST_NODES],
+    pub second: *mut [bool; MOST_NODES],
+    pub value: *mut [u32; MOST_NODES],
     pub registers: *mut [u32; REGISTERS],
-    pub occupant: *mut [u16; FUNCTIONS],
+    pub occupant: *mut [u16; MOST_FUNCTIONS],
 }
 
 impl Lent {

@@ -1,6 +1,8 @@
 //! The C functions of the proved circuit. Lengths are in elements.
 
-use crate::lent::{FUNCTIONS, NODES, REGISTERS};
+use numbers::{MOST_FUNCTIONS, MOST_NODES};
+
+use crate::lent::REGISTERS;
 
 extern "C" {
     pub fn circuit_start(
@@ -8,11 +10,11 @@ extern "C" {
         table_len: usize,
         tags: *const u8,
         tags_len: usize,
-        status: *mut [u8; NODES],
-        second: *mut [bool; NODES],
-        value: *mut [u32; NODES],
+        status: *mut [u8; MOST_NODES],
+        second: *mut [bool; MOST_NODES],
+        value: *mut [u32; MOST_NODES],
         registers: *mut [u32; REGISTERS],
-        occupant: *mut [u16; FUNCTIONS],
+        occupant: *mut [u16; MOST_FUNCTIONS],
         arguments: *const u32,
         arguments_len: usize,
     ) -> u64;
@@ -22,11 +24,11 @@ extern "C" {
         table_len: usize,
         tags: *const u8,
         tags_len: usize,
-        status: *mut [u8; NODES],
-        second: *mut [bool; NODES],
-        value: *mut [u32; NODES],
+        status: *mut [u8; MOST_NODES],
+        second: *mut [bool; MOST_NODES],
+        value: *mut [u32; MOST_NODES],
         registers: *mut [u32; REGISTERS],
-        occupant: *mut [u16; FUNCTIONS],
+        occupant: *mut [u16; MOST_FUNCTIONS],
         node: u16,
     ) -> u64;
 
@@ -35,11 +37,11 @@ extern "C" {
         table_len: usize,
         tags: *const u8,
         tags_len: usize,
-        status: *mut [u8; NODES],
-        second: *mut [bool; NODES],
-        value: *mut [u32; NODES],
+        status: *mut [u8; MOST_NODES],
+        second: *mut [bool; MOST_NODES],
+        value: *mut [u32; MOST_NODES],
         registers: *mut [u32; REGISTERS],
-        occupant: *mut [u16; FUNCTIONS],
+        occupant: *mut [u16; MOST_FUNCTIONS],
         nodes: *const u16,
         nodes_len: usize,
         count: *mut usize,
@@ -50,11 +52,11 @@ extern "C" {
         table_len: usize,
         tags: *const u8,
         tags_len: usize,
-        status: *mut [u8; NODES],
-        second: *mut [bool; NODES],
-        value: *mut [u32; NODES],
+        status: *mut [u8; MOST_NODES],
+        second: *mut [bool; MOST_NODES],
+        value: *mut [u32; MOST_NODES],
         registers: *mut [u32; REGISTERS],
-        occupant: *mut [u16; FUNCTIONS],
+        occupant: *mut [u16; MOST_FUNCTIONS],
         budget: u32,
         count: *mut u32,
     ) -> u64;
@@ -64,10 +66,10 @@ extern "C" {
         table_len: usize,
         tags: *const u8,
         tags_len: usize,
-        status: *const [u8; NODES],
-        second: *const [bool; NODES],
-        value: *const [u32; NODES],
+        status: *const [u8; MOST_NODES],
+        second: *const [bool; MOST_NODES],
+        value: *const [u32; MOST_NODES],
         registers: *const [u32; REGISTERS],
-        occupant: *const [u16; FUNCTIONS],
+        occupant: *const [u16; MOST_FUNCTIONS],
     ) -> u64;
 }

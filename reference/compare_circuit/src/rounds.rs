@@ -157,7 +157,7 @@ impl Round {
             12..=14 => {
                 let waiting = |node: &Node| {
                     let entry = self.own.node(*node);
-                    self.tree.other_callee(*node).is_some() && entry.status == circuit::BUSY && !entry.second
+                    self.tree.other_callee(*node).is_some() && entry.status == numbers::BUSY && !entry.second
                 };
                 let nodes: Vec<Node> = self.tree.nodes().filter(waiting).collect();
                 nodes.first().map_or(1, |_| random.pick(&nodes).0)
@@ -237,8 +237,8 @@ impl Round {
         let root = after.node(self.tree.root(self.tree.main()));
         let steps_left = possible(&self.tree, &self.tags, &after).next().is_some();
         let fits = match ending {
-            Ending::Answered(value) => root.status == circuit::DONE && root.value == value && taken <= budget,
-            Ending::AtRest => root.status != circuit::DONE && !steps_left && taken <= budget,
+            Ending::Answered(value) => root.status == numbers::DONE && root.value == value && taken <= budget,
+            Ending::AtRest => root.status != numbers::DONE && !steps_left && taken <= budget,
             Ending::Spent => steps_left && taken == budget,
         };
         ensure(fits, || wrong("that isn't so"))?;

@@ -114,7 +114,7 @@ fn runs_to_the_answer() -> Outcome {
         let told = round.run(&nodes)?;
         let root = *round.own.node(tree.root(tree.main()));
         let fits =
-            told == (reading.count as usize, None) && (root.status, root.value) == (circuit::DONE, reading.value);
+            told == (reading.count as usize, None) && (root.status, root.value) == (numbers::DONE, reading.value);
         let wrong = || format!("{told:?}, root {root:?}, wanted {reading:?}, arguments {arguments:?}");
         ensure(fits, || round.told(wrong()))?;
         let past = round.run(&[random.within(1, tree.node_count()) as u16])?;

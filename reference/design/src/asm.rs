@@ -9,11 +9,12 @@
 //!
 //! Primitives are called by name. Functions are numbered in order and each body in preorder.
 
+use numbers::{BOUND, CALL, CONSTANT, IF, LET, PARAMETER, PRIMITIVE};
+use numbers::{MOST_FUNCTIONS, MOST_NODES, MOST_PARAMETERS};
+
 use crate::draft::{Draft, Head};
 use crate::lexer::{tokens, TextError, Token};
-use crate::table::{Function, Node, Refusal};
-use crate::table::{BOUND, CALL, CONSTANT, IF, LET, PARAMETER, PRIMITIVE};
-use crate::table::{MOST_FUNCTIONS, MOST_NODES, MOST_PARAMETERS, OPERATIONS};
+use crate::table::{Function, Node, Refusal, OPERATIONS};
 use crate::tree::{Kind, Tree};
 
 /// Above what 512 nodes need; keeps a text of brackets alone from using up the stack.
@@ -97,7 +98,7 @@ impl Reader {
         if operation(&name).is_some() || self.functions.iter().any(|(other, _)| *other == name) {
             return self.error(line, format!("expected a new function name, found `{name}` again"));
         }
-        if self.functions.len() == usize::from(MOST_FUNCTIONS) {
+        if self.functions.len() == MOST_FUNCTIONS {
             return self.error(line, format!("expected at most {MOST_FUNCTIONS} functions, found another"));
         }
         self.parameters = self.parameter_names()?;
@@ -123,7 +124,7 @@ impl Reader {
             if names.contains(&name) {
                 return self.error(line, format!("expected a new parameter name, found `{name}` again"));
             }
-            if names.len() == usize::from(MOST_PARAMETERS) {
+            if names.len() == MOST_PARAMETERS {
                 return self.error(line, format!("expected at most {MOST_PARAMETERS} parameters, found `{name}` too"));
             }
             names.push(name);
@@ -180,7 +181,7 @@ impl Reader {
     }
 
     fn node(&mut self, kind: u8, extra: u8, word: u32) -> Result<usize, TextError> {
-        if self.draft.items.len() == usize::from(MOST_NODES) {
+        if self.draft.items.len() == MOST_NODES {
             return self.error(self.line(), format!("expected at most {MOST_NODES} nodes, found another"));
         }
         Ok(self.draft.add(kind, extra, word))

@@ -2,9 +2,10 @@
 
 use std::collections::{BTreeMap, BTreeSet};
 
-use crate::table::{Function, Node, Refusal, Table};
-use crate::table::{BOUND, CALL, CONSTANT, IF, LET, PARAMETER, PRIMITIVE};
-use crate::table::{MOST_FUNCTIONS, MOST_NODES, MOST_PARAMETERS, OPERATIONS};
+use numbers::{BOUND, CALL, CONSTANT, IF, LET, PARAMETER, PRIMITIVE};
+use numbers::{MOST_FUNCTIONS, MOST_NODES, MOST_PARAMETERS};
+
+use crate::table::{Function, Node, Refusal, Table, OPERATIONS};
 
 /// Accepts a table or tells the first refusal that applies.
 pub fn check(bytes: &[u8]) -> Result<(), Refusal> {
@@ -12,8 +13,8 @@ pub fn check(bytes: &[u8]) -> Result<(), Refusal> {
     if bytes.len() < 4 {
         return Err(Refusal { number: 1, place: Node(0) });
     }
-    let functions_fit = (1..=MOST_FUNCTIONS).contains(&table.function_count());
-    let nodes_fit = (1..=MOST_NODES).contains(&table.node_count());
+    let functions_fit = (1..=MOST_FUNCTIONS).contains(&usize::from(table.function_count()));
+    let nodes_fit = (1..=MOST_NODES).contains(&usize::from(table.node_count()));
     if !functions_fit || !nodes_fit {
         return Err(Refusal { number: 2, place: Node(0) });
     }
@@ -68,7 +69,8 @@ fn links(table: &Table) -> Option<Node> {
 
 /// Refusal 5: counts, kinds, operations and fields that have to be zero.
 fn fields(table: &Table) -> Option<Node> {
-    let bad_record = |function| table.parameter_count(function) > MOST_PARAMETERS || table.second_byte(function) != 0;
+    let bad_record =
+        |function| usize::from(table.parameter_count(function)) > MOST_PARAMETERS || table.second_byte(function) != 0;
     if table.functions().any(bad_record) {
         return Some(Node(0));
     }

@@ -1,14 +1,10 @@
 //! The circuit: its state, its steps, the query and the two runs.
 
+use numbers::{BUSY, DONE, MOST_FUNCTIONS, MOST_NODES, MOST_PARAMETERS, OPEN};
+
 use crate::list::{check_tags, is_tagged};
 use crate::table::{compute, Function, Node, Refusal};
-use crate::table::{MOST_FUNCTIONS, MOST_NODES, MOST_PARAMETERS};
 use crate::tree::{Kind, Tree};
-
-pub const IDLE: u8 = 0;
-pub const OPEN: u8 = 1;
-pub const BUSY: u8 = 2;
-pub const DONE: u8 = 3;
 
 #[derive(Clone, Copy, PartialEq, Eq, Debug, Default)]
 pub struct NodeState {
@@ -19,24 +15,21 @@ pub struct NodeState {
 
 #[derive(Clone, Copy, PartialEq, Eq, Debug, Default)]
 pub struct FunctionState {
-    pub registers: [u32; MOST_PARAMETERS as usize],
+    pub registers: [u32; MOST_PARAMETERS],
     pub occupant: Node,
 }
 
 /// Entries past F and N are there too; steps keep them.
 #[derive(Clone, PartialEq, Eq, Debug)]
 pub struct State {
-    pub nodes: [NodeState; MOST_NODES as usize],
-    pub functions: [FunctionState; MOST_FUNCTIONS as usize],
+    pub nodes: [NodeState; MOST_NODES],
+    pub functions: [FunctionState; MOST_FUNCTIONS],
 }
 
 impl State {
     /// All zero.
     pub fn zero() -> State {
-        State {
-            nodes: [NodeState::default(); MOST_NODES as usize],
-            functions: [FunctionState::default(); MOST_FUNCTIONS as usize],
-        }
+        State { nodes: [NodeState::default(); MOST_NODES], functions: [FunctionState::default(); MOST_FUNCTIONS] }
     }
 
     pub fn node(&self, node: Node) -> &NodeState {

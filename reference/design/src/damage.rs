@@ -1,9 +1,10 @@
 //! Random tables that are mostly refused: accepted ones with something changed, and bytes from nowhere.
 
+use numbers::{BOUND, CALL, CONSTANT, IF, LET, PARAMETER, PRIMITIVE};
+
 use crate::generator::{accepted, with_strays};
 use crate::random::Random;
 use crate::table::{Function, Node, Table};
-use crate::table::{BOUND, CALL, CONSTANT, IF, LET, PARAMETER, PRIMITIVE};
 
 /// Offsets of the fields in a node record, as the table layout has them.
 const KIND: usize = 0;

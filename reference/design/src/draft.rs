@@ -1,6 +1,6 @@
 //! A design before it has numbers: what the assembler and the generator build, and how it becomes bytes.
 
-use crate::table::BOUND;
+use numbers::BOUND;
 
 /// A node by its index in the draft; a bound holds the index of its definiens in `word`.
 #[derive(Clone, Debug)]

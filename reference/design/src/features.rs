@@ -1,5 +1,7 @@
 //! What the rules speak of and a design may have or not, so that tests can count how often it occurs.
 
+use numbers::BESIDE;
+
 use crate::list::arbiter_list;
 use crate::table::Node;
 use crate::tree::{Kind, Tree};
@@ -43,7 +45,7 @@ pub fn features(tree: &Tree) -> Vec<String> {
     let other_call = |node: Node| tree.other_callee(node).is_some();
     let is_let = |node: Node| tree.kind(node) == Kind::Let;
     let any = |wanted: &dyn Fn(Node) -> bool| tree.nodes().any(wanted);
-    for operation in 0..=10 {
+    for operation in 0..=BESIDE {
         note(&format!("operation {operation}"), any(&|node| tree.kind(node) == Kind::Primitive(operation)));
     }
     note("call without argument", any(&|node| other_call(node) && tree.children(node).is_empty()));
@@ -52,8 +54,8 @@ pub fn features(tree: &Tree) -> Vec<String> {
     note("call in an argument of a self call", any(&|node| self_call(node) && holds(tree, node, &other_call)));
     note("let in a let", any(&|node| is_let(node) && holds(tree, node, &is_let)));
     note("let of nine", any(&|node| is_let(node) && tree.children(node).len() == 9));
-    note("beside of eight", any(&|node| tree.kind(node) == Kind::Primitive(10) && tree.children(node).len() == 8));
-    note("beside of one", any(&|node| tree.kind(node) == Kind::Primitive(10) && tree.children(node).len() == 1));
+    note("beside of eight", any(&|node| tree.kind(node) == Kind::Primitive(BESIDE) && tree.children(node).len() == 8));
+    note("beside of one", any(&|node| tree.kind(node) == Kind::Primitive(BESIDE) && tree.children(node).len() == 1));
     note("bound", any(&|node| matches!(tree.kind(node), Kind::Bound(_))));
     note("if", any(&|node| tree.kind(node) == Kind::If));
     let nobody = tree

@@ -1,9 +1,10 @@
 //! Random accepted tables from fixed seeds.
 
+use numbers::{MOST_FUNCTIONS, MOST_NODES};
+
 use crate::draft::{Draft, Head};
 use crate::maker::{Callees, Maker, Stray, Taste};
 use crate::random::Random;
-use crate::table::{MOST_FUNCTIONS, MOST_NODES};
 
 /// An accepted table of any size; small ones are frequent.
 pub fn accepted(random: &mut Random) -> Vec<u8> {
@@ -43,8 +44,8 @@ fn size(random: &mut Random) -> usize {
     match random.below(20) {
         0..=11 => random.within(1, 40),
         12..=17 => random.within(20, 160),
-        18 => random.within(100, usize::from(MOST_NODES)),
-        _ => random.within(usize::from(MOST_NODES) - 3, usize::from(MOST_NODES)),
+        18 => random.within(100, MOST_NODES),
+        _ => random.within(MOST_NODES - 3, MOST_NODES),
     }
 }
 
@@ -61,7 +62,7 @@ fn taste(random: &mut Random) -> Taste {
 }
 
 fn table(random: &mut Random, nodes: usize, taste: Taste) -> Vec<u8> {
-    let most = nodes.min(usize::from(MOST_FUNCTIONS));
+    let most = nodes.min(MOST_FUNCTIONS);
     let functions = match random.below(8) {
         0 => most,
         1 => random.within(1, most),

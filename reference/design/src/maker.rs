@@ -1,8 +1,10 @@
 //! Random function bodies, node by node.
 
+use numbers::{BESIDE, BOUND, CALL, CONSTANT, HALVE, IF, LET, PARAMETER, PRIMITIVE};
+
 use crate::draft::Draft;
 use crate::random::Random;
-use crate::table::{BOUND, CALL, CONSTANT, IF, LET, OPERATIONS, PARAMETER, PRIMITIVE};
+use crate::table::OPERATIONS;
 
 /// Which of the fitting functions are called.
 #[derive(Clone, Copy)]
@@ -134,8 +136,7 @@ impl<'a> Maker<'a> {
 
     fn primitive(&mut self, size: usize) -> usize {
         let fitting: Vec<usize> = (0..OPERATIONS.len()).filter(|number| OPERATIONS[*number].1 < size).collect();
-        let beside = OPERATIONS.len() - 1;
-        let operation = if self.random.once_in(3) { beside } else { self.random.pick(&fitting) };
+        let operation = if self.random.once_in(3) { BESIDE.into() } else { self.random.pick(&fitting) };
         let (_, fewest, most) = OPERATIONS[operation];
         let mut count = self.random.within(fewest, most.min(size - 1));
         if self.strays(Stray::Counts) {
@@ -216,7 +217,7 @@ impl<'a> Maker<'a> {
         let again = self.draft.add(CALL, 0, self.function as u32);
         // The if, its condition, the self call, halve and its parameter take five nodes.
         let sizes = self.split(size - 5, parameters);
-        let halve = self.draft.add(PRIMITIVE, 6, 0);
+        let halve = self.draft.add(PRIMITIVE, HALVE, 0);
         let count = self.draft.add(PARAMETER, 0, 0);
         self.draft.items[halve].children = vec![count];
         let mut arguments = vec![halve];

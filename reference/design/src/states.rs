@@ -1,5 +1,7 @@
 //! Random tag lists, arguments and states, among them states that no start leads to.
 
+use numbers::{BUSY, DONE, OPEN};
+
 use crate::circuit::{NodeState, State};
 use crate::list::{arbiter_list, tag_bytes, Calls};
 use crate::random::Random;
@@ -53,7 +55,7 @@ pub fn any_state(random: &mut Random, tree: &Tree) -> State {
     for (index, node) in state.nodes.iter_mut().enumerate() {
         let status = match random.below(done_share + 3) {
             chosen @ 0..=2 => chosen as u8,
-            _ => 3,
+            _ => DONE,
         };
         let value = random.below(3) as u32;
         *node = NodeState { status, second: random.once_in(2), value };
@@ -63,12 +65,12 @@ pub fn any_state(random: &mut Random, tree: &Tree) -> State {
     }
     for node in tree.nodes() {
         if tree.other_callee(node).is_some() && random.once_in(2) {
-            state.node_mut(node).status = 2;
+            state.node_mut(node).status = BUSY;
         }
     }
     let main_root = tree.root(tree.main());
-    if state.node(main_root).status == 3 && !random.once_in(8) {
-        state.node_mut(main_root).status = random.within(1, 2) as u8;
+    if state.node(main_root).status == DONE && !random.once_in(8) {
+        state.node_mut(main_root).status = random.pick(&[OPEN, BUSY]);
     }
     for (index, function) in state.functions.iter_mut().enumerate() {
         function.registers = std::array::from_fn(|_| random.word());

@@ -1,5 +1,7 @@
 //! The byte layout of a design table. Every reader answers for any bytes: what lies outside reads as 0.
 
+use numbers::{ADD, AND, DOUBLE, EQUAL, HALVE, LESS, LOW_BIT, OR, SUBTRACT, XOR};
+
 /// A node number, 1 to N in an accepted table; 0 stands for none.
 #[derive(Clone, Copy, PartialEq, Eq, PartialOrd, Ord, Hash, Debug, Default)]
 pub struct Node(pub u16);
@@ -22,18 +24,6 @@ impl Refusal {
     }
 }
 
-pub const MOST_FUNCTIONS: u16 = 32;
-pub const MOST_NODES: u16 = 512;
-pub const MOST_PARAMETERS: u8 = 8;
-
-pub const CONSTANT: u8 = 1;
-pub const PARAMETER: u8 = 2;
-pub const PRIMITIVE: u8 = 3;
-pub const CALL: u8 = 4;
-pub const IF: u8 = 5;
-pub const LET: u8 = 6;
-pub const BOUND: u8 = 7;
-
 /// The operations of a primitive by number: name, fewest and most children.
 pub const OPERATIONS: [(&str, usize, usize); 11] = [
     ("add", 2, 2),
@@ -53,16 +43,16 @@ pub const OPERATIONS: [(&str, usize, usize); 11] = [
 pub fn compute(operation: u8, values: &[u32]) -> u32 {
     let value = |i: usize| values.get(i).copied().unwrap_or(0);
     match operation {
-        0 => value(0).wrapping_add(value(1)),
-        1 => value(0).wrapping_sub(value(1)),
-        2 => value(0) & value(1),
-        3 => value(0) | value(1),
-        4 => value(0) ^ value(1),
-        5 => value(0).wrapping_mul(2),
-        6 => value(0) / 2,
-        7 => value(0) & 1,
-        8 => u32::from(value(0) == value(1)),
-        9 => u32::from(value(0) < value(1)),
+        ADD => value(0).wrapping_add(value(1)),
+        SUBTRACT => value(0).wrapping_sub(value(1)),
+        AND => value(0) & value(1),
+        OR => value(0) | value(1),
+        XOR => value(0) ^ value(1),
+        DOUBLE => value(0).wrapping_mul(2),
+        HALVE => value(0) / 2,
+        LOW_BIT => value(0) & 1,
+        EQUAL => u32::from(value(0) == value(1)),
+        LESS => u32::from(value(0) < value(1)),
         _ => values.last().copied().unwrap_or(0),
     }
 }

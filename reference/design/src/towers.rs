@@ -1,15 +1,14 @@
 //! Designs at the ends of what a table can hold: towers of functions, each calling the one below it, and deep chains.
 
+use numbers::{ADD, BESIDE, DOUBLE, HALVE, LOW_BIT};
+use numbers::{CALL, CONSTANT, IF, LET, PARAMETER, PRIMITIVE};
+use numbers::{MOST_FUNCTIONS, MOST_NODES};
+
 use crate::draft::{Draft, Head};
 use crate::generator::numbered;
 use crate::random::Random;
-use crate::table::{CALL, CONSTANT, IF, LET, PARAMETER, PRIMITIVE};
 
-const LEVELS: usize = 32;
-const NODES: usize = 512;
 const CALLS: usize = 8;
-
-const BESIDE: u8 = 10;
 
 /// Adds a node as the next child of another, which comes before it.
 fn add_below(draft: &mut Draft, holder: usize, kind: u8, extra: u8, word: u32) -> usize {
@@ -61,7 +60,7 @@ fn fill(draft: &mut Draft, call: usize, arguments: usize) {
 
 fn full_tower(parameters: impl Fn(usize) -> usize, level: impl Fn(&mut Draft, usize, usize) -> usize) -> Vec<u8> {
     let mut draft = Draft::default();
-    for function in 1..=LEVELS {
+    for function in 1..=MOST_FUNCTIONS {
         let root = match function {
             1 => draft.add(CONSTANT, 0, 1),
             _ => level(&mut draft, function - 1, parameters(function - 1)),
@@ -73,7 +72,7 @@ fn full_tower(parameters: impl Fn(usize) -> usize, level: impl Fn(&mut Draft, us
 
 /// A tower in which each function calls the one below it up to eight times, in any arrangement.
 pub fn any_tower(random: &mut Random) -> Vec<u8> {
-    let levels = if random.once_in(4) { random.within(2, LEVELS) } else { LEVELS };
+    let levels = if random.once_in(4) { random.within(2, MOST_FUNCTIONS) } else { MOST_FUNCTIONS };
     // As many calls as fit, and then few arguments, so that more of them do.
     let full = random.once_in(2);
     let mut draft = Draft::default();
@@ -83,7 +82,7 @@ pub fn any_tower(random: &mut Random) -> Vec<u8> {
             1 => draft.add(CONSTANT, 0, 7),
             _ => {
                 let below = usize::from(draft.functions[function - 2].parameters);
-                let share = (NODES - draft.items.len()) / (levels + 1 - function);
+                let share = (MOST_NODES - draft.items.len()) / (levels + 1 - function);
                 let self_call = if parameters == 0 { 0 } else { 4 + parameters };
                 // A call takes its own node, its arguments and at most one holder.
                 let most = CALLS.min((share - self_call) / (2 + below));
@@ -132,7 +131,7 @@ impl Level<'_> {
         match self.random.below(8) {
             _ if calls == 0 => self.draft.add(CONSTANT, 0, 2),
             0..=2 if calls > 1 => self.holder(PRIMITIVE, BESIDE, calls, 8),
-            3 if calls > 1 => self.holder(PRIMITIVE, 0, calls, 2),
+            3 if calls > 1 => self.holder(PRIMITIVE, ADD, calls, 2),
             4 if calls > 1 => self.holder(LET, 0, calls, 9),
             5 if calls > 2 => {
                 let node = self.draft.add(IF, 0, 0);
@@ -175,7 +174,7 @@ pub fn any_deep(random: &mut Random) -> Vec<u8> {
     let calls = random.below(5);
     let draft = deep(|| match random.below(4) < calls {
         true => (CALL, 0, random.within(1, 3) as u32),
-        false => (PRIMITIVE, random.pick(&[5, 6, 7, BESIDE]), 0),
+        false => (PRIMITIVE, random.pick(&[DOUBLE, HALVE, LOW_BIT, BESIDE]), 0),
     });
     numbered(random, &draft)
 }
@@ -191,7 +190,7 @@ fn deep(mut pick: impl FnMut() -> (u8, u8, u32)) -> Draft {
     let main = draft.add(kind, extra, word);
     draft.functions = [one, two, three, main].map(|root| Head { parameters: 1, root }).to_vec();
     let mut last = main;
-    while draft.items.len() < NODES - 5 {
+    while draft.items.len() < MOST_NODES - 5 {
         let (kind, extra, word) = pick();
         last = add_below(&mut draft, last, kind, extra, word);
     }
@@ -227,7 +226,7 @@ pub fn deep_beside() -> Vec<u8> {
     let root = draft.add(PRIMITIVE, BESIDE, 0);
     draft.functions.push(Head { parameters: 0, root });
     let mut last = root;
-    while draft.items.len() < NODES - 2 {
+    while draft.items.len() < MOST_NODES - 2 {
         add_below(&mut draft, last, CALL, 0, 2);
         last = add_below(&mut draft, last, PRIMITIVE, BESIDE, 0);
     }
@@ -239,7 +238,7 @@ pub fn deep_beside() -> Vec<u8> {
 /// A chain in which each node has calls beside what is below it: in a primitive, a call, a let or an if.
 pub fn any_comb(random: &mut Random) -> Vec<u8> {
     let mut draft = under_a_comb();
-    let left = NODES - draft.items.len();
+    let left = MOST_NODES - draft.items.len();
     let root = tooth(random, &mut draft, left);
     draft.functions.push(Head { parameters: 0, root });
     numbered(random, &draft)
@@ -250,8 +249,13 @@ fn tooth(random: &mut Random, draft: &mut Draft, left: usize) -> usize {
     if left < 4 {
         return draft.add(CALL, 0, 1);
     }
-    let (kind, extra, word, children) =
-        random.pick(&[(PRIMITIVE, BESIDE, 0, 2), (PRIMITIVE, 0, 0, 2), (CALL, 0, 3, 2), (LET, 0, 0, 2), (IF, 0, 0, 3)]);
+    let (kind, extra, word, children) = random.pick(&[
+        (PRIMITIVE, BESIDE, 0, 2),
+        (PRIMITIVE, ADD, 0, 2),
+        (CALL, 0, 3, 2),
+        (LET, 0, 0, 2),
+        (IF, 0, 0, 3),
+    ]);
     let node = draft.add(kind, extra, word);
     let deep = random.below(children);
     for child in 0..children {

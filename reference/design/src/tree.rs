@@ -1,8 +1,9 @@
 //! An accepted table as a tree, for the parts that come after the check.
 
+use numbers::{BOUND, CALL, CONSTANT, IF, LET, PARAMETER, PRIMITIVE};
+
 use crate::check::{check, owners};
 use crate::table::{Function, Node, Refusal, Table};
-use crate::table::{BOUND, CALL, CONSTANT, IF, LET, PARAMETER, PRIMITIVE};
 
 #[derive(Clone, Copy, PartialEq, Eq, Debug)]
 pub enum Kind {

@@ -3,10 +3,11 @@
 
 use std::hint::select_unpredictable as select;
 
+use numbers::{BOUND, CALL, IF, LET, MOST_FUNCTIONS, MOST_NODES, PARAMETER};
+
 use crate::rules::{rule, whole};
 use crate::scope::{all_see, Order};
 use crate::{first, half, next, refusal, word, Parts};
-use crate::{BOUND, CALL, IF, LET, MOST_FUNCTIONS, MOST_NODES, PARAMETER};
 
 /// 0 for an accepted table, else the refusal's number times 65536 plus its place.
 pub fn check(table: &[u8]) -> u32 {

@@ -19,21 +19,12 @@ pub use state::{Lent, State};
 pub use step::{start, start_lent, step, step_lent};
 pub use tags::check_tags;
 
+use numbers::{ADD, AND, DOUBLE, EQUAL, HALVE, LESS, LOW_BIT, OR, SUBTRACT, XOR};
+
 /// Number and place of a refusal in one number; 0 stands for no refusal.
 pub(crate) const fn refusal(number: u32, place: u32) -> u32 {
     number << 16 | place
 }
-
-pub(crate) const MOST_NODES: usize = 512;
-pub(crate) const MOST_FUNCTIONS: usize = 32;
-
-pub(crate) const CONSTANT: u8 = 1;
-pub(crate) const PARAMETER: u8 = 2;
-pub(crate) const PRIMITIVE: u8 = 3;
-pub(crate) const CALL: u8 = 4;
-pub(crate) const IF: u8 = 5;
-pub(crate) const LET: u8 = 6;
-pub(crate) const BOUND: u8 = 7;
 
 /// The two parts of a table whose length fits its F and N.
 #[derive(Clone, Copy)]
@@ -88,16 +79,16 @@ pub(crate) fn next(record: &[u8; 10]) -> usize {
 /// What a primitive makes of the values of its first and its last child.
 pub(crate) fn compute(operation: u8, [a, b]: [u32; 2]) -> u32 {
     match operation {
-        0 => a.wrapping_add(b),
-        1 => a.wrapping_sub(b),
-        2 => a & b,
-        3 => a | b,
-        4 => a ^ b,
-        5 => a << 1,
-        6 => a >> 1,
-        7 => a & 1,
-        8 => u32::from(a == b),
-        9 => u32::from(a < b),
+        ADD => a.wrapping_add(b),
+        SUBTRACT => a.wrapping_sub(b),
+        AND => a & b,
+        OR => a | b,
+        XOR => a ^ b,
+        DOUBLE => a << 1,
+        HALVE => a >> 1,
+        LOW_BIT => a & 1,
+        EQUAL => u32::from(a == b),
+        LESS => u32::from(a < b),
         _ => b,
     }
 }

@@ -4,8 +4,10 @@
 
 use std::hint::select_unpredictable as select;
 
+use numbers::{CALL, LET, MOST_FUNCTIONS, MOST_NODES, PRIMITIVE};
+
 use crate::check::{survey, Survey};
-use crate::{first, next, Parts, CALL, LET, MOST_FUNCTIONS, MOST_NODES, PRIMITIVE};
+use crate::{first, next, Parts};
 
 /// Functions, f at bit f - 1.
 type Functions = u32;

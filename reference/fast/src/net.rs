@@ -1,7 +1,9 @@
 //! A design laid out for running: the nodes of a function lie side by side, and a cell has what a step needs of a node.
 
+use numbers::{BOUND, CALL, MOST_FUNCTIONS, MOST_NODES, PARAMETER};
+
 use crate::check::Survey;
-use crate::{first, next, word, Parts, BOUND, CALL, MOST_FUNCTIONS, MOST_NODES, PARAMETER};
+use crate::{first, next, word, Parts};
 
 /// No cell.
 pub const NONE: u16 = u16::MAX;

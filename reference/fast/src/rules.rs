@@ -2,8 +2,10 @@
 
 use std::hint::select_unpredictable as select;
 
+use numbers::{BESIDE, DOUBLE, LOW_BIT};
+use numbers::{BOUND, CALL, CONSTANT, IF, LET, PARAMETER, PRIMITIVE};
+
 use crate::check::Above;
-use crate::{BOUND, CALL, CONSTANT, IF, LET, PARAMETER, PRIMITIVE};
 
 #[derive(Clone, Copy)]
 pub(crate) struct Rule {
@@ -45,11 +47,11 @@ static RULES: [Rule; 512] = {
     rules[LET as usize] = rule(LET, EXTRA | WORD, 2, 9);
     rules[BOUND as usize] = rule(BOUND, EXTRA | FIRST, 0, 0);
     let mut operation = 0;
-    while operation < 10 {
-        let count = if operation >= 5 && operation <= 7 { 1 } else { 2 };
-        rules[PRIMITIVES as usize + operation] = rule(PRIMITIVE, WORD, count, count);
+    while operation < BESIDE {
+        let count = if operation >= DOUBLE && operation <= LOW_BIT { 1 } else { 2 };
+        rules[PRIMITIVES as usize + operation as usize] = rule(PRIMITIVE, WORD, count, count);
         operation += 1;
     }
-    rules[PRIMITIVES as usize + 10] = rule(PRIMITIVE, WORD, 1, 8);
+    rules[PRIMITIVES as usize + BESIDE as usize] = rule(PRIMITIVE, WORD, 1, 8);
     rules
 };

@@ -1,11 +1,13 @@
 //! The run on a budget. A step costs what its node needs: nodes that it may have made ready wait on a stack.
 
+use numbers::{BOUND, CALL, CONSTANT, IF, LET, PARAMETER, PRIMITIVE};
+use numbers::{MOST_FUNCTIONS, MOST_NODES};
+
 use crate::check::Survey;
 use crate::net::{cell, Cell, Net, NONE, SELF_CALL};
-use crate::state::{self, State};
+use crate::state::State;
 use crate::tags::checked;
 use crate::{compute, refusal};
-use crate::{BOUND, CALL, CONSTANT, IF, LET, MOST_FUNCTIONS, MOST_NODES, PARAMETER, PRIMITIVE};
 
 /// How a run ended.
 #[derive(Clone, Copy, PartialEq, Eq, Debug)]
@@ -52,9 +54,9 @@ pub fn run_watched(
 /// How a node stands, in a byte: its kind, its status, its second phase, and whether it is on the stack.
 const KIND: u8 = 7;
 const STATUS: u8 = 3 << 3;
-const OPEN: u8 = state::OPEN << 3;
-const BUSY: u8 = state::BUSY << 3;
-const DONE: u8 = state::DONE << 3;
+const OPEN: u8 = numbers::OPEN << 3;
+const BUSY: u8 = numbers::BUSY << 3;
+const DONE: u8 = numbers::DONE << 3;
 const SECOND: u8 = 1 << 5;
 const QUEUED: u8 = 1 << 6;
 

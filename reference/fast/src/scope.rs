@@ -2,8 +2,10 @@
 
 use std::hint::select_unpredictable as select;
 
+use numbers::MOST_NODES;
+
 use crate::check::Above;
-use crate::{first, next, word, Parts, MOST_NODES};
+use crate::{first, next, word, Parts};
 
 /// Whether each of these bounds is in the body of a let that has its definiens, in time linear in the table.
 pub(crate) fn all_see(parts: &Parts, above: &[Above], bounds: &[u16]) -> bool {

@@ -1,9 +1,11 @@
 //! The arbiter list as one writes it at first: sets of calls as bits, each body walked once, and the sets of parts that
 //! run side by side held against each other where they meet.
 
+use numbers::{BOUND, CALL, CONSTANT, IF, LET, PARAMETER, PRIMITIVE};
+use numbers::{MOST_FUNCTIONS, MOST_NODES};
+
 use crate::check::{survey, Survey};
-use crate::{first, next, Parts, MOST_FUNCTIONS, MOST_NODES};
-use crate::{BOUND, CALL, CONSTANT, IF, LET, PARAMETER, PRIMITIVE};
+use crate::{first, next, Parts};
 
 /// Call nodes, node n at bit n - 1.
 type Calls = [u64; MOST_NODES / 64];

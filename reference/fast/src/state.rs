@@ -1,10 +1,6 @@
 //! A circuit's state.
 
-use crate::{MOST_FUNCTIONS, MOST_NODES};
-
-pub(crate) const OPEN: u8 = 1;
-pub(crate) const BUSY: u8 = 2;
-pub(crate) const DONE: u8 = 3;
+use numbers::{DONE, MOST_FUNCTIONS, MOST_NODES};
 
 /// The state, node n and function f at n - 1 and f - 1.
 #[derive(Clone, PartialEq, Eq, Debug)]

@@ -1,10 +1,12 @@
 //! A start and a single step, with nothing kept from call to call: table, tags and state are looked at each time.
 
+use numbers::{BOUND, CALL, CONSTANT, IF, LET, PARAMETER, PRIMITIVE};
+use numbers::{BUSY, OPEN};
+
 use crate::check::Survey;
-use crate::state::{Lent, State, BUSY, OPEN};
+use crate::state::{Lent, State};
 use crate::tags::checked;
 use crate::{compute, first, next, refusal, word, Parts};
-use crate::{BOUND, CALL, CONSTANT, IF, LET, PARAMETER, PRIMITIVE};
 
 const ANSWERED: u64 = 1 << 32;
 const REFUSED: u64 = 2 << 32;

@@ -1,7 +1,9 @@
 //! The tag list that is handed in with a table.
 
+use numbers::CALL;
+
 use crate::check::{survey, Survey};
-use crate::{refusal, word, Parts, CALL};
+use crate::{refusal, word, Parts};
 
 /// 0 for an accepted table and a tag list in order for it, else the refusal.
 pub fn check_tags(table: &[u8], tags: &[u8]) -> u32 {

@@ -61,7 +61,7 @@ fn checks_of_far_scopes_agree() {
         for _ in 0..round % 3 {
             let nodes = (bytes.len() - 8) / 10;
             let record = 8 + 10 * random.below(nodes);
-            if bytes[record] == 7 {
+            if bytes[record] == numbers::BOUND {
                 bytes[record + 2..record + 4].copy_from_slice(&(random.below(nodes + 2) as u16).to_le_bytes());
             }
         }

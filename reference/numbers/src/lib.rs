@@ -1,0 +1,34 @@
+//! The numbers that document 01 gives to its limits, kinds, operations and statuses. They stand here alone.
+
+// Limits.
+pub const MOST_FUNCTIONS: usize = 32;
+pub const MOST_NODES: usize = 512;
+pub const MOST_PARAMETERS: usize = 8;
+
+// Kinds of nodes.
+pub const CONSTANT: u8 = 1;
+pub const PARAMETER: u8 = 2;
+pub const PRIMITIVE: u8 = 3;
+pub const CALL: u8 = 4;
+pub const IF: u8 = 5;
+pub const LET: u8 = 6;
+pub const BOUND: u8 = 7;
+
+// Operations of a primitive.
+pub const ADD: u8 = 0;
+pub const SUBTRACT: u8 = 1;
+pub const AND: u8 = 2;
+pub const OR: u8 = 3;
+pub const XOR: u8 = 4;
+pub const DOUBLE: u8 = 5;
+pub const HALVE: u8 = 6;
+pub const LOW_BIT: u8 = 7;
+pub const EQUAL: u8 = 8;
+pub const LESS: u8 = 9;
+pub const BESIDE: u8 = 10;
+
+// Statuses of a node in a circuit.
+pub const IDLE: u8 = 0;
+pub const OPEN: u8 = 1;
+pub const BUSY: u8 = 2;
+pub const DONE: u8 = 3;
