@@ -5,13 +5,7 @@ use numbers::{BOUND, CALL, CONSTANT, IF, LET, PARAMETER, PRIMITIVE};
 use crate::generator::{accepted, with_strays};
 use crate::random::Random;
 use crate::table::{Function, Node, Table};
-
-/// Offsets of the fields in a node record, as the table layout has them.
-const KIND: usize = 0;
-const EXTRA: usize = 1;
-const WORD: usize = 2;
-const FIRST: usize = 6;
-const NEXT: usize = 8;
+use crate::table::{EXTRA, FIRST, KIND, NEXT, WORD};
 
 /// A table with one or several faults; by chance it may still be an accepted one.
 pub fn damaged(random: &mut Random) -> Vec<u8> {

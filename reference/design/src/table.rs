@@ -24,6 +24,13 @@ impl Refusal {
     }
 }
 
+// Offsets of the fields in a node record.
+pub(crate) const KIND: usize = 0;
+pub(crate) const EXTRA: usize = 1;
+pub(crate) const WORD: usize = 2;
+pub(crate) const FIRST: usize = 6;
+pub(crate) const NEXT: usize = 8;
+
 /// The operations of a primitive by number: name, fewest and most children.
 pub const OPERATIONS: [(&str, usize, usize); 11] = [
     ("add", 2, 2),
@@ -128,23 +135,23 @@ impl<'a> Table<'a> {
     }
 
     pub fn kind(&self, node: Node) -> u8 {
-        self.node_field(node, 0, 1) as u8
+        self.node_field(node, KIND, 1) as u8
     }
 
     pub fn extra(&self, node: Node) -> u8 {
-        self.node_field(node, 1, 1) as u8
+        self.node_field(node, EXTRA, 1) as u8
     }
 
     pub fn word(&self, node: Node) -> u32 {
-        self.node_field(node, 2, 4)
+        self.node_field(node, WORD, 4)
     }
 
     pub fn first(&self, node: Node) -> Node {
-        Node(self.node_field(node, 6, 2) as u16)
+        Node(self.node_field(node, FIRST, 2) as u16)
     }
 
     pub fn next(&self, node: Node) -> Node {
-        Node(self.node_field(node, 8, 2) as u16)
+        Node(self.node_field(node, NEXT, 2) as u16)
     }
 
     /// The children in order. A link that doesn't lead upwards ends the chain, so it ends for any bytes.
