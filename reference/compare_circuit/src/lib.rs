@@ -13,7 +13,8 @@ use compare as _;
 use design::circuit::{Answer, Ending};
 use design::difference::ensure;
 use design::{Node, Refusal};
-use lent::{Arrays, Lent};
+use lent::Lent;
+use raw::Handed;
 
 /// What the proved code said, or a message about an answer of no agreed form.
 pub type Told<T> = Result<T, String>;
@@ -40,23 +41,9 @@ fn refusal(what: &str, answer: u64) -> Told<Refusal> {
 }
 
 pub fn start(table: &[u8], tags: &[u8], arguments: &[u32], state: &mut Lent) -> Told<Result<(), Refusal>> {
-    let Arrays { status, second, value, registers, occupant } = state.arrays();
+    let handed = Handed { table, tags, state };
     // The library writes to the state alone, and within the lengths it is told.
-    let answer = unsafe {
-        raw::circuit_start(
-            table.as_ptr(),
-            table.len(),
-            tags.as_ptr(),
-            tags.len(),
-            status,
-            second,
-            value,
-            registers,
-            occupant,
-            arguments.as_ptr(),
-            arguments.len(),
-        )
-    };
+    let answer = unsafe { handed.circuit_start(arguments.as_ptr(), arguments.len()) };
     match halves(answer) {
         (0, 0) => Ok(Ok(())),
         (0, _) => Ok(Err(refusal("start", answer)?)),
@@ -65,22 +52,9 @@ pub fn start(table: &[u8], tags: &[u8], arguments: &[u32], state: &mut Lent) -> 
 }
 
 pub fn step(table: &[u8], tags: &[u8], state: &mut Lent, node: u16) -> Told<Answer> {
-    let Arrays { status, second, value, registers, occupant } = state.arrays();
+    let handed = Handed { table, tags, state };
     // The library writes to the state alone, and within the lengths it is told.
-    let answer = unsafe {
-        raw::circuit_step(
-            table.as_ptr(),
-            table.len(),
-            tags.as_ptr(),
-            tags.len(),
-            status,
-            second,
-            value,
-            registers,
-            occupant,
-            node,
-        )
-    };
+    let answer = unsafe { handed.circuit_step(node) };
     match halves(answer) {
         (0, 0) => Ok(Answer::Taken),
         (1, value) => Ok(Answer::Answered(value)),
@@ -92,21 +66,9 @@ pub fn step(table: &[u8], tags: &[u8], state: &mut Lent, node: u16) -> Told<Answ
 /// A possible step; that the state was only read is looked at too.
 pub fn query(table: &[u8], tags: &[u8], state: &Lent) -> Told<Result<Option<Node>, Refusal>> {
     let mut lent = state.clone();
-    let Arrays { status, second, value, registers, occupant } = lent.arrays();
+    let handed = Handed { table, tags, state: &mut lent };
     // The library only reads, and within the lengths it is told.
-    let answer = unsafe {
-        raw::circuit_query(
-            table.as_ptr(),
-            table.len(),
-            tags.as_ptr(),
-            tags.len(),
-            status,
-            second,
-            value,
-            registers,
-            occupant,
-        )
-    };
+    let answer = unsafe { handed.circuit_query() };
     ensure(lent == *state, || "a query changed the state".to_string())?;
     match halves(answer) {
         (0, 0) => Ok(Ok(None)),
@@ -118,25 +80,10 @@ pub fn query(table: &[u8], tags: &[u8], state: &Lent) -> Told<Result<Option<Node
 
 /// Steps taken, and the refusal that ended the run.
 pub fn run(table: &[u8], tags: &[u8], state: &mut Lent, nodes: &[u16]) -> Told<(usize, Option<Refusal>)> {
-    let Arrays { status, second, value, registers, occupant } = state.arrays();
+    let handed = Handed { table, tags, state };
     let mut counts = [UNSETTLED_LONG; 3];
     // The library writes to the state and the count alone, and within the lengths it is told.
-    let answer = unsafe {
-        raw::circuit_run(
-            table.as_ptr(),
-            table.len(),
-            tags.as_ptr(),
-            tags.len(),
-            status,
-            second,
-            value,
-            registers,
-            occupant,
-            nodes.as_ptr(),
-            nodes.len(),
-            counts.as_mut_ptr().wrapping_add(1),
-        )
-    };
+    let answer = unsafe { handed.circuit_run(nodes.as_ptr(), nodes.len(), counts.as_mut_ptr().wrapping_add(1)) };
     let [before, taken, after] = counts;
     ensure([before, after] == [UNSETTLED_LONG; 2], || "run wrote beside its count".to_string())?;
     match halves(answer) {
@@ -148,24 +95,10 @@ pub fn run(table: &[u8], tags: &[u8], state: &mut Lent, nodes: &[u16]) -> Told<(
 
 /// Steps taken and how it ended; a refusal comes with no steps.
 pub fn drive(table: &[u8], tags: &[u8], state: &mut Lent, budget: u32) -> Told<Result<(u32, Ending), Refusal>> {
-    let Arrays { status, second, value, registers, occupant } = state.arrays();
+    let handed = Handed { table, tags, state };
     let mut counts = [UNSETTLED; 3];
     // The library writes to the state and the count alone, and within the lengths it is told.
-    let answer = unsafe {
-        raw::circuit_drive(
-            table.as_ptr(),
-            table.len(),
-            tags.as_ptr(),
-            tags.len(),
-            status,
-            second,
-            value,
-            registers,
-            occupant,
-            budget,
-            counts.as_mut_ptr().wrapping_add(1),
-        )
-    };
+    let answer = unsafe { handed.circuit_drive(budget, counts.as_mut_ptr().wrapping_add(1)) };
     let [before, taken, after] = counts;
     ensure([before, after] == [UNSETTLED; 2], || "drive wrote beside its count".to_string())?;
     match (halves(answer), taken) {
