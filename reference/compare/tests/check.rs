@@ -6,7 +6,8 @@ use compare::table_check;
 use design::asm::assemble;
 use design::check;
 use design::damage::damaged;
-use design::difference::{ensure, shown, told, Outcome};
+use design::difference::{code, ensure, shown, told, Outcome};
+use design::examples;
 use design::generator::{accepted, accepted_of};
 use design::random::Random;
 
@@ -14,12 +15,8 @@ use design::random::Random;
 const TABLES: usize = 30000;
 const SEEDS: [u64; 4] = [101, 102, 103, 104];
 
-fn wanted(bytes: &[u8]) -> u32 {
-    check(bytes).map_or_else(|refusal| refusal.code(), |()| 0)
-}
-
 fn agree(bytes: &[u8]) -> Result<u32, String> {
-    let (found, wanted) = (table_check(bytes), wanted(bytes));
+    let (found, wanted) = (table_check(bytes), code(check(bytes)));
     ensure(found == wanted, || format!("found {}, wanted {}: {}", told(found), told(wanted), shown(bytes)))?;
     Ok(wanted)
 }
@@ -177,14 +174,9 @@ fn every_byte_of_small_tables() -> Outcome {
 
 #[test]
 fn examples() -> Outcome {
-    let folder = std::path::Path::new(env!("CARGO_MANIFEST_DIR")).join("../../examples");
-    let mut count = 0;
-    for entry in std::fs::read_dir(folder).expect("examples") {
-        let path = entry.expect("an entry").path();
-        if path.extension().is_some_and(|ending| ending == "table") {
-            agree(&std::fs::read(&path).expect("a table"))?;
-            count += 1;
-        }
+    let tables = examples::tables()?;
+    for bytes in &tables {
+        agree(bytes)?;
     }
-    ensure(count >= 9, || format!("{count} examples"))
+    ensure(tables.len() >= 9, || format!("{} examples", tables.len()))
 }

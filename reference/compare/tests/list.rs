@@ -5,14 +5,15 @@ use std::collections::BTreeMap;
 use compare::{list_check_tags, list_fill_tags, list_total};
 use design::asm::assemble;
 use design::damage::damaged;
-use design::difference::{ensure, shown, told, Outcome};
+use design::difference::{code, ensure, shown, told, unrefused, Outcome};
+use design::examples;
 use design::features::features;
 use design::generator::{accepted, accepted_of, accepted_sharing};
-use design::list::{check_tags, records, tag_bytes, total};
+use design::list::{check_tags, records, tag_bytes, tag_length, total};
 use design::random::Random;
 use design::states::{damaged_tags, tags};
 use design::towers::{any_comb, any_deep, any_tower, deep_beside, deep_calls, tower_beside, tower_of_arguments};
-use design::{Kind, Node, Refusal, Tree};
+use design::{Kind, Node, Tree};
 
 /// Tables per seed and seeds: 52000 accepted tables in all, and beside them damaged ones.
 const TABLES: usize = 13000;
@@ -47,10 +48,6 @@ impl Seen {
             *self.tags.entry(answer).or_insert(0) += count;
         }
     }
-}
-
-fn code(answer: Result<(), Refusal>) -> u32 {
-    answer.map_or_else(|refusal| refusal.code(), |()| 0)
 }
 
 fn same(what: &str, found: u32, wanted: u32, bytes: &[u8], tags: &[u8]) -> Outcome {
@@ -101,7 +98,7 @@ fn agree_on_tags(seen: &mut Seen, bytes: &[u8], tree: &Tree, tags: &[u8]) -> Res
     let node = Node(wanted as u16);
     let told = match (wanted, node) {
         (0, _) => "in order",
-        (_, Node(0)) if tags.len() != tree.node_count().div_ceil(8) => "another length",
+        (_, Node(0)) if tags.len() != tag_length(tree) => "another length",
         (_, Node(0)) => "past N",
         _ if matches!(tree.kind(node), Kind::Call(_)) => "at a self call",
         _ => "at another node",
@@ -112,7 +109,7 @@ fn agree_on_tags(seen: &mut Seen, bytes: &[u8], tree: &Tree, tags: &[u8]) -> Res
 
 /// All that is asked about one accepted table.
 fn agree(seen: &mut Seen, random: &mut Random, bytes: &[u8]) -> Outcome {
-    let tree = Tree::read(bytes).map_err(|refusal| format!("{refusal:?}: {}", shown(bytes)))?;
+    let tree = unrefused(Tree::read(bytes), bytes)?;
     let own = filled(random, bytes, &tree)?;
     let answer = agree_on_tags(seen, bytes, &tree, &own)?;
     same("its own list", answer, 0, bytes, &own)?;
@@ -262,7 +259,7 @@ fn every_tag_list_of_a_small_table() -> Outcome {
     // Nodes 1; 2; 3 if, 4 call, 5 self call, 6 and 7 calls, 8 beside, 9 and 10 calls, 11.
     let text = "fun f() = 1  fun g() = f()  fun main(x, y) = if f() then main(f(), g()) else beside(g(), f(), x)";
     let bytes = assemble(text).map_err(|error| format!("{error:?}"))?;
-    let tree = Tree::read(&bytes).map_err(|refusal| format!("{refusal:?}"))?;
+    let tree = unrefused(Tree::read(&bytes), &bytes)?;
     ensure(tree.node_count() == 11, || format!("{} nodes", tree.node_count()))?;
     for number in 0..=u16::MAX {
         agree_on_tags(&mut seen, &bytes, &tree, &number.to_le_bytes())?;
@@ -308,17 +305,11 @@ fn named_designs() -> Outcome {
         let (_, _, found) = fill(&mut random, &bytes, wanted.len())?;
         ensure(found == wanted, || format!("{text}: {found:?}"))?;
     }
-    let folder = std::path::Path::new(env!("CARGO_MANIFEST_DIR")).join("../../examples");
-    let mut count = 0;
-    for entry in std::fs::read_dir(folder).map_err(|error| error.to_string())? {
-        let path = entry.map_err(|error| error.to_string())?.path();
-        if path.extension().is_some_and(|ending| ending == "table") {
-            let bytes = std::fs::read(&path).map_err(|error| error.to_string())?;
-            agree_on_any(&mut seen, &mut random, &bytes)?;
-            count += 1;
-        }
+    let tables = examples::tables()?;
+    for bytes in &tables {
+        agree_on_any(&mut seen, &mut random, bytes)?;
     }
-    ensure(count >= 9, || format!("{count} examples"))
+    ensure(tables.len() >= 9, || format!("{} examples", tables.len()))
 }
 
 #[test]

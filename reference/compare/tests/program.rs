@@ -7,6 +7,7 @@ use std::process::{Command, Stdio};
 use design::asm::assemble;
 use design::damage::damaged;
 use design::difference::{ensure, shown, Outcome};
+use design::examples;
 use design::generator::{accepted, accepted_of, accepted_sharing};
 use design::list::program;
 use design::random::Random;
@@ -80,15 +81,11 @@ fn the_text_of_the_rules() -> Outcome {
 
 #[test]
 fn examples() -> Outcome {
-    let mut count = 0;
-    for entry in std::fs::read_dir(folder("examples")).map_err(|error| error.to_string())? {
-        let path = entry.map_err(|error| error.to_string())?.path();
-        if path.extension().is_some_and(|ending| ending == "table") {
-            agree(&std::fs::read(&path).map_err(|error| error.to_string())?)?;
-            count += 1;
-        }
+    let tables = examples::tables()?;
+    for bytes in &tables {
+        agree(bytes)?;
     }
-    ensure(count >= 9, || format!("{count} examples"))
+    ensure(tables.len() >= 9, || format!("{} examples", tables.len()))
 }
 
 #[test]

@@ -1,7 +1,9 @@
 //! One design with its tags, the reference's state and the proved code's beside it. Each round asks both and compares.
 
+use std::fmt::Debug;
+
 use design::circuit::{self, check_state, possible, step_with, Answer, Ending, State};
-use design::difference::{ensure, shown, Outcome};
+use design::difference::{ensure, shown, unrefused, Outcome};
 use design::generator::{accepted, accepted_of, accepted_sharing, accepted_sharing_of};
 use design::list::tags_of;
 use design::random::Random;
@@ -48,13 +50,13 @@ fn with_a_list(random: &mut Random, nodes: usize) -> Vec<u8> {
 }
 
 pub fn tree_of(bytes: &[u8]) -> Result<Tree, String> {
-    Tree::read(bytes).map_err(|refusal| format!("{refusal:?}: {}", shown(bytes)))
+    unrefused(Tree::read(bytes), bytes)
 }
 
 /// The arbiter list in half of the cases, else tags that hold it or not.
 pub fn some_tags(random: &mut Random, bytes: &[u8]) -> Result<Vec<u8>, String> {
     match random.once_in(2) {
-        true => tags_of(bytes).map_err(|refusal| format!("{refusal:?}: {}", shown(bytes))),
+        true => unrefused(tags_of(bytes), bytes),
         false => Ok(tags(random, &tree_of(bytes)?)),
     }
 }
@@ -127,7 +129,7 @@ impl Round {
 
     /// How the tags stand to the arbiter list.
     pub fn tagging(&self) -> Result<&'static str, String> {
-        let list = tags_of(&self.bytes).map_err(|refusal| format!("{refusal:?}: {}", shown(&self.bytes)))?;
+        let list = unrefused(tags_of(&self.bytes), &self.bytes)?;
         let holds = list.iter().zip(&self.tags).all(|(listed, tagged)| listed & !tagged == 0);
         Ok(match holds {
             _ if list.iter().all(|byte| *byte == 0) => EMPTY_LIST,
@@ -170,18 +172,28 @@ impl Round {
         }
     }
 
+    /// What both said, if it is the same and so are their states after it; a difference is told with the state before.
+    fn agreed<T: PartialEq + Debug>(
+        &mut self,
+        before: State,
+        found: T,
+        wanted: T,
+        what: impl FnOnce() -> String,
+    ) -> Result<T, String> {
+        let fine = self.lent.same_as(&self.own);
+        if found == wanted && fine.is_ok() {
+            return Ok(wanted);
+        }
+        self.own = before;
+        Err(self.told(format!("{} said {found:?}, wanted {wanted:?}; {fine:?}", what())))
+    }
+
     /// Asks both for a step and compares answers and states.
     pub fn step(&mut self, node: u16) -> Result<Answer, String> {
         let before = self.own.clone();
         let wanted = step_with(&self.tree, &self.tags, &mut self.own, node);
         let found = crate::step(&self.bytes, &self.tags, &mut self.lent, node)?;
-        let fine = self.lent.same_as(&self.own);
-        if found != wanted || fine.is_err() {
-            let difference = format!("step at {node} said {found:?}, wanted {wanted:?}; {fine:?}");
-            self.own = before;
-            return Err(self.told(difference));
-        }
-        Ok(wanted)
+        self.agreed(before, found, wanted, || format!("step at {node}"))
     }
 
     /// The node that the proved query names has to have a step, and it has to name one if there is any.
@@ -206,13 +218,7 @@ impl Round {
         let before = self.own.clone();
         let wanted = circuit::run_list(&self.bytes, &self.tags, &mut self.own, nodes);
         let found = crate::run(&self.bytes, &self.tags, &mut self.lent, nodes)?;
-        let fine = self.lent.same_as(&self.own);
-        if found != wanted || fine.is_err() {
-            let difference = format!("run over {nodes:?} said {found:?}, wanted {wanted:?}; {fine:?}");
-            self.own = before;
-            return Err(self.told(difference));
-        }
-        Ok(wanted)
+        self.agreed(before, found, wanted, || format!("run over {nodes:?}"))
     }
 
     /// The run on a budget. Its steps are not fixed, so it is held against what is true of any such steps;

@@ -7,6 +7,7 @@ use design::circuit::{self, Answer, State};
 use design::damage::damaged;
 use design::difference::{ensure, shown, Outcome};
 use design::generator::accepted;
+use design::list::tag_length;
 use design::random::Random;
 use design::states::{any_state, arguments, damage_state, damaged_tags, tags};
 use design::{Node, Refusal, Tree};
@@ -56,7 +57,7 @@ fn some_arguments(random: &mut Random, bytes: &[u8]) -> Vec<u32> {
 
 /// Which of the causes of 10 it is, and whether 4 and 5 name a node.
 fn note_refusal(seen: &mut Seen, refusal: Refusal, bytes: &[u8], tags: &[u8]) {
-    let right_length = Tree::read(bytes).is_ok_and(|tree| tags.len() == tree.node_count().div_ceil(8));
+    let right_length = Tree::read(bytes).is_ok_and(|tree| tags.len() == tag_length(&tree));
     seen.refused(refusal.number);
     match (refusal.number, refusal.place) {
         (4, Node(0)) => seen.note("4 at a root out of range"),

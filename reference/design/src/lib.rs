@@ -6,6 +6,7 @@ pub mod circuit;
 pub mod damage;
 pub mod difference;
 pub mod draft;
+pub mod examples;
 pub mod features;
 pub mod generator;
 pub mod lexer;

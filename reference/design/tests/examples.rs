@@ -2,15 +2,11 @@
 
 use std::collections::BTreeSet;
 use std::fs;
-use std::path::PathBuf;
 
 use design::asm::assemble;
+use design::examples::folder;
 use design::list::program;
 use design::{check, Node, Refusal, Table};
-
-fn examples() -> PathBuf {
-    PathBuf::from(env!("CARGO_MANIFEST_DIR")).join("../../examples")
-}
 
 const OUT_OF_TAIL: Result<(), Refusal> = Err(Refusal { number: 9, place: Node(2) });
 
@@ -29,8 +25,8 @@ const EXPECTED: [(&str, Result<(), Refusal>, &str); 9] = [
 #[test]
 fn tables_are_what_their_texts_assemble_to() {
     for (name, answer, printed) in EXPECTED {
-        let text = fs::read_to_string(examples().join(format!("{name}.safl"))).expect(name);
-        let bytes = fs::read(examples().join(format!("{name}.table"))).expect(name);
+        let text = fs::read_to_string(folder().join(format!("{name}.safl"))).expect(name);
+        let bytes = fs::read(folder().join(format!("{name}.table"))).expect(name);
         assert_eq!(assemble(&text).as_ref(), Ok(&bytes), "{name}");
         assert_eq!(check(&bytes), answer, "{name}");
         assert_eq!(program(&bytes), printed, "{name}");
@@ -42,7 +38,7 @@ fn no_example_is_left_out() {
     let named: BTreeSet<String> = EXPECTED.iter().map(|(name, _, _)| name.to_string()).collect();
     for ending in ["safl", "table"] {
         let mut found = BTreeSet::new();
-        for entry in fs::read_dir(examples()).expect("examples") {
+        for entry in fs::read_dir(folder()).expect("examples") {
             let path = entry.expect("an entry").path();
             if path.extension().is_some_and(|other| other == ending) {
                 found.insert(path.file_stem().expect("a name").to_string_lossy().into_owned());
@@ -54,10 +50,10 @@ fn no_example_is_left_out() {
 
 #[test]
 fn the_limits_are_the_limits() {
-    let bytes = fs::read(examples().join("limits.table")).expect("limits");
+    let bytes = fs::read(folder().join("limits.table")).expect("limits");
     let table = Table::new(&bytes);
     assert_eq!((table.function_count(), table.node_count()), (32, 512));
-    let bytes = fs::read(examples().join("eight_parameters.table")).expect("eight_parameters");
+    let bytes = fs::read(folder().join("eight_parameters.table")).expect("eight_parameters");
     let table = Table::new(&bytes);
     assert!(table.functions().all(|function| table.parameter_count(function) == 8));
 }

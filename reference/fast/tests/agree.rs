@@ -3,7 +3,7 @@
 use design::asm::assemble;
 use design::circuit::{self, Answer, NodeState};
 use design::damage::damaged;
-use design::difference::shown;
+use design::difference::{code, shown};
 use design::generator::{accepted, accepted_of, accepted_sharing};
 use design::list::tags_of;
 use design::random::Random;
@@ -17,10 +17,6 @@ type List = fn(&[u8], &mut [u8; 64]) -> u32;
 
 /// Both ways to the arbiter list.
 const LISTS: [List; 2] = [fast::list, fast::list_by_sets];
-
-fn code(answer: Result<(), design::Refusal>) -> u32 {
-    answer.map_or_else(|refusal| refusal.code(), |()| 0)
-}
 
 #[test]
 fn the_checks_agree() {

@@ -1,0 +1,21 @@
+//! The example files of the repository.
+
+use std::fs;
+use std::path::PathBuf;
+
+pub fn folder() -> PathBuf {
+    PathBuf::from(env!("CARGO_MANIFEST_DIR")).join("../../examples")
+}
+
+/// The bytes of every example table.
+pub fn tables() -> Result<Vec<Vec<u8>>, String> {
+    let said = |error: std::io::Error| error.to_string();
+    let mut found = Vec::new();
+    for entry in fs::read_dir(folder()).map_err(said)? {
+        let path = entry.map_err(said)?.path();
+        if path.extension().is_some_and(|ending| ending == "table") {
+            found.push(fs::read(&path).map_err(said)?);
+        }
+    }
+    Ok(found)
+}
