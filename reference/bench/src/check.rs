@@ -2,21 +2,17 @@
 
 use std::hint::black_box;
 
+use crate::designs::{tables, TABLE_SIZES};
 use crate::measure::{medians, Section};
 use crate::ratios::Ratios;
-use design::generator::accepted_of;
-use design::random::Random;
 
-const SIZES: [usize; 4] = [64, 128, 256, 512];
-const TABLES: usize = 24;
 const BOUND: f64 = 1.15;
 
 pub fn section(ratios: &mut Ratios) {
     let columns = [("proved ns", 0), ("fast ns", 0), ("ratio", 2)];
     let section = Section::new("table check, median time per accepted table", "nodes", &columns);
-    for size in SIZES {
-        let mut random = Random::new(size as u64);
-        let tables: Vec<Vec<u8>> = (0..TABLES).map(|_| accepted_of(&mut random, size)).collect();
+    for size in TABLE_SIZES {
+        let tables = tables(size);
         for table in &tables {
             assert_eq!((compare::table_check(table), fast::check(table)), (0, 0));
         }

@@ -2,15 +2,11 @@
 
 use std::hint::black_box;
 
+use crate::designs::{tables, TABLE_SIZES};
 use crate::measure::{medians, Section};
 use crate::ratios::Ratios;
-use design::generator::accepted_of;
 use design::list::fill_tags;
-use design::random::Random;
 use design::towers::{deep_beside, deep_calls, tower_beside, tower_of_arguments};
-
-const SIZES: [usize; 4] = [64, 128, 256, 512];
-const TABLES: usize = 24;
 
 /// Against the bit sets; the words are a cleverer way, shown for what is possible.
 const BOUND: f64 = 1.15;
@@ -27,10 +23,8 @@ const COLUMNS: [(&str, usize); 6] = [
 pub fn section(ratios: &mut Ratios) {
     let title = "table check and arbiter list, median time per accepted table";
     let section = Section::new(title, "nodes", &COLUMNS);
-    for size in SIZES {
-        let mut random = Random::new(size as u64);
-        let tables: Vec<Vec<u8>> = (0..TABLES).map(|_| accepted_of(&mut random, size)).collect();
-        let ratio = row(&section, &size.to_string(), &tables);
+    for size in TABLE_SIZES {
+        let ratio = row(&section, &size.to_string(), &tables(size));
         ratios.add(&format!("list, {size} nodes"), ratio, BOUND);
     }
     let ends = [

@@ -2,17 +2,14 @@
 
 use std::hint::black_box;
 
-use crate::designs::jobs;
+use crate::designs::{jobs, Begun, JOB_SIZES};
 use crate::measure::{medians, Section};
 use crate::ratios::Ratios;
 use compare_circuit::lent::Lent;
 use design::asm::assemble;
-use design::circuit::{self, run_budget, Ending};
-use design::list::tags_of;
+use design::circuit::{run_budget, Ending};
 use design::reading::read;
 use design::Tree;
-
-const SIZES: [usize; 3] = [16, 128, 512];
 
 /// Steps of each run but that of mult, which comes to its end.
 const BUDGET: u32 = 20_000;
@@ -35,8 +32,8 @@ const COLUMNS: [(&str, usize); 5] =
 pub fn section(ratios: &mut Ratios) {
     let section = Section::new("run on a budget, medians over all runs", "nodes", &COLUMNS);
     // They go on for longer than the budget, so that all runs have as many steps.
-    let by_size = SIZES.map(|size| jobs(size, BUDGET, |table, arguments| Job::new(table, &arguments, BUDGET)));
-    for (size, jobs) in SIZES.iter().zip(&by_size) {
+    let by_size = JOB_SIZES.map(|size| jobs(size, BUDGET, |table, arguments| Job::new(table, &arguments, BUDGET)));
+    for (size, jobs) in JOB_SIZES.iter().zip(&by_size) {
         let ratio = row(&section, &size.to_string(), jobs);
         ratios.add(&format!("run, a step at {size} nodes"), ratio, BOUND);
     }
@@ -45,7 +42,7 @@ pub fn section(ratios: &mut Ratios) {
     ratios.add("run, a step of mult", ratio, BOUND);
     let [small, .., large] = &by_size;
     let growth = growth(small, large);
-    let [small, .., large] = SIZES;
+    let [small, .., large] = JOB_SIZES;
     let label = format!("proved, a step at {large} over {small} nodes");
     println!("{label}: {growth:.2}");
     ratios.add(&label, growth, GROWTH_BOUND);
@@ -62,14 +59,9 @@ struct Job {
 }
 
 impl Job {
-    /// All three start alike, the first steps come out alike, and so does the whole run of the two that are timed.
+    /// The first steps of all three come out alike, and so does the whole run of the two that are timed.
     fn new(table: Vec<u8>, arguments: &[u32], budget: u32) -> Job {
-        let tags = tags_of(&table).expect("an accepted table");
-        let (mut own, mut proved, mut fast) = (circuit::State::zero(), Lent::zero(), fast::State::zero());
-        circuit::start(&table, &tags, arguments, &mut own).expect("a start");
-        assert_eq!(compare_circuit::start(&table, &tags, arguments, &mut proved), Ok(Ok(())));
-        assert_eq!(fast::start(&table, &tags, arguments, &mut fast), 0);
-        assert_eq!(proved.same_as(&own), Ok(()));
+        let Begun { tags, mut own, proved, fast } = Begun::new(&table, arguments);
         let few = budget.min(CHECKED);
         let told = run_budget(&table, &tags, &mut own, few);
         assert_eq!(compare_circuit::drive(&table, &tags, &mut proved.clone(), few), Ok(told));

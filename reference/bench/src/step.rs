@@ -3,14 +3,11 @@
 
 use std::hint::black_box;
 
-use crate::designs::jobs;
+use crate::designs::{jobs, Begun, JOB_SIZES};
 use crate::measure::{medians, Section};
 use crate::ratios::Ratios;
 use compare_circuit::lent::Lent;
 use design::circuit::{self, Answer};
-use design::list::tags_of;
-
-const SIZES: [usize; 3] = [16, 128, 512];
 
 /// Calls that are made one after the other, so that handing out a state for them hardly counts.
 const STEPS: u32 = 64;
@@ -28,7 +25,7 @@ const COLUMNS: [(&str, usize); 5] = [
 ];
 
 pub fn section(ratios: &mut Ratios) {
-    let by_size = SIZES.map(|size| (size, jobs(size, STEPS, Job::new)));
+    let by_size = JOB_SIZES.map(|size| (size, jobs(size, STEPS, Job::new)));
     let title = "one step, medians over steps from a start; table, tags and state are checked in each";
     let section = Section::new(title, "nodes", &COLUMNS);
     for (size, jobs) in &by_size {
@@ -58,16 +55,12 @@ struct Job {
 }
 
 impl Job {
-    /// All start alike, and each step has the same answer and leads to the same state.
+    /// The start on lent arrays is like the others', and each step has the same answer and leads to the same state.
     fn new(table: Vec<u8>, arguments: Vec<u32>) -> Job {
-        let tags = tags_of(&table).expect("an accepted table");
-        let (mut own, mut proved, mut fast) = (circuit::State::zero(), Lent::zero(), fast::State::zero());
-        circuit::start(&table, &tags, &arguments, &mut own).expect("a start");
-        assert_eq!(compare_circuit::start(&table, &tags, &arguments, &mut proved), Ok(Ok(())));
-        assert_eq!(fast::start(&table, &tags, &arguments, &mut fast), 0);
+        let Begun { tags, mut own, proved, fast } = Begun::new(&table, &arguments);
         let mut lent = fast::State::zero();
         assert_eq!(fast::start_lent(&table, &tags, &arguments, &mut lent.lend()), 0);
-        assert_eq!((proved.same_as(&own), &lent), (Ok(()), &fast));
+        assert_eq!(lent, fast);
         let mut nodes = Vec::new();
         let run = fast::run_watched(&table, &tags, &mut fast.clone(), STEPS, |node| nodes.push(node));
         assert_eq!(run, Ok((STEPS, fast::Ending::Spent)));

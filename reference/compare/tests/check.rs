@@ -174,9 +174,8 @@ fn every_byte_of_small_tables() -> Outcome {
 
 #[test]
 fn examples() -> Outcome {
-    let tables = examples::tables()?;
-    for bytes in &tables {
-        agree(bytes)?;
+    for bytes in examples::tables()? {
+        agree(&bytes)?;
     }
-    ensure(tables.len() >= 9, || format!("{} examples", tables.len()))
+    Ok(())
 }

@@ -305,11 +305,10 @@ fn named_designs() -> Outcome {
         let (_, _, found) = fill(&mut random, &bytes, wanted.len())?;
         ensure(found == wanted, || format!("{text}: {found:?}"))?;
     }
-    let tables = examples::tables()?;
-    for bytes in &tables {
-        agree_on_any(&mut seen, &mut random, bytes)?;
+    for bytes in examples::tables()? {
+        agree_on_any(&mut seen, &mut random, &bytes)?;
     }
-    ensure(tables.len() >= 9, || format!("{} examples", tables.len()))
+    Ok(())
 }
 
 #[test]

@@ -81,11 +81,7 @@ fn the_text_of_the_rules() -> Outcome {
 
 #[test]
 fn examples() -> Outcome {
-    let tables = examples::tables()?;
-    for bytes in &tables {
-        agree(bytes)?;
-    }
-    ensure(tables.len() >= 9, || format!("{} examples", tables.len()))
+    examples::tables()?.iter().try_for_each(|bytes| agree(bytes))
 }
 
 #[test]

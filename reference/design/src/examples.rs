@@ -3,11 +3,16 @@
 use std::fs;
 use std::path::PathBuf;
 
+use crate::difference::ensure;
+
+/// How many tables there have to be at least.
+const FEWEST: usize = 9;
+
 pub fn folder() -> PathBuf {
     PathBuf::from(env!("CARGO_MANIFEST_DIR")).join("../../examples")
 }
 
-/// The bytes of every example table.
+/// The bytes of every example table; too few of them are a difference.
 pub fn tables() -> Result<Vec<Vec<u8>>, String> {
     let said = |error: std::io::Error| error.to_string();
     let mut found = Vec::new();
@@ -17,5 +22,6 @@ pub fn tables() -> Result<Vec<Vec<u8>>, String> {
             found.push(fs::read(&path).map_err(said)?);
         }
     }
+    ensure(found.len() >= FEWEST, || format!("{} examples", found.len()))?;
     Ok(found)
 }
