@@ -239,11 +239,15 @@ module _ (t kin kids : List ℕ) (h : LinkedTo t (nodes t) kin kids) (rf : Roots
         (λ z. h .named n (i .0) (i .1) (h .handed .told n i ∙ z));
   }
 
-  all-kids : Kids t kids
-  all-kids = record { size = h .size; each = λ n i. h .left n i ∙ last-rank t linking n i }
+  all-kids : Kids t (set kids 0 0)
+  all-kids = record {
+    size = length-set kids 0 0 ∙ h .size;
+    none = getD-set-same kids 0 0 0 (omega (arith, h .size));
+    each = λ n i. getD-set-other kids 0 n 0 0 (λ e. omega (arith, e, i .0)) ∙ h .left n i ∙ last-rank t linking n i;
+  }
 
 pub all-linked : (t kin kids : List ℕ) (k : ℕ) → k ≡ nodes t → LinkedTo t k kin kids → RootsFit t (functions t)
-    → Linked t × Kin t kin × Kids t kids
+    → Linked t × Kin t kin × Kids t (set kids 0 0)
 all-linked t kin kids k e h rf =
     let all = subst (λ n. LinkedTo t n kin kids) e h in
     (linking t kin kids all rf, all-kin t kin kids all rf, all-kids t kin kids all rf)

@@ -1,45 +1,74 @@
--- the rules that the sweep looks up, by kind and by kind and extra
+-- the rules that the sweep looks up, by kind and by operation
 use Prim.Native.Nat.{ℕ, zero, suc, _+_, _-_, _*_, _/_, _%_, _≤_, _<_}
-use mathlib.Core.Bool.{Bool, true, false, _&&_}
+use mathlib.Core.Bool.{Bool, true, false, _&&_, _||_}
 use mathlib.Core.Path.{_≡_, refl, subst, sym, ap, ap₂, _∙_}
+use mathlib.Core.List.{List}
 use native.Mathlib.Omega.{arith}
 use native.Mathlib.Decide.{ℕ-discrete}
+use native.Mathlib.Numerals.{add-one}
 use lib.Dec.{T, eqb, leb, eqb→eq}
-use lib.ListN.{getD}
-use borrow.Author.Tests.{eq-eqb, ne-eqb, le-leb, leb-true}
+use lib.ListN.{getD, set}
+use borrow.Author.Tests.{eq-eqb, ne-eqb, le-leb}
+use Rattle.table.specs.declared.kinds.Counts.{Counts}
+use Rattle.table.specs.declared.kinds.Rule.{Rule}
 use Rattle.table.specs.Pick.{pick}
 use Rattle.table.specs.Find.{one, all}
-use Rattle.table.specs.Check.{fields, countsOf, operationCounts, within}
-use Rattle.table.specs.Sweep.{kindRules, wordRules, countRules, KindFits, tailReach}
+use Rattle.table.specs.Check.{between, among, fields, countsOf, operationCounts, within}
+use Rattle.table.specs.Decoded.{putFields, putCell}
+use Rattle.table.specs.Sweep.{ruleOf, ruleAt, packed, kindRules, operationRules, KindFits, tailReach}
 use Rattle.table.proofs.CellLaws.{by-eight}
 use Rattle.table.proofs.FindLaws.{all-passes}
 use Rattle.table.proofs.CountLaws.{counts-by}
 
-abbrev pub ruleOf : ℕ → ℕ → ℕ
-ruleOf k j = getD kindRules (8 * k + j) 0
+-- a list that is as told at each place below m, by trying them all
+module _ (l : List ℕ) (want : ℕ → ℕ) where
+  test : ℕ → Bool
+  test i = eqb (getD l (i - 1) 0) (want (i - 1))
 
-pub rule-param : (k : ℕ) → k < 8 → ruleOf k 1 ≡ one (eqb k 2)
-rule-param = by-eight (λ k. ruleOf k 1 ≡ one (eqb k 2)) refl refl refl refl refl refl refl refl
+  by-places : (m : ℕ) → T (all test m) → (i : ℕ) → i < m → getD l i 0 ≡ want i
+  unfolding test
+  by-places m h i b =
+      let back : i + 1 - 1 ≡ i = omega arith in
+      subst (λ j. getD l j 0 ≡ want j) back (eqb→eq (getD l (i + 1 - 1) 0) (want (i + 1 - 1))
+      (all-passes test m h (i + 1) (omega arith) (omega arith)))
 
-pub rule-call : (k : ℕ) → k < 8 → ruleOf k 2 ≡ one (eqb k 4)
-rule-call = by-eight (λ k. ruleOf k 2 ≡ one (eqb k 4)) refl refl refl refl refl refl refl refl
+pub rule-read : (k j : ℕ) → k < 8 → j < 8 → getD (kindRules 8) (8 * k + j) 0 ≡ ruleAt k j
+unfolding test all kindRules putFields putCell countsOf operationCounts
+rule-read k j a b =
+    let kind : (8 * k + j) / 8 ≡ k = omega arith in
+    let place : (8 * k + j) % 8 ≡ j = omega arith in
+    by-places (kindRules 8) (λ i. ruleAt (i / 8) (i % 8)) 64 tt (8 * k + j) (omega arith) ∙ ap₂ ruleAt kind place
 
-pub rule-reach : (k : ℕ) → k < 8 → ruleOf k 3 ≡ tailReach k
-rule-reach = by-eight (λ k. ruleOf k 3 ≡ tailReach k) refl refl refl refl refl refl refl refl
+pub operation-read : (e : ℕ) → e < 16 → getD (operationRules 11) e 0 ≡ packed (operationCounts e)
+unfolding test all operationRules operationCounts
+operation-read = by-places (operationRules 11) (λ e. packed (operationCounts e)) 16 tt
 
-pub rule-bound : (k : ℕ) → k < 8 → ruleOf k 4 ≡ one (eqb k 7)
-rule-bound = by-eight (λ k. ruleOf k 4 ≡ one (eqb k 7)) refl refl refl refl refl refl refl refl
+-- one kind more, and one operation
+pub rules-more : (k : ℕ) (l : List ℕ) (r : Rule) (x : ℕ) → l ≡ kindRules k → r ≡ ruleOf k → x ≡ packed (countsOf k 11 0)
+    → (let low = set (set (set (set l (8 * k + 0) (r .extras)) (8 * k + 1) (r .parameter)) (8 * k + 2) (r .call)) (8 * k + 3) (r .reach) in
+    set (set (set (set low (8 * k + 4) (r .bound)) (8 * k + 5) (r .primitive)) (8 * k + 6) (r .words)) (8 * k + 7) x ≡ kindRules (k + 1))
+unfolding kindRules putFields putCell
+rules-more k l r x el er ex = rw (el, er, ex) (sym (ap kindRules (add-one k)))
 
-pub rule-let : (k : ℕ) → k < 8 → ruleOf k 5 ≡ one (eqb k 6)
-rule-let = by-eight (λ k. ruleOf k 5 ≡ one (eqb k 6)) refl refl refl refl refl refl refl refl
+pub operations-more : (k : ℕ) (l : List ℕ) (x : ℕ) → l ≡ operationRules k → x ≡ packed (operationCounts k)
+    → set l k x ≡ operationRules (k + 1)
+unfolding operationRules
+operations-more k l x el ex = rw (add-one, el, ex)
 
-pub rule-below : (k : ℕ) → k < 8 → ruleOf k 0 ≤ 11
-rule-below = by-eight (λ k. ruleOf k 0 ≤ 11) (omega arith) (omega arith) (omega arith) (omega arith) (omega arith) (omega arith)
-    (omega arith) (omega arith)
+-- what is left of the kinds below 8, as a match leaves it
+abbrev Not : ℕ → ℕ → Type 0
+Not k j = k ≡ j → ⊥
 
-pub rule-word : (k : ℕ) → k < 8 → getD wordRules k 0 ≤ 4294967295
-rule-word = by-eight (λ k. getD wordRules k 0 ≤ 4294967295) (omega arith) (omega arith) (omega arith) (omega arith) (omega arith)
-    (omega arith) (omega arith) (omega arith)
+below-five : (k : ℕ) → k < 8 → Not k 5 → Not k 6 → Not k 7 → k < 5
+below-five k b e f g = omega arith
+
+below-one : (k : ℕ) → k < 5 → Not k 1 → Not k 2 → Not k 3 → Not k 4 → k ≡ 0
+below-one k b e f g h = omega arith
+
+pub no-kind : (k : ℕ) → k < 8
+    → ((((((Unit {0} × Not k 1) × Not k 2) × Not k 3) × Not k 4) × Not k 5) × Not k 6) × Not k 7 → k ≡ 0
+no-kind k b r = below-one k (below-five k b (r .0 .0 .1) (r .0 .1) (r .1))
+    (r .0 .0 .0 .0 .0 .0 .1) (r .0 .0 .0 .0 .0 .1) (r .0 .0 .0 .0 .1) (r .0 .0 .0 .1)
 
 pub reach-most : (k : ℕ) → tailReach k ≤ 2048
 reach-most k = go (eqb k 5) (eqb k 6)
@@ -70,15 +99,15 @@ flag-most x (suc (suc y)) m h f = absurd (omega arith)
 pub flag-times : (x y : ℕ) → y ≤ 1 → x * y ≤ x
 flag-times x y h = flag-most x y x h (λ e. omega arith)
 
-pub flag-place : (c w F : ℕ) → c ≤ 1 → (c ≡ 1 → (1 ≤ w) × (w ≤ F)) → c * (4 * w) ≤ 4 * F
+pub flag-place : (c w F : ℕ) → c ≤ 1 → (c ≡ 1 → (1 ≤ w) × (w ≤ F)) → c * w ≤ F
 flag-place zero w F h f = omega arith
 flag-place (suc zero) w F h f = omega (arith, f refl .1)
 flag-place (suc (suc c)) w F h f = absurd (omega arith)
 
 -- the tests that are looked up are those of the kind
 abbrev Told : ℕ → Type 0
-Told k = (e w o p q : ℕ) → 1 ≤ o → p ≤ 8 → q ≤ 1 → e < p * ruleOf k 1 + ruleOf k 0 → ruleOf k 2 ≤ w
-    → w ≤ (o + q - 1) * ruleOf k 2 + getD wordRules k 0 → KindFits k e w o p q
+Told k = (e w o p q : ℕ) → 1 ≤ o → p ≤ 8 → q ≤ 1 → e < p * ruleAt k 1 + ruleAt k 0 → ruleAt k 2 ≤ w
+    → w ≤ (o + q - 1) * ruleAt k 2 + ruleAt k 6 * 4294967295 → KindFits k e w o p q
 
 -- a node that is neither a call nor a parameter
 neither : (k e w o p q : ℕ) → (k ≡ 4 → ⊥) → (k ≡ 2 → ⊥) → fields k e w 0 ≡ true → e < 16 → KindFits k e w o p q
@@ -120,42 +149,62 @@ fits-rules = by-eight Told
     none : (x : ℕ) → x ≤ 0 → eqb x 0 ≡ true
     none x h = eq-eqb x 0 (omega arith)
 
-pub fits-told : (k e w o p q a b c l : ℕ) → k < 8 → a ≡ ruleOf k 1 → b ≡ ruleOf k 0 → c ≡ ruleOf k 2 → l ≡ getD wordRules k 0
-    → 1 ≤ o → p ≤ 8 → q ≤ 1 → e < p * a + b → c ≤ w → w ≤ (o + q - 1) * c + l → KindFits k e w o p q
+pub fits-told : (k e w o p q a b c l : ℕ) → k < 8 → a ≡ ruleAt k 1 → b ≡ ruleAt k 0 → c ≡ ruleAt k 2 → l ≡ ruleAt k 6
+    → 1 ≤ o → p ≤ 8 → q ≤ 1 → e < p * a + b → c ≤ w → w ≤ (o + q - 1) * c + l * 4294967295 → KindFits k e w o p q
 fits-told k e w o p q a b c l i ea eb ec el j m n x y z =
     fits-rules k i e w o p q j m n (rw (ea, eb) at x) (rw ec at y) (rw (ec, el) at z)
 
--- the number of children, by kind and extra
-module _ (of : ℕ → ℕ) (want : ℕ → ℕ → ℕ) where
-  test : ℕ → Bool
-  test i = eqb (of (getD countRules (i - 1) 0)) (want ((i - 1) / 16) ((i - 1) % 16))
+-- so few children that two numbers of them are one
+abbrev pub Few : Counts → Type 0
+Few c = (c .low ≤ 9) × (c .high ≤ 9)
 
-  by-rows : T (all test 128) → (k e : ℕ) → k < 8 → e < 16 → of (getD countRules (16 * k + e) 0) ≡ want k e
-  unfolding test
-  by-rows h k e a b =
-      let j = 16 * k + e in
-      let back : j + 1 - 1 ≡ j = omega arith in
-      subst (λ i. of (getD countRules i 0) ≡ want (i / 16) (i % 16)) back
-      (eqb→eq (of (getD countRules (j + 1 - 1) 0)) (want ((j + 1 - 1) / 16) ((j + 1 - 1) % 16))
-      (all-passes test 128 h (j + 1) (omega arith) (omega arith)))
-      ∙ ap₂ want (omega arith) (omega arith)
-
-count-low : (k e : ℕ) → k < 8 → e < 16 → getD countRules (16 * k + e) 0 % 256 ≡ countsOf k e 0 .low
-unfolding test all countsOf operationCounts
-count-low = by-rows (λ x. x % 256) (λ k e. countsOf k e 0 .low) tt
-
-count-high : (k e : ℕ) → k < 8 → e < 16 → getD countRules (16 * k + e) 0 / 256 ≡ countsOf k e 0 .high
-unfolding test all countsOf operationCounts
-count-high = by-rows (λ x. x / 256) (λ k e. countsOf k e 0 .high) tt
-
-pub count-narrow : (k e : ℕ) → k < 8 → e < 16 → getD countRules (16 * k + e) 0 / 256 ≤ 255
-unfolding test all
-count-narrow k e a b = leb-true _ 255 (few (leb (getD countRules (16 * k + e) 0 / 256) 255)
-    (by-rows (λ x. one (leb (x / 256) 255)) (λ k e. 1) tt k e a b))
+pub operation-few : (e : ℕ) → Few (operationCounts e)
+unfolding operationCounts
+operation-few e = go (leb e 4 || among 8 9 e) (among 5 7 e) (eqb e 10)
   where
-    few : (b : Bool) → one b ≡ 1 → b ≡ true
-    few true h = refl
-    few false h = absurd (omega arith)
+    go : (a b c : Bool) → Few (pick a (between 2 2) (pick b (between 1 1) (pick c (between 1 8) (between 0 0))))
+    go true b c = (omega arith, omega arith)
+    go false true c = (omega arith, omega arith)
+    go false false true = (omega arith, omega arith)
+    go false false false = (omega arith, omega arith)
+
+pub counts-few : (k e : ℕ) → Few (countsOf k e 0)
+unfolding countsOf
+counts-few k e = go (eqb k 3) (eqb k 4) (eqb k 5) (eqb k 6)
+  where
+    go : (a b c d : Bool)
+        → Few (pick a (operationCounts e) (pick b (between 0 0) (pick c (between 3 3) (pick d (between 2 9) (between 0 0)))))
+    go true b c d = operation-few e
+    go false true c d = (omega arith, omega arith)
+    go false false true d = (omega arith, omega arith)
+    go false false false true = (omega arith, omega arith)
+    go false false false false = (omega arith, omega arith)
+
+-- every number of a kind is small
+pub rule-small : (k j : ℕ) → ruleAt k j ≤ 4097
+rule-small k j =
+    let eleven : 11 ≤ 4097 = omega arith in
+    let reach : ruleOf k .reach ≤ 4097 = omega (arith, reach-most k, one-most (eqb k 6)) in
+    let counts : packed (countsOf k 11 0) ≤ 4097 = omega (arith, counts-few k 11) in
+    under (eqb j 0) (under (eqb k 3) eleven (flag (eqb k 1 || among 4 7 k))) (under (eqb j 1) (flag (eqb k 2))
+    (under (eqb j 2) (flag (eqb k 4)) (under (eqb j 3) reach (under (eqb j 4) (flag (eqb k 7)) (under (eqb j 5) (flag (eqb k 3))
+    (under (eqb j 6) (flag (eqb k 1 || eqb k 7)) counts))))))
+  where
+    under : (b : Bool) {x y : ℕ} → x ≤ 4097 → y ≤ 4097 → pick b x y ≤ 4097
+    under true f g = f
+    under false f g = g
+
+    flag : (b : Bool) → one b ≤ 4097
+    flag b = omega (arith, one-most b)
+
+-- a primitive has its operation's counts
+counts-packed : (k e : ℕ) → packed (countsOf k 11 0) + packed (operationCounts e) * one (eqb k 3) ≡ packed (countsOf k e 0)
+unfolding countsOf operationCounts
+counts-packed k e = go (ℕ-discrete k 3)
+  where
+    go : Dec (k ≡ 3) → packed (countsOf k 11 0) + packed (operationCounts e) * one (eqb k 3) ≡ packed (countsOf k e 0)
+    go (yes z) = rw z (omega arith)
+    go (no z) = rw (ne-eqb k 3 z) (omega arith)
 
 -- a call has its callee's parameters more
 counts-more : (k e p : ℕ)
@@ -173,10 +222,17 @@ counts-more k e p = go (ℕ-discrete k 4)
         (omega (arith, ap (λ c. c .low) s, n), omega (arith, ap (λ c. c .high) s, n))
 
 -- 7 at a node, from what was looked up
-pub count-told : (k e p c j : ℕ) → k < 8 → e < 16 → c ≡ one (eqb k 4)
-    → (let x = getD countRules (16 * k + e) 0 in
-    (leb (x % 256 + p * c) j && leb j (x / 256 + p * c)) ≡ within (countsOf k e p) j)
-count-told k e p c j a b ec =
-    let m = counts-more k e p in
-    ap₂ (λ x y. leb x j && leb j y)
-    (ap₂ (λ x y. x + p * y) (count-low k e a b) ec ∙ sym (m .0)) (ap₂ (λ x y. x + p * y) (count-high k e a b) ec ∙ sym (m .1))
+module _ (k e x : ℕ) (ex : x ≡ packed (countsOf k 11 0) + packed (operationCounts e) * one (eqb k 3)) where
+  pub count-few : x / 256 ≤ 9
+  count-few = omega (arith, ex ∙ counts-packed k e, counts-few k e)
+
+  pub count-told : (p c j : ℕ) → c ≡ one (eqb k 4)
+      → (leb (x % 256 + p * c) j && leb j (x / 256 + p * c)) ≡ within (countsOf k e p) j
+  count-told p c j ec =
+      let m = counts-more k e p in
+      let q = ex ∙ counts-packed k e in
+      let f = counts-few k e in
+      let low : x % 256 ≡ countsOf k e 0 .low = omega (arith, q, f) in
+      let high : x / 256 ≡ countsOf k e 0 .high = omega (arith, q, f) in
+      ap₂ (λ x y. leb x j && leb j y)
+      (ap₂ (λ x y. x + p * y) low ec ∙ sym (m .0)) (ap₂ (λ x y. x + p * y) high ec ∙ sym (m .1))

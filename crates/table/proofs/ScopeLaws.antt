@@ -13,12 +13,12 @@ use Rattle.table.specs.Pick.{pick}
 use Rattle.table.specs.Find.{one}
 use Rattle.table.specs.Bytes.{kind, word, next}
 use Rattle.table.specs.Naming.{parent, underLast, definiens, inScope}
-use Rattle.table.specs.Sweep.{around, inner, Encloses, Outward, boundFits}
+use Rattle.table.specs.Sweep.{around, isLet, Encloses, Outward, boundFits}
 use Rattle.table.proofs.FindLaws.{both, either, pair, orl, orr, same}
-use Rattle.table.proofs.Tests.{true-T, never}
+use Rattle.table.proofs.Tests.{true-T, never, and-no}
 use Rattle.table.proofs.Family.{parent-lower}
 use Rattle.table.proofs.Scopes.{under-step, under-zero}
-use Rattle.table.proofs.SiftLaws.{around-step, around-none, around-lower}
+use Rattle.table.proofs.SiftLaws.{around-step, around-none}
 
 module _ (t : List ℕ) where
   nowhere : {A : Type 0} (a n : ℕ) → n ≡ 0 → T (underLast t a n) → A
@@ -79,14 +79,13 @@ module _ (t : List ℕ) where
   pub first-around : (n : ℕ) → Encloses t (around t n) n
   first-around n = around-under n n (omega arith)
 
-  -- a let is what a last child of it has around it, and nothing else is
-  pub is-let : (p : ℕ) → 1 ≤ p → inner t p ≡ p → kind t p ≡ 6
-  unfolding inner
-  is-let p i e = go (ℕ-discrete (kind t p) 6)
+  -- what hands down that it is a let is one
+  pub is-let : (p : ℕ) → (one (isLet t p) ≡ 0 → ⊥) → kind t p ≡ 6
+  is-let p e = go (ℕ-discrete (kind t p) 6)
     where
       go : Dec (kind t p ≡ 6) → kind t p ≡ 6
       go (yes k) = k
-      go (no k) = absurd (omega (arith, sym e ∙ ap (λ b. pick b p (around t p)) (ne-eqb (kind t p) 6 k), around-lower t p i))
+      go (no k) = absurd (e (ap (λ b. one (not (eqb p 0) && b)) (ne-eqb (kind t p) 6 k) ∙ ap one (and-no (not (eqb p 0)))))
 
   pub in-scope : (d n p : ℕ) → p ≡ parent t d → (p ≡ 0 → ⊥) → kind t p ≡ 6 → (next t d ≡ 0 → ⊥) → T (underLast t p n) → T (inScope t d n)
   unfolding inScope definiens

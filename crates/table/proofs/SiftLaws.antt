@@ -1,7 +1,7 @@
 -- what a node hands down: whether its children are in tail position, and what is around them
-use Prim.Native.Nat.{ℕ, zero, suc, _+_, _-_, _*_, _≤_, _<_}
+use Prim.Native.Nat.{ℕ, zero, suc, _+_, _-_, _*_, _/_, _%_, _≤_, _<_}
 use mathlib.Core.Bool.{Bool, true, false, _&&_, _||_, not}
-use mathlib.Core.Path.{_≡_, refl, sym, ap, ap₂, _∙_}
+use mathlib.Core.Path.{_≡_, refl, sym, ap, _∙_}
 use mathlib.Core.List.{List}
 use native.Mathlib.Omega.{arith}
 use native.Mathlib.Decide.{ℕ-discrete}
@@ -14,8 +14,7 @@ use Rattle.table.specs.Bytes.{kind, extra, word, params, first, next}
 use Rattle.table.specs.Naming.{namer, owner, parent, tailChild, tail, chain, children}
 use Rattle.table.specs.Check.{countsOf, within, counted}
 use Rattle.table.specs.Working.{IsNode, Framed, Linked}
-use Rattle.table.specs.Sweep.{rank, around, inner, tailReach, tailFrom, KindFits, NodeFits, Down, Sifts}
-use Rattle.table.specs.declared.sweep.Sifting.{Sifting}
+use Rattle.table.specs.Sweep.{rank, around, tailReach, tailFrom, isLet, downOf, KindFits}
 use Rattle.table.proofs.CountLaws.{counts-by}
 use Rattle.table.proofs.FindLaws.{both, back-step}
 use Rattle.table.proofs.Tests.{true-T, and-no, and-yes}
@@ -23,6 +22,7 @@ use Rattle.table.proofs.Links.{first-named}
 use Rattle.table.proofs.Family.{parent-lower, parent-top, parent-down, parent-node, tail-top, tail-down}
 use Rattle.table.proofs.Tree.{chain-none, chain-some}
 use Rattle.table.proofs.HandLaws.{rank-step, rank-small}
+use Rattle.table.proofs.RuleLaws.{one-most}
 
 module _ (t : List ℕ) where
   pub around-step : (n : ℕ) → 1 ≤ n → around t n
@@ -30,29 +30,9 @@ module _ (t : List ℕ) where
   unfolding around
   around-step = back-step (parent t) (λ n r. pick (eqb (kind t (parent t n)) 6 && eqb (next t n) 0) (parent t n) r) 0 (parent-lower t)
 
-  -- what is around a child
-  pub around-down : (n : ℕ) → 1 ≤ n → pick (eqb (next t n) 0) (inner t (parent t n)) (around t (parent t n)) ≡ around t n
-  unfolding inner
-  around-down n i = go (eqb (kind t (parent t n)) 6) (eqb (next t n) 0) (around-step n i)
-    where
-      go : (a b : Bool) → around t n ≡ pick (a && b) (parent t n) (around t (parent t n))
-          → pick b (pick a (parent t n) (around t (parent t n))) (around t (parent t n)) ≡ around t n
-      go true true e = sym e
-      go true false e = sym e
-      go false true e = sym e
-      go false false e = sym e
-
   pub around-none : around t 0 ≡ 0
   unfolding around back backBy
   around-none = refl
-
-  pub inner-none : inner t 0 ≡ 0
-  unfolding inner
-  inner-none = go (eqb (kind t 0) 6)
-    where
-      go : (b : Bool) → pick b 0 (around t 0) ≡ 0
-      go true = refl
-      go false = around-none
 
   around-below : (k n : ℕ) → n ≤ k → 1 ≤ n → around t n < n
   around-below zero n h i = absurd (omega arith)
@@ -70,24 +50,46 @@ module _ (t : List ℕ) where
   pub around-lower : (n : ℕ) → 1 ≤ n → around t n < n
   around-lower n i = around-below n n (omega arith) i
 
-  -- what is around a last child of n
-  pub inner-told : (n m f : ℕ) → m ≡ around t n → 1 ≤ n → f ≡ one (eqb (kind t n) 6) → m + (n - m) * f ≡ inner t n
-  unfolding inner
-  inner-told n m f e i ef = ap (λ x. m + (n - m) * x) ef ∙ go (eqb (kind t n) 6)
+  pub around-most : (n : ℕ) → around t n ≤ n
+  around-most n = go (ℕ-discrete n 0)
     where
-      go : (b : Bool) → m + (n - m) * one b ≡ pick b n (around t n)
-      go true = omega (arith, e, around-lower n i)
-      go false = omega (arith, e)
+      go : Dec (n ≡ 0) → around t n ≤ n
+      go (yes z) = omega (arith, ap (around t) z, around-none)
+      go (no z) = omega (arith, around-lower n (omega arith))
 
-  -- from where the children of n are in tail position
-  pub from-told : (n r q : ℕ) → 1 ≤ n → r ≡ tailReach (kind t n) → q ≡ one (tail t n) → r + 2048 - 2048 * q ≡ tailFrom t n
-  unfolding tailFrom
-  from-told n r q i er eq = rw (ne-eqb n 0 (λ z. omega (arith, z, i))) (ap₂ (λ x y. x + 2048 - 2048 * y) er eq
-      ∙ go (tailReach (kind t n)) (tail t n))
+  -- what is around a child, from what its parent handed down
+  pub scope-told : (n o p e l : ℕ) → 1 ≤ n → o ≡ around t (parent t n) → p ≡ parent t n → e ≡ one (eqb (next t n) 0)
+      → l ≡ one (isLet t (parent t n)) → o + (p - o) * (e * l) ≡ around t n
+  scope-told n o p e l i eo ep ee el = rw (ee, el) (go (ℕ-discrete (parent t n) 0))
     where
-      go : (x : ℕ) (b : Bool) → x + 2048 - 2048 * one b ≡ x + pick b 0 2048
-      go x true = omega arith
-      go x false = omega arith
+      most : o ≤ p
+      most = omega (arith, eo, ep, around-most (parent t n))
+
+      by : (a b : Bool) → around t n ≡ pick (a && b) (parent t n) (around t (parent t n)) → o + (p - o) * (one b * one a) ≡ around t n
+      by true true q = omega (arith, q, ep, most)
+      by true false q = omega (arith, q, eo)
+      by false true q = omega (arith, q, eo)
+      by false false q = omega (arith, q, eo)
+
+      go : Dec (parent t n ≡ 0) → o + (p - o) * (one (eqb (next t n) 0) * one (isLet t (parent t n))) ≡ around t n
+      go (yes z) = rw (eq-eqb (parent t n) 0 z) (by false (eqb (next t n) 0) (top (eqb (kind t (parent t n)) 6 && eqb (next t n) 0)
+          (around-step n i)))
+        where
+          top : (b : Bool) → around t n ≡ pick b (parent t n) (around t (parent t n)) → around t n ≡ around t (parent t n)
+          top true q = omega (arith, q, z, most, eo, ep)
+          top false q = q
+      go (no z) = rw (ne-eqb (parent t n) 0 z) (by (eqb (kind t (parent t n)) 6) (eqb (next t n) 0) (around-step n i))
+
+  -- what a node hands down, by its kind, what is around it and whether it is in tail position
+  pub down-told : (n s k q : ℕ) → 1 ≤ n → s ≡ around t n → k ≡ kind t n → q ≡ one (tail t n)
+      → s + 1024 * (2 * tailReach k + one (eqb k 6) + 4096 - 4096 * q) ≡ downOf t n
+  unfolding downOf tailFrom
+  down-told n s k q i es ek eq = rw (es, ek, eq, ne-eqb n 0 (λ z. omega (arith, z, i)))
+      (go (around t n) (tailReach (kind t n)) (one (eqb (kind t n) 6)) (tail t n))
+    where
+      go : (s r l : ℕ) (b : Bool) → s + 1024 * (2 * r + l + 4096 - 4096 * one b) ≡ s + 1024 * l + 2048 * (r + pick b 0 2048)
+      go s r l true = omega arith
+      go s r l false = omega arith
 
   rank-some : (n : ℕ) → 1 ≤ n → 1 ≤ rank t n
   rank-some n i = go (eqb (namer t n) 0) (eqb (first t (namer t n)) n) (rank-step t n i)
@@ -97,13 +99,31 @@ module _ (t : List ℕ) where
       go false true e = omega arith
       go false false e = omega arith
 
+-- what is told from the number that n hands down
+module _ (t : List ℕ) (n : ℕ) (small : n ≤ 512) (w : ℕ) (e : w ≡ downOf t n) where
+  pub down-around : w % 1024 ≡ around t n
+  unfolding downOf
+  down-around = omega (arith, e, around-most t n, one-most (isLet t n))
+
+  pub down-let : w / 1024 % 2 ≡ one (isLet t n)
+  unfolding downOf
+  down-let = omega (arith, e, around-most t n, one-most (isLet t n))
+
+  pub down-from : w / 2048 ≡ tailFrom t n
+  unfolding downOf
+  down-from = omega (arith, e, around-most t n, one-most (isLet t n))
+
+pub down-none : (t : List ℕ) → downOf t 0 ≡ 0
+unfolding downOf tailFrom
+down-none t = omega (arith, around-none t)
+
 -- a child is in tail position where its rank reaches its parent's number
 module _ (t : List ℕ) (fr : Framed t) (lk : Linked t) (n : ℕ) (i : IsNode t n) where
   abbrev p : ℕ
   p = parent t n
 
   abbrev reach : ℕ
-  reach = rank t n + pick (eqb (next t n) 0) 1024 0
+  reach = rank t n + 1024 * one (eqb (next t n) 0)
 
   -- first or later
   first-rank : first t p ≡ n → (p ≡ 0 → ⊥) → rank t n ≡ 1
@@ -140,7 +160,7 @@ module _ (t : List ℕ) (fr : Framed t) (lk : Linked t) (n : ℕ) (i : IsNode t 
   far : reach ≤ 1536
   far = by (eqb (next t n) 0)
     where
-      by : (b : Bool) → rank t n + pick b 1024 0 ≤ 1536
+      by : (b : Bool) → rank t n + 1024 * one b ≤ 1536
       by true = omega (arith, small)
       by false = omega (arith, small)
 
@@ -194,23 +214,8 @@ counted-told t n k e w a j ek ee ew ej ea h =
     same : within (countsOf k e a) j ≡ counted t n
     same = ap (λ c. within c j) (counts-by k e a (params t w) ea) ∙ rw (ek, ee, ew, ej)
 
--- all of a node, from what was read of it
-module _ (t : List ℕ) (n : ℕ) (i : 1 ≤ n) (k : ℕ) (ek : k ≡ kind t n) (scope tl : ℕ) (es : scope ≡ around t n) (et : tl ≡ one (tail t n))
-    (r : Sifting) (d : Down k n scope tl r) where
-  pub sifts-told : NodeFits t n → Sifts t n r
-  sifts-told f = record {
-    fits = f;
-    outer = d .outer ∙ es;
-    inner = d .inner ∙ inner-told t n scope _ es i (ap (λ x. one (eqb x 6)) ek);
-    from = d .from ∙ from-told t n _ tl i (ap tailReach ek) et;
-    bound = d .bound ∙ ap (λ x. one (eqb x 7)) ek;
-  }
-
+-- and the rest of 5 to 9
 pub fits-here : (t : List ℕ) (n k e w o p q : ℕ) → k ≡ kind t n → e ≡ extra t n → w ≡ word t n → o ≡ owner t n → p ≡ params t o
     → q ≡ one (tail t n) → KindFits k e w o p q
     → KindFits (kind t n) (extra t n) (word t n) (owner t n) (params t (owner t n)) (one (tail t n))
 fits-here t n k e w o p q ek ee ew eo ep eq f = rw (sym ek, sym ee, sym ew, sym eq, sym eo, sym ep) f
-
-pub pick-most : (b : Bool) → pick b 1024 0 ≤ 1024
-pick-most true = omega arith
-pick-most false = omega arith

@@ -1,11 +1,13 @@
 -- what the parts of the sweep ask of each other, no part of what a reader must believe: in four loops the sweep tells that a table is
 -- accepted, and leaves what it does not pass to the check
-use Prim.Native.Nat.{ℕ, _+_, _-_, _*_, _%_, _≤_, _<_}
+use Prim.Native.Nat.{ℕ, zero, suc, _+_, _*_, _%_, _≤_, _<_}
 use mathlib.Core.Bool.{Bool, true, _&&_, _||_, not}
 use mathlib.Core.Path.{_≡_}
-use mathlib.Core.List.{List, [], _∷_}
+use mathlib.Core.List.{List}
 use lib.Dec.{T, eqb}
-use lib.ListN.{length, getD, set}
+use lib.ListN.{length, getD, set, replicate}
+use Rattle.table.specs.declared.kinds.Counts.{Counts}
+use Rattle.table.specs.declared.kinds.Rule.{Rule}
 use Rattle.table.specs.declared.sweep.Sifting.{Sifting}
 use Rattle.table.specs.declared.sweep.Residue.{Residue}
 use Rattle.table.specs.declared.sweep.Residue.the-variants.{Passed, Failed}
@@ -13,7 +15,8 @@ use Rattle.table.specs.Pick.{pick, Range}
 use Rattle.table.specs.Bytes.{functions, nodes, params, root, kind, extra, word, first, next}
 use Rattle.table.specs.Find.{one, total, highest, back}
 use Rattle.table.specs.Naming.{names, namer, owner, parent, tail, underLast, inScope, children}
-use Rattle.table.specs.Check.{rootFits, recordFits, fields, counted}
+use Rattle.table.specs.Check.{among, rootFits, recordFits, fields, operationCounts, countsOf, counted}
+use Rattle.table.specs.Decoded.{putFields}
 use Rattle.table.specs.Working.{IsNode, At, Linked}
 
 -- a node's place among its siblings, from 1; a root's is 1
@@ -75,17 +78,14 @@ pub record Kin (t kin : List ℕ) : Type 0 where
   pub size : length kin ≡ 513
   pub each : (n : ℕ) → IsNode t n → getD kin n 0 ≡ kinOf t n
 
-pub record Kids (t kids : List ℕ) : Type 0 where
-  pub size : length kids ≡ 513
-  pub each : (n : ℕ) → IsNode t n → getD kids n 0 ≡ length (children t n)
+pub record Kids (t offspring : List ℕ) : Type 0 where
+  pub size : length offspring ≡ 513
+  pub none : getD offspring 0 0 ≡ 0
+  pub each : (n : ℕ) → IsNode t n → getD offspring n 0 ≡ length (children t n)
 
 -- the innermost let whose body is or contains n, 0 if none
 unfoldable pub around : List ℕ → ℕ → ℕ
 around t n = back (parent t) (λ n r. pick (eqb (kind t (parent t n)) 6 && eqb (next t n) 0) (parent t n) r) 0 n
-
--- what a last child of n has around it
-unfoldable pub inner : List ℕ → ℕ → ℕ
-inner t n = pick (eqb (kind t n) 6) n (around t n)
 
 -- a child of p is in tail position if its rank, with 1024 more for a last child, reaches this; an if has three children, so that no
 -- first child of it is the last
@@ -94,6 +94,13 @@ tailReach k = pick (eqb k 5) 2 (pick (eqb k 6) 1025 2048)
 
 unfoldable pub tailFrom : List ℕ → ℕ → ℕ
 tailFrom t p = pick (eqb p 0) 0 (tailReach (kind t p) + pick (tail t p) 0 2048)
+
+-- what n hands down to its children, in one number: the innermost let around it, whether it is a let, and tailFrom; 0 is no node
+abbrev pub isLet : List ℕ → ℕ → Bool
+isLet t n = not (eqb n 0) && eqb (kind t n) 6
+
+unfoldable pub downOf : List ℕ → ℕ → ℕ
+downOf t n = around t n + 1024 * one (isLet t n) + 2048 * tailFrom t n
 
 -- what a node's kind asks of extra and word, with 6, 8 and 9 for calls and parameters: the function's number and parameters, and whether
 -- the node is in tail position, as a number
@@ -112,10 +119,9 @@ pub record NodeFits (t : List ℕ) (n : ℕ) : Type 0 where
 unfoldable pub boundFits : List ℕ → ℕ → Bool
 boundFits t n = not (eqb (kind t n) 7) || inScope t (word t n) n
 
--- what is around each node, at hand for the bounds
-pub record Arounds (t outers inners : List ℕ) : Type 0 where
-  pub outer-told : (n : ℕ) → n ≤ nodes t → getD outers n 0 ≡ around t n
-  pub inner-told : (n : ℕ) → n ≤ nodes t → getD inners n 0 ≡ inner t n
+-- what each node hands down, at hand for the bounds
+pub record HandedDown (t offspring : List ℕ) : Type 0 where
+  pub told : (n : ℕ) → n ≤ nodes t → getD offspring n 0 ≡ downOf t n
 
 -- n is in the body of let a; of no let nothing is said
 abbrev pub Encloses : (t : List ℕ) (a n : ℕ) → Type 0
@@ -136,67 +142,64 @@ pub record BoundsTo (t : List ℕ) (k : ℕ) (bounds : List ℕ) (count : ℕ) :
   pub all : ((i : ℕ) → i < count → T (boundFits t (getD bounds i 0))) → (n : ℕ) → 1 ≤ n → n ≤ k → T (boundFits t n)
 
 -- node n, with its kin and the number of its children, and what its parent handed down
-pub record Siftable (t : List ℕ) (base n own kids from inside outer : ℕ) : Type 0 where
+pub record Siftable (t : List ℕ) (base n own kids inherited : ℕ) : Type 0 where
   pub place : At t base n
   pub links : Linked t
   pub roots : RootsFit t (functions t)
   pub kin : own ≡ kinOf t n
   pub children : kids ≡ length (children t n)
   pub parent-counted : (parent t n ≡ 0 → ⊥) → T (counted t (parent t n))
-  pub from-told : from ≡ tailFrom t (parent t n)
-  pub inner-told : inside ≡ inner t (parent t n)
-  pub outer-told : outer ≡ around t (parent t n)
+  pub handed : inherited ≡ downOf t (parent t n)
 
--- what a node hands down, by its kind, what is around it and whether it is in tail position
-pub record Down (kind n scope tail : ℕ) (r : Sifting) : Type 0 where
-  pub outer : r .outer ≡ scope
-  pub inner : r .inner ≡ scope + (n - scope) * one (eqb kind 6)
-  pub from : r .from ≡ tailReach kind + 2048 - 2048 * tail
-  pub bound : r .bound ≡ one (eqb kind 7)
-
--- what sifting a node tells: where it passed, what is around it, around its last child, from where its children are in tail position, and
--- whether it is a bound
+-- what sifting a node tells: where it passed, what it hands down and whether it is a bound
 pub record Sifts (t : List ℕ) (n : ℕ) (r : Sifting) : Type 0 where
   pub fits : NodeFits t n
-  pub outer : r .outer ≡ around t n
-  pub inner : r .inner ≡ inner t n
-  pub from : r .from ≡ tailFrom t n
+  pub down : r .down ≡ downOf t n
   pub bound : r .bound ≡ one (eqb (kind t n) 7)
 
 -- all nodes sifted, and their bounds put aside
-pub record Sifted (t outers inners bounds : List ℕ) (count : ℕ) : Type 0 where
+pub record Sifted (t offspring bounds : List ℕ) (count : ℕ) : Type 0 where
   pub fits : (n : ℕ) → IsNode t n → NodeFits t n
-  pub arounds : Arounds t outers inners
+  pub handed : HandedDown t offspring
   pub bounded : BoundsTo t (nodes t) bounds count
 
-abbrev pub SiftedBy : (t outers inners bounds : List ℕ) → Residue → Type 0
-SiftedBy t outers inners bounds (Passed count) = Sifted t outers inners bounds count
-SiftedBy t outers inners bounds Failed = Unit {0}
+abbrev pub SiftedBy : (t offspring bounds : List ℕ) → Residue → Type 0
+SiftedBy t offspring bounds (Passed count) = Sifted t offspring bounds count
+SiftedBy t offspring bounds Failed = Unit {0}
 
--- by kind, eight numbers: what extra is below, whether it is a parameter, whether a call; tailReach; whether it is a bound, whether a let
-abbrev pub kindRules : List ℕ
-kindRules =
-    0 ∷ 0 ∷ 0 ∷ 2048 ∷ 0 ∷ 0 ∷ 0 ∷ 0
-    ∷ 1 ∷ 0 ∷ 0 ∷ 2048 ∷ 0 ∷ 0 ∷ 0 ∷ 0
-    ∷ 0 ∷ 1 ∷ 0 ∷ 2048 ∷ 0 ∷ 0 ∷ 0 ∷ 0
-    ∷ 11 ∷ 0 ∷ 0 ∷ 2048 ∷ 0 ∷ 0 ∷ 0 ∷ 0
-    ∷ 1 ∷ 0 ∷ 1 ∷ 2048 ∷ 0 ∷ 0 ∷ 0 ∷ 0
-    ∷ 1 ∷ 0 ∷ 0 ∷ 2 ∷ 0 ∷ 0 ∷ 0 ∷ 0
-    ∷ 1 ∷ 0 ∷ 0 ∷ 1025 ∷ 0 ∷ 1 ∷ 0 ∷ 0
-    ∷ 1 ∷ 0 ∷ 0 ∷ 2048 ∷ 1 ∷ 0 ∷ 0 ∷ 0 ∷ []
+-- what a kind asks, as `fields` has it: what extra is below, but for a parameter, and whether the word may be any, but for a call
+abbrev pub ruleOf : (kind : ℕ) → Rule
+ruleOf k = record {
+  extras = pick (eqb k 3) 11 (one (eqb k 1 || among 4 7 k));
+  parameter = one (eqb k 2);
+  call = one (eqb k 4);
+  reach = 2 * tailReach k + one (eqb k 6);
+  bound = one (eqb k 7);
+  primitive = one (eqb k 3);
+  words = one (eqb k 1 || eqb k 7);
+}
 
--- by kind: the highest word, where it is no call
-abbrev pub wordRules : List ℕ
-wordRules = 0 ∷ 4294967295 ∷ 0 ∷ 0 ∷ 0 ∷ 0 ∷ 0 ∷ 4294967295 ∷ []
+-- the fewest children, and 256 times the most
+abbrev pub packed : Counts → ℕ
+packed c = c .low + 256 * c .high
 
--- by kind and extra, sixteen of each: the fewest children, and 256 times the most
-abbrev pub countRules : List ℕ
-countRules =
-    0 ∷ 0 ∷ 0 ∷ 0 ∷ 0 ∷ 0 ∷ 0 ∷ 0 ∷ 0 ∷ 0 ∷ 0 ∷ 0 ∷ 0 ∷ 0 ∷ 0 ∷ 0
-    ∷ 0 ∷ 0 ∷ 0 ∷ 0 ∷ 0 ∷ 0 ∷ 0 ∷ 0 ∷ 0 ∷ 0 ∷ 0 ∷ 0 ∷ 0 ∷ 0 ∷ 0 ∷ 0
-    ∷ 0 ∷ 0 ∷ 0 ∷ 0 ∷ 0 ∷ 0 ∷ 0 ∷ 0 ∷ 0 ∷ 0 ∷ 0 ∷ 0 ∷ 0 ∷ 0 ∷ 0 ∷ 0
-    ∷ 514 ∷ 514 ∷ 514 ∷ 514 ∷ 514 ∷ 257 ∷ 257 ∷ 257 ∷ 514 ∷ 514 ∷ 2049 ∷ 0 ∷ 0 ∷ 0 ∷ 0 ∷ 0
-    ∷ 0 ∷ 0 ∷ 0 ∷ 0 ∷ 0 ∷ 0 ∷ 0 ∷ 0 ∷ 0 ∷ 0 ∷ 0 ∷ 0 ∷ 0 ∷ 0 ∷ 0 ∷ 0
-    ∷ 771 ∷ 771 ∷ 771 ∷ 771 ∷ 771 ∷ 771 ∷ 771 ∷ 771 ∷ 771 ∷ 771 ∷ 771 ∷ 771 ∷ 771 ∷ 771 ∷ 771 ∷ 771
-    ∷ 2306 ∷ 2306 ∷ 2306 ∷ 2306 ∷ 2306 ∷ 2306 ∷ 2306 ∷ 2306 ∷ 2306 ∷ 2306 ∷ 2306 ∷ 2306 ∷ 2306 ∷ 2306 ∷ 2306 ∷ 2306
-    ∷ 0 ∷ 0 ∷ 0 ∷ 0 ∷ 0 ∷ 0 ∷ 0 ∷ 0 ∷ 0 ∷ 0 ∷ 0 ∷ 0 ∷ 0 ∷ 0 ∷ 0 ∷ 0 ∷ []
+-- and eight numbers of it, with the counts of its children: none for a primitive, whose operation tells, or a call, whose callee does
+abbrev pub ruleAt : (kind j : ℕ) → ℕ
+ruleAt k j =
+    pick (eqb j 0) (ruleOf k .extras)
+    (pick (eqb j 1) (ruleOf k .parameter)
+    (pick (eqb j 2) (ruleOf k .call)
+    (pick (eqb j 3) (ruleOf k .reach)
+    (pick (eqb j 4) (ruleOf k .bound)
+    (pick (eqb j 5) (ruleOf k .primitive)
+    (pick (eqb j 6) (ruleOf k .words)
+    (packed (countsOf k 11 0))))))))
+
+-- the rules of the kinds below k, and of the operations below k, each in its place
+unfoldable pub kindRules : ℕ → List ℕ
+kindRules zero = replicate 64 0
+kindRules (suc k) = putFields 8 k (ruleAt k) (kindRules k)
+
+unfoldable pub operationRules : ℕ → List ℕ
+operationRules zero = replicate 16 0
+operationRules (suc k) = set (operationRules k) k (packed (operationCounts k))

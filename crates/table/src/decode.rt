@@ -71,13 +71,19 @@ pub(crate) fn node(table: &[u8], base: usize, n: Node, cells: &mut Cells)
 {
     let k = n.0 as usize;
     let at = base + 10 * k - 10;
+    let kind = wide(table[at]);
+    let extra = wide(table[at + 1]);
+    let low = two_at(table, at + 2);
+    let high = two_at(table, at + 4);
+    let first = two_at(table, at + 6);
+    let next = two_at(table, at + 8);
     let slot = decoded::node_slot(n);
-    decoded::put(cells, slot, 0, wide(table[at]));
-    decoded::put(cells, slot, 1, wide(table[at + 1]));
-    decoded::put(cells, slot, 2, two_at(table, at + 2));
-    decoded::put(cells, slot, 3, two_at(table, at + 4));
-    decoded::put(cells, slot, 4, two_at(table, at + 6));
-    decoded::put(cells, slot, 5, two_at(table, at + 8));
+    decoded::put(cells, slot, 0, kind);
+    decoded::put(cells, slot, 1, extra);
+    decoded::put(cells, slot, 2, low);
+    decoded::put(cells, slot, 3, high);
+    decoded::put(cells, slot, 4, first);
+    decoded::put(cells, slot, 5, next);
 }
 
 // Node n, with its function and parent from its kin.

@@ -1,7 +1,9 @@
 // What a node's kind and a primitive's operation allow (refusals 5 and 7).
 use crate::Node;
 ghost use mathlib.Core.Path.{_≡_};
+ghost use Prim.Native.Nat.{_≤_, _<_};
 ghost use Rattle.table.specs.Check.{fields, operationCounts, countsOf};
+ghost use Rattle.table.specs.Sweep.{ruleOf, packed, kindRules, operationRules};
 
 // How many children a node may have.
 pub struct Counts {
@@ -52,4 +54,157 @@ pub(crate) fn formed(kind: u16, extra: u16, word: u32, first: Node) -> bool
         5 | 6 => extra == 0 && word == 0,
         _ => false,
     }
+}
+
+// What a kind asks, in numbers: extra is below `extras`, a parameter's below its function's count; the word may be any where `words` is 1,
+// else it is a callee or 0; `reach` is twice from where its children are in tail position, and 1 more for a let.
+pub struct Rule {
+    pub extras: u16,
+    pub parameter: u16,
+    pub call: u16,
+    pub reach: u16,
+    pub bound: u16,
+    pub primitive: u16,
+    pub words: u16,
+}
+
+// By a node's kind; 0 is none.
+fn rule_of(kind: u16) -> Rule
+    requires { ⌜ kind < 8 ⌝ }
+    ensures { λ r. ⌜ r ≡ ruleOf kind ⌝ }
+{
+    match kind {
+        1 => Rule {
+            extras: 1,
+            parameter: 0,
+            call: 0,
+            reach: 4096,
+            bound: 0,
+            primitive: 0,
+            words: 1,
+        },
+        2 => Rule {
+            extras: 0,
+            parameter: 1,
+            call: 0,
+            reach: 4096,
+            bound: 0,
+            primitive: 0,
+            words: 0,
+        },
+        3 => Rule {
+            extras: 11,
+            parameter: 0,
+            call: 0,
+            reach: 4096,
+            bound: 0,
+            primitive: 1,
+            words: 0,
+        },
+        4 => Rule {
+            extras: 1,
+            parameter: 0,
+            call: 1,
+            reach: 4096,
+            bound: 0,
+            primitive: 0,
+            words: 0,
+        },
+        5 => Rule {
+            extras: 1,
+            parameter: 0,
+            call: 0,
+            reach: 4,
+            bound: 0,
+            primitive: 0,
+            words: 0,
+        },
+        6 => Rule {
+            extras: 1,
+            parameter: 0,
+            call: 0,
+            reach: 2051,
+            bound: 0,
+            primitive: 0,
+            words: 0,
+        },
+        7 => Rule {
+            extras: 1,
+            parameter: 0,
+            call: 0,
+            reach: 4096,
+            bound: 1,
+            primitive: 0,
+            words: 1,
+        },
+        _ => Rule {
+            extras: 0,
+            parameter: 0,
+            call: 0,
+            reach: 4096,
+            bound: 0,
+            primitive: 0,
+            words: 0,
+        },
+    }
+}
+
+// Where a kind's numbers stand among its eight.
+pub(crate) const EXTRAS: usize = 0;
+
+pub(crate) const PARAMETER: usize = 1;
+
+pub(crate) const CALL: usize = 2;
+
+pub(crate) const REACH: usize = 3;
+
+pub(crate) const BOUND: usize = 4;
+
+pub(crate) const PRIMITIVE: usize = 5;
+
+pub(crate) const WORDS: usize = 6;
+
+pub(crate) const COUNTS: usize = 7;
+
+// The fewest children, and 256 times the most.
+fn packed(c: Counts) -> u16
+    requires { ⌜ (c .low ≤ 9) × (c .high ≤ 9) ⌝ }
+    ensures { λ r. ⌜ r ≡ packed c ⌝ }
+{
+    c.low + 256 * c.high
+}
+
+// All kinds' numbers in one array: looked up and not branched on, since the kinds of neighbouring nodes are hard to foresee.
+pub(crate) fn rules() -> [u16; 64]
+    ensures { λ r. ⌜ r ≡ kindRules 8 ⌝ }
+{
+    let mut rules = [0u16; 64];
+    let mut kind: u16 = 0;
+    while kind < 8 {
+        let at = 8 * (kind as usize);
+        let r = rule_of(kind);
+        rules[at + EXTRAS] = r.extras;
+        rules[at + PARAMETER] = r.parameter;
+        rules[at + CALL] = r.call;
+        rules[at + REACH] = r.reach;
+        rules[at + BOUND] = r.bound;
+        rules[at + PRIMITIVE] = r.primitive;
+        rules[at + WORDS] = r.words;
+        rules[at + COUNTS] = packed(child_counts(kind, 11, 0));
+        kind += 1;
+    }
+    rules
+}
+
+// And by operation, the numbers of children.
+pub(crate) fn operations() -> [u16; 16]
+    ensures { λ r. ⌜ r ≡ operationRules 11 ⌝ }
+{
+    let mut counts = [0u16; 16];
+    let mut op: u16 = 0;
+    while op < 11 {
+        counts[op as usize] = packed(operation_counts(op));
+        op += 1;
+    }
+    counts
 }

@@ -6,7 +6,6 @@ mod frame;
 mod kin;
 mod kinds;
 mod linking;
-mod lookup;
 mod names;
 pub mod read;
 mod records;
@@ -83,16 +82,14 @@ fn passes(table: &[u8], kin: &mut [u32; 513]) -> bool
     if !linking::roots(table, kin) {
         return false;
     }
-    let mut kids = [0u16; 513];
-    if !linking::links(table, kin, &mut kids) {
+    let mut offspring = [0u32; 513];
+    if !linking::links(table, kin, &mut offspring) {
         return false;
     }
-    let mut outers = [0u16; 513];
-    let mut inners = [0u16; 513];
     let mut bounds = [0u16; 513];
-    let residue = sweep::sift(table, kin, &kids, &mut outers, &mut inners, &mut bounds);
+    let residue = sweep::sift(table, kin, &mut offspring, &mut bounds);
     match residue {
-        Residue::Passed(count) => scope::all_fit(table, kin, &outers, &inners, &bounds, count),
+        Residue::Passed(count) => scope::all_fit(table, kin, &offspring, &bounds, count),
         Residue::Failed => false,
     }
 }

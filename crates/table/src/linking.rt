@@ -90,11 +90,11 @@ fn hand_on(table: &[u8], base: usize, last: Node, n: Node, kin: &mut [u32; 513])
 }
 
 // All nodes hand on. The last child of a node is the last to leave its rank among the numbers of children.
-pub(crate) fn links(table: &[u8], kin: &mut [u32; 513], kids: &mut [u16; 513]) -> bool
+pub(crate) fn links(table: &[u8], kin: &mut [u32; 513], offspring: &mut [u32; 513]) -> bool
     requires { ⌜ Framed (now table) × Handed (now table) (functions (now table)) 0 (now kin)
-        × RootsFit (now table) (functions (now table)) × (now kids ≡ replicate 513 0) ⌝ }
+        × RootsFit (now table) (functions (now table)) × (now offspring ≡ replicate 513 0) ⌝ }
     ensures { λ r. ⌜ (r ≡ true → Linked (now (table .entry)) × Kin (now (table .entry)) (now (kin .exit))
-        × Kids (now (table .entry)) (now (kids .exit))) ⌝ }
+        × Kids (now (table .entry)) (now (offspring .exit))) ⌝ }
 {
     let base = frame::base(table);
     let last = frame::last_node(table);
@@ -107,7 +107,8 @@ pub(crate) fn links(table: &[u8], kin: &mut [u32; 513], kids: &mut [u16; 513]) -
             return false;
         }
         let up = (own / 64 % 1024) as usize;
-        kids[up] = (own / 65536) as u16;
+        offspring[up] = own / 65536;
     }
+    offspring[0] = 0;
     true
 }

@@ -11,7 +11,7 @@ ghost use Rattle.table.specs.Find.{one};
 ghost use Rattle.table.specs.Bytes.{nodes, word};
 ghost use Rattle.table.specs.Naming.{inScope};
 ghost use Rattle.table.specs.Working.{IsNode, Framed, At, Linked};
-ghost use Rattle.table.specs.Sweep.{around, Kin, Arounds, Encloses, Outward, Sifted, BoundsFit};
+ghost use Rattle.table.specs.Sweep.{around, Kin, HandedDown, Encloses, Outward, Sifted, BoundsFit};
 
 fn same(a: u16, b: u16) -> u16
     ensures { λ r. ⌜ (r ≡ one (eqb a b)) × (r ≤ 1) ⌝ }
@@ -27,38 +27,38 @@ fn one_of_four(a: u16, b: u16, c: u16, d: u16, p: u16) -> bool
 }
 
 // The innermost let around a.
-fn outer(table: &[u8], outers: &[u16; 513], inners: &[u16; 513], a: u16) -> u16
-    requires { ⌜ Framed (now table) × Arounds (now table) (now outers) (now inners) × (a ≤ nodes (now table)) ⌝ }
+fn outer(table: &[u8], offspring: &[u32; 513], a: u16) -> u16
+    requires { ⌜ Framed (now table) × HandedDown (now table) (now offspring) × (a ≤ nodes (now table)) ⌝ }
     ensures { λ r. ⌜ (r ≡ around (now (table .entry)) a) × (r ≤ nodes (now (table .entry))) ⌝ }
 {
-    outers[a as usize]
+    (offspring[a as usize] % 1024) as u16
 }
 
 // Whether p is `from` or among the lets around it.
-fn climbs(table: &[u8], outers: &[u16; 513], inners: &[u16; 513], p: u16, from: u16) -> bool
-    requires { ⌜ Framed (now table) × Arounds (now table) (now outers) (now inners) × (from ≤ nodes (now table)) ⌝ }
+fn climbs(table: &[u8], offspring: &[u32; 513], p: u16, from: u16) -> bool
+    requires { ⌜ Framed (now table) × HandedDown (now table) (now offspring) × (from ≤ nodes (now table)) ⌝ }
     ensures { λ r. ⌜ (r ≡ true → Outward (now (table .entry)) from p) ⌝ }
 {
     let mut a = from;
     while p < a {
-        a = outer(table, outers, inners, a);
+        a = outer(table, offspring, a);
     }
     a == p
 }
 
 // Whether n is in the body of let p. The innermost lets are looked at without a branch: how near p is, is hard to foresee.
-fn reaches(table: &[u8], outers: &[u16; 513], inners: &[u16; 513], n: Node, p: u16) -> bool
-    requires { ⌜ Framed (now table) × Arounds (now table) (now outers) (now inners) × IsNode (now table) (n .0) ⌝ }
+fn reaches(table: &[u8], offspring: &[u32; 513], n: Node, p: u16) -> bool
+    requires { ⌜ Framed (now table) × HandedDown (now table) (now offspring) × IsNode (now table) (n .0) ⌝ }
     ensures { λ r. ⌜ (r ≡ true → Encloses (now (table .entry)) p (n .0)) ⌝ }
 {
-    let a = outer(table, outers, inners, n.0);
-    let b = outer(table, outers, inners, a);
-    let c = outer(table, outers, inners, b);
-    let d = outer(table, outers, inners, c);
+    let a = outer(table, offspring, n.0);
+    let b = outer(table, offspring, a);
+    let c = outer(table, offspring, b);
+    let d = outer(table, offspring, c);
     if one_of_four(a, b, c, d, p) {
         return true;
     }
-    climbs(table, outers, inners, p, d)
+    climbs(table, offspring, p, d)
 }
 
 // 8 at bound n.
@@ -67,12 +67,11 @@ fn bound_fits(
     base: usize,
     last: Node,
     kin: &[u32; 513],
-    outers: &[u16; 513],
-    inners: &[u16; 513],
+    offspring: &[u32; 513],
     n: Node,
 ) -> bool
     requires { ⌜ At (now table) base (n .0) × (last .0 ≡ nodes (now table)) × Linked (now table) × Kin (now table) (now kin)
-        × Arounds (now table) (now outers) (now inners) ⌝ }
+        × HandedDown (now table) (now offspring) ⌝ }
     ensures { λ r. ⌜ (r ≡ true → T (inScope (now (table .entry)) (word (now (table .entry)) (n .0)) (n .0))) ⌝ }
 {
     let word = records::word(table, base, n);
@@ -87,33 +86,32 @@ fn bound_fits(
     if p == 0 {
         return false;
     }
-    if inners[p as usize] != p {
+    if offspring[p as usize] / 1024 % 2 == 0 {
         return false;
     }
     if records::next(table, base, Node(d)).0 == 0 {
         return false;
     }
-    reaches(table, outers, inners, n, p)
+    reaches(table, offspring, n, p)
 }
 
 // 8 at all bounds.
 pub(crate) fn all_fit(
     table: &[u8],
     kin: &[u32; 513],
-    outers: &[u16; 513],
-    inners: &[u16; 513],
+    offspring: &[u32; 513],
     bounds: &[u16; 513],
     count: usize,
 ) -> bool
     requires { ⌜ Framed (now table) × Linked (now table) × Kin (now table) (now kin)
-        × Sifted (now table) (now outers) (now inners) (now bounds) count ⌝ }
+        × Sifted (now table) (now offspring) (now bounds) count ⌝ }
     ensures { λ r. ⌜ (r ≡ true → BoundsFit (now (table .entry))) ⌝ }
 {
     let base = frame::base(table);
     let last = frame::last_node(table);
     let mut i: usize = 0;
     while i < count {
-        if !bound_fits(table, base, last, kin, outers, inners, Node(bounds[i])) {
+        if !bound_fits(table, base, last, kin, offspring, Node(bounds[i])) {
             return false;
         }
         i += 1;

@@ -2,27 +2,24 @@
 use crate::Function;
 use crate::Node;
 use crate::frame;
-use crate::lookup;
+use crate::kinds;
 use crate::records;
 ghost use mathlib.Core.Path.{_≡_};
 ghost use mathlib.Core.Bool.{true, false};
 ghost use Prim.Native.Nat.{_≤_, _<_};
 ghost use lib.Dec.{eqb, leb};
 ghost use lib.ListN.{replicate};
-ghost use Rattle.table.specs.Pick.{pick};
 ghost use Rattle.table.specs.Find.{one};
 ghost use Rattle.table.specs.Bytes.{functions, params};
+ghost use Rattle.table.specs.Check.{countsOf, within};
 ghost use Rattle.table.specs.Working.{Framed, IsFunction, Linked};
-ghost use Rattle.table.specs.Sweep.{kindRules, wordRules, countRules, Sifts, SiftedBy, RootsFit, Kin, Kids};
-ghost use Rattle.table.specs.Sweep.{Siftable, Down};
+ghost use Rattle.table.specs.Sweep.{ruleAt, kindRules, operationRules, KindFits, Siftable, Sifts, SiftedBy, RootsFit, Kin, Kids};
 
 // A node sifted, in numbers that specs/Sweep names.
 pub struct Sifting {
     pub passed: bool,
-    pub outer: u16,
-    pub inner: u16,
-    pub from: u16,
-    pub bound: u16,
+    pub down: u32,
+    pub bound: u32,
 }
 
 // All nodes sifted: with so many bounds among them, whose scope is still to be looked at.
@@ -31,62 +28,95 @@ pub enum Residue {
     Failed,
 }
 
-// The parameters of a call's callee; of what is no call, anything.
-fn arguments(table: &[u8], call: u16, word: u32) -> u16
-    requires { ⌜ Framed (now table) × (call ≤ 1) × (call ≡ 1 → IsFunction (now table) word) ⌝ }
-    ensures { λ r. ⌜ (call ≡ 1 → r ≡ params (now (table .entry)) word) ⌝ }
-{
-    let at = (call as usize) * (4 * (word as usize));
-    crate::decode::wide(table[at])
-}
-
-// What a last child has more.
-fn ending(next: Node) -> u16
-    ensures { λ r. ⌜ r ≡ pick (eqb (next .0) 0) 1024 0 ⌝ }
-{
-    if next.0 == 0 { 1024 } else { 0 }
-}
-
-// Whether a child reaches a tail position, as a number.
-fn tail_at(from: u16, reach: u16) -> u16
-    ensures { λ r. ⌜ r ≡ one (leb from reach) ⌝ }
-{
-    if from <= reach { 1 } else { 0 }
-}
-
-// What is around a child: a last one has more.
-fn scope_at(inner: u16, outer: u16, next: Node) -> u16
-    ensures { λ r. ⌜ r ≡ pick (eqb (next .0) 0) inner outer ⌝ }
-{
-    if next.0 == 0 { inner } else { outer }
-}
-
 fn failed() -> Sifting
     ensures { λ r. ⌜ r .passed ≡ false ⌝ }
 {
     Sifting {
         passed: false,
-        outer: 0,
-        inner: 0,
-        from: 0,
+        down: 0,
         bound: 0,
     }
 }
 
-// A node that passed, with `scope` around it.
-fn hand_down(rules: &[u16; 64], kind: u16, n: Node, scope: u16, tail: u16) -> Sifting
-    requires { ⌜ (now rules ≡ kindRules) × (kind < 8) × (scope ≤ n .0) × (tail ≤ 1) ⌝ }
-    ensures { λ r. ⌜ Down kind (n .0) scope tail r ⌝ }
+// Whether a node is a last child, as a number.
+fn ending(next: Node) -> u32
+    ensures { λ r. ⌜ r ≡ one (eqb (next .0) 0) ⌝ }
 {
-    let inner = scope + (n.0 - scope) * lookup::rule(rules, kind, 5);
-    let from = lookup::rule(rules, kind, 3) + 2048 - 2048 * tail;
-    let bound = lookup::rule(rules, kind, 4);
-    Sifting {
-        passed: true,
-        outer: scope,
-        inner,
-        from,
-        bound,
+    if next.0 == 0 { 1 } else { 0 }
+}
+
+// Whether a child reaches a tail position, as a number.
+fn tail_at(from: u32, reach: u32) -> u32
+    ensures { λ r. ⌜ r ≡ one (leb from reach) ⌝ }
+{
+    if from <= reach { 1 } else { 0 }
+}
+
+// Number j of a kind.
+fn rule(rules: &[u16; 64], kind: u16, j: usize) -> u32
+    requires { ⌜ (now rules ≡ kindRules 8) × (kind < 8) × (j < 8) ⌝ }
+    ensures { λ r. ⌜ r ≡ ruleAt kind j ⌝ }
+{
+    let k = kind as usize;
+    rules[8 * k + j] as u32
+}
+
+// Extra, word, and 6, 8 and 9 for calls and parameters, of a node of function `owner`, which has `params` parameters.
+fn kind_fits(
+    rules: &[u16; 64],
+    kind: u16,
+    extra: u32,
+    word: u64,
+    owner: u32,
+    params: u32,
+    tail: u32,
+) -> bool
+    requires { ⌜ (now rules ≡ kindRules 8) × (kind < 8) × (1 ≤ owner) × (owner ≤ 32) × (params ≤ 8) × (tail ≤ 1) ⌝ }
+    ensures { λ r. ⌜ (r ≡ true → KindFits kind extra word owner params tail) ⌝ }
+{
+    let below = params * rule(rules, kind, kinds::PARAMETER) + rule(rules, kind, kinds::EXTRAS);
+    if below <= extra {
+        return false;
+    }
+    let call = rule(rules, kind, kinds::CALL) as u64;
+    if word < call {
+        return false;
+    }
+    let most = ((owner + tail - 1) as u64) * call
+        + (rule(rules, kind, kinds::WORDS) as u64) * 4294967295;
+    word <= most
+}
+
+// The parameters of a call's callee; of what is no call, anything.
+fn arguments(table: &[u8], call: usize, word: usize) -> u32
+    requires { ⌜ Framed (now table) × (call ≤ 1) × (call ≡ 1 → IsFunction (now table) word) ⌝ }
+    ensures { λ r. ⌜ (call ≡ 1 → r ≡ params (now (table .entry)) word) ⌝ }
+{
+    let at = 4 * (call * word);
+    crate::decode::wide(table[at]) as u32
+}
+
+// 7: as many children as kind and operation allow.
+fn counted(
+    rules: &[u16; 64],
+    operations: &[u16; 16],
+    kind: u16,
+    extra: u32,
+    call: u32,
+    params: u32,
+    kids: u32,
+) -> bool
+    requires { ⌜ (now rules ≡ kindRules 8) × (now operations ≡ operationRules 11) × (kind < 8) × (extra < 16) × (call ≡ one (eqb kind 4))
+        × (call ≡ 1 → params ≤ 8) ⌝ }
+    ensures { λ r. ⌜ r ≡ within (countsOf kind extra params) kids ⌝ }
+{
+    let own = (operations[extra as usize] as u32) * rule(rules, kind, kinds::PRIMITIVE);
+    let c = rule(rules, kind, kinds::COUNTS) + own;
+    let more = params * call;
+    if kids < c % 256 + more {
+        false
+    } else {
+        kids <= c / 256 + more
     }
 }
 
@@ -95,60 +125,58 @@ fn node(
     table: &[u8],
     base: usize,
     rules: &[u16; 64],
-    words: &[u64; 8],
-    counts: &[u16; 128],
+    operations: &[u16; 16],
     n: Node,
     own: u32,
-    kids: u16,
-    from: u16,
-    inner: u16,
-    outer: u16,
+    kids: u32,
+    inherited: u32,
 ) -> Sifting
-    requires { ⌜ Siftable (now table) base (n .0) own kids from inner outer × (now rules ≡ kindRules) × (now words ≡ wordRules)
-        × (now counts ≡ countRules) ⌝ }
+    requires { ⌜ Siftable (now table) base (n .0) own kids inherited × (now rules ≡ kindRules 8) × (now operations ≡ operationRules 11) ⌝ }
     ensures { λ r. ⌜ (r .passed ≡ true → Sifts (now (table .entry)) (n .0) r) ⌝ }
 {
     let kind = records::kind(table, base, n);
     if 7 < kind {
         return failed();
     }
-    let extra = records::extra(table, base, n);
-    let word = records::word(table, base, n);
-    let next = records::next(table, base, n);
-    let owner = (own % 64) as u16;
-    let rank = (own / 65536) as u16;
-    let tail = tail_at(from, rank + ending(next));
-    let params = records::params(table, Function(owner));
-    if !lookup::kind_fits(rules, words, kind, extra, word, owner, params, tail) {
+    let extra = records::extra(table, base, n) as u32;
+    let word = records::word(table, base, n) as u64;
+    let owner = own % 64;
+    let end = ending(records::next(table, base, n));
+    let tail = tail_at(inherited / 2048, own / 65536 + 1024 * end);
+    let params = records::params(table, Function(owner as u16)) as u32;
+    if !kind_fits(rules, kind, extra, word, owner, params, tail) {
         return failed();
     }
-    let call = lookup::rule(rules, kind, 2);
-    let args = arguments(table, call, word);
-    if !lookup::counted(counts, kind, extra, call, args, kids) {
+    let call = rule(rules, kind, kinds::CALL);
+    let args = arguments(table, call as usize, word as usize);
+    if !counted(rules, operations, kind, extra, call, args, kids) {
         return failed();
     }
-    hand_down(rules, kind, n, scope_at(inner, outer, next), tail)
+    let outer = inherited % 1024;
+    let scope = outer + (own / 64 % 1024 - outer) * (end * (inherited / 1024 % 2));
+    let down = scope + 1024 * (rule(rules, kind, kinds::REACH) + 4096 - 4096 * tail);
+    Sifting {
+        passed: true,
+        down,
+        bound: rule(rules, kind, kinds::BOUND),
+    }
 }
 
 // All nodes; bounds are put aside.
 pub(crate) fn sift(
     table: &[u8],
     kin: &[u32; 513],
-    kids: &[u16; 513],
-    outers: &mut [u16; 513],
-    inners: &mut [u16; 513],
+    offspring: &mut [u32; 513],
     bounds: &mut [u16; 513],
 ) -> Residue
     requires { ⌜ Framed (now table) × Linked (now table) × RootsFit (now table) (functions (now table)) × Kin (now table) (now kin)
-        × Kids (now table) (now kids) × (now outers ≡ replicate 513 0) × (now inners ≡ replicate 513 0) × (now bounds ≡ replicate 513 0) ⌝ }
-    ensures { λ r. ⌜ SiftedBy (now (table .entry)) (now (outers .exit)) (now (inners .exit)) (now (bounds .exit)) r ⌝ }
+        × Kids (now table) (now offspring) × (now bounds ≡ replicate 513 0) ⌝ }
+    ensures { λ r. ⌜ SiftedBy (now (table .entry)) (now (offspring .exit)) (now (bounds .exit)) r ⌝ }
 {
-    let rules = lookup::KINDS;
-    let words = lookup::WORDS;
-    let counts = lookup::COUNTS;
+    let rules = kinds::rules();
+    let operations = kinds::operations();
     let base = frame::base(table);
     let end = frame::last_node(table).0;
-    let mut froms = [0u16; 513];
     let mut count: usize = 0;
     let mut n: u16 = 0;
     while n < end {
@@ -160,21 +188,16 @@ pub(crate) fn sift(
             table,
             base,
             &rules,
-            &words,
-            &counts,
+            &operations,
             Node(n),
             own,
-            kids[at],
-            froms[up],
-            inners[up],
-            outers[up],
+            offspring[at],
+            offspring[up],
         );
         if !r.passed {
             return Residue::Failed;
         }
-        outers[at] = r.outer;
-        inners[at] = r.inner;
-        froms[at] = r.from;
+        offspring[at] = r.down;
         bounds[count] = n;
         count += r.bound as usize;
     }

@@ -67,7 +67,7 @@ sift-requires c κs =
     let m : Joined = search in
     let h = joined m in
     let r = rooted (before m) in
-    (s .pre .0, h .0, r .1, h .1, h .2, refl, refl, refl)
+    (s .pre .0, h .0, r .1, h .1, h .2, refl)
 
 enum-known-residue : tie.Need-enum-known-residue
 enum-known-residue c = search needs
@@ -77,7 +77,7 @@ all-fit-requires c κs =
     let m : Joined = search in
     let h = joined m in
     let g : Told = search in
-    (start (before m) .pre .0, h .0, h .1, subst (SiftedBy _ _ _ _) (g .residue .given .1) (sifts g .sift .ensures))
+    (start (before m) .pre .0, h .0, h .1, subst (SiftedBy _ _ _) (g .residue .given .1) (sifts g .sift .ensures))
 
 enum-told : tie.Need-enum-told
 enum-told c = search needs
@@ -88,7 +88,7 @@ returns-3 c e =
     let h = joined m in
     let g : Told = search in
     let f : tie.After-all-fit = search in
-    let d = subst (SiftedBy _ _ _ _) (g .residue .given .1) (sifts g .sift .ensures) in
+    let d = subst (SiftedBy _ _ _) (g .residue .given .1) (sifts g .sift .ensures) in
     (swept-taken _ (start (before m) .pre .0) (h .0) (rooted (before m) .1) (d .fits) (f .all-fit .ensures e), h .1)
 
 returns-4 : tie.Need-returns-4

@@ -10,7 +10,7 @@ use lib.ListN.{getD}
 use Rattle.table.specs.Sweep.{kinOf}
 use Rattle.table.specs.Working.{IsNode}
 use Rattle.table.proofs.Family.{parent-lower}
-use Rattle.table.proofs.HandLaws.{kin-parent, kin-rank, kin-small}
+use Rattle.table.proofs.HandLaws.{kin-parent, kin-rank}
 use Rattle.table.proofs.HandSteps.{own-kin, own-small}
 use Rattle.table.proofs.Tests.{never}
 use Rattle.table.proofs.HandEnd.{LinkedTo, linked-none, linked-more, all-linked}
@@ -18,11 +18,11 @@ use Rattle.table.proofs.linking.links.Statement.{statement}
 use Rattle.table.proofs.linking.links.Tie as tie
 
 abbrev Inv-loop : tie.InvT-loop
-Inv-loop table kin₀ kids₀ base last end n₀ kin kids n =
-    (n ≤ end) × LinkedTo table n kin kids × (end ≡ nodes table)
+Inv-loop table kin₀ offspring₀ base last end n₀ kin offspring n =
+    (n ≤ end) × LinkedTo table n kin offspring × (end ≡ nodes table)
 
 abbrev μ-loop : tie.MeasureT-loop
-μ-loop table kin₀ kids₀ base last end n₀ kin kids n = end - n
+μ-loop table kin₀ offspring₀ base last end n₀ kin offspring n = end - n
 
 abbrev Start : Type 0
 Start = tie.Start Inv-loop μ-loop
@@ -105,17 +105,11 @@ returns c = never
 cast-up : tie.Need-cast-up Inv-loop μ-loop
 cast-up c = search needs
 
-cast-kids : tie.Need-cast-kids Inv-loop μ-loop
-cast-kids c =
-    let h : Handing = search in
-    let t = turn h in
-    record { fits = omega (arith, kin-small _ (s t .pre .0) _ (node t) _ (own h)) }
+mul-offspring : tie.Need-mul-offspring Inv-loop μ-loop
+mul-offspring c = search needs
 
-mul-kids : tie.Need-mul-kids Inv-loop μ-loop
-mul-kids c = search needs
-
-element-write-kids : tie.Need-element-write-kids Inv-loop μ-loop
-element-write-kids c =
+element-write-offspring : tie.Need-element-write-offspring Inv-loop μ-loop
+element-write-offspring c =
     let h : Handing = search in
     let t = turn h in
     omega (
@@ -142,6 +136,9 @@ loop-again c =
       l t .loop .inv .2,
     )
 
+element-write-offspring-2 : tie.Need-element-write-offspring-2 Inv-loop μ-loop
+element-write-offspring-2 c = search needs
+
 returns-2 : tie.Need-returns-2 Inv-loop μ-loop
 returns-2 c e =
     let s : Start = search in
@@ -165,9 +162,9 @@ links-spec =
     hand-on-requires
     returns
     cast-up
-    cast-kids
-    mul-kids
-    element-write-kids
+    mul-offspring
+    element-write-offspring
     loop-less
     loop-again
+    element-write-offspring-2
     returns-2)

@@ -13,11 +13,11 @@ use Rattle.table.proofs.scope.all_fit.Statement.{statement}
 use Rattle.table.proofs.scope.all_fit.Tie as tie
 
 abbrev Inv-loop : tie.InvT-loop
-Inv-loop table kin outers inners bounds count base last i₀ i =
+Inv-loop table kin offspring bounds count base last i₀ i =
     (i ≤ count) × ((j : ℕ) → j < i → T (boundFits table (getD bounds j 0)))
 
 abbrev μ-loop : tie.MeasureT-loop
-μ-loop table kin outers inners bounds count base last i₀ i = count - i
+μ-loop table kin offspring bounds count base last i₀ i = count - i
 
 abbrev Start : Type 0
 Start = tie.Start Inv-loop μ-loop
@@ -48,11 +48,11 @@ last-node-requires c κs = search needs
 loop-holds : tie.Need-loop-holds Inv-loop μ-loop
 loop-holds c = (omega arith, λ j h. absurd (omega arith))
 
-mul-t11 : tie.Need-mul-t11 Inv-loop μ-loop
-mul-t11 c = search needs
+mul-t10 : tie.Need-mul-t10 Inv-loop μ-loop
+mul-t10 c = search needs
 
-element-copy-out-t14 : tie.Need-element-copy-out-t14 Inv-loop μ-loop
-element-copy-out-t14 c =
+element-copy-out-t13 : tie.Need-element-copy-out-t13 Inv-loop μ-loop
+element-copy-out-t13 c =
     let t : Turn = search in
     omega (arith, t .loop-test .taken, s t .pre .3 .bounded .few, s t .pre .0 .N-high)
 
@@ -66,7 +66,7 @@ bound-fits-requires c κs =
       last .last-node .ensures,
       s t .pre .1,
       s t .pre .2,
-      s t .pre .3 .arounds,
+      s t .pre .3 .handed,
     )
 
 returns : tie.Need-returns Inv-loop μ-loop
@@ -105,8 +105,8 @@ all-fit-spec =
     base-requires
     last-node-requires
     loop-holds
-    mul-t11
-    element-copy-out-t14
+    mul-t10
+    element-copy-out-t13
     bound-fits-requires
     returns
     add-i

@@ -1,7 +1,7 @@
 -- `scope::bound_fits` meets its contract: each test fails, or the let of the definiens is found.
 use native.Mathlib.Omega.{arith}
-use Prim.Native.Nat.{ℕ, _/_, _%_, _≤_, _<_}
-use mathlib.Core.Path.{_≡_, subst, sym, _∙_}
+use Prim.Native.Nat.{ℕ, _/_, _%_, _<_}
+use mathlib.Core.Path.{_≡_, subst, _∙_}
 use lib.Dec.{T}
 use lib.ListN.{getD}
 use Rattle.table.specs.Naming.{parent, inScope}
@@ -10,6 +10,7 @@ use Rattle.table.proofs.Tests.{never}
 use Rattle.table.proofs.Family.{parent-lower}
 use Rattle.table.proofs.HandLaws.{kin-parent}
 use Rattle.table.proofs.ScopeLaws.{is-let, in-scope}
+use Rattle.table.proofs.SiftLaws.{down-let}
 use borrow.Author.Needs.{needs}
 use Rattle.table.proofs.scope.bound_fits.Statement.{statement}
 use Rattle.table.proofs.scope.bound_fits.Tie as tie
@@ -103,10 +104,10 @@ returns-6 c e =
     let r : tie.After-reaches = search in
     let t = s i .args .table .now in
     let p = getD (s i .args .kin .now) (d i) 0 / 64 % 1024 in
-    let low : 1 ≤ p = omega (arith, held .if3 .left) in
-    let told = s i .pre .4 .inner-told p (omega (arith, above i, node i .1)) in
+    let told = down-let t p (omega (arith, above i, node i .1, s i .pre .0 .framed .N-high)) _
+    (s i .pre .4 .told p (omega (arith, above i, node i .1))) in
     subst (λ m. T (inScope t m (s i .args .n .0))) (words i .word .ensures)
-    (in-scope t (d i) (s i .args .n .0) p (up i) (held .if3 .left) (is-let t p low (sym told ∙ binds .if4 .left))
+    (in-scope t (d i) (s i .args .n .0) p (up i) (held .if3 .left) (is-let t p (λ z. binds .if4 .left (told ∙ z)))
     (λ z. more .if5 .left (nexts .next .ensures ∙ z)) (r .reaches .ensures e (held .if3 .left)))
 
 pub bound-fits-spec : {M : Type 1} → statement M

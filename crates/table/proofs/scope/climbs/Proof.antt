@@ -11,10 +11,10 @@ use Rattle.table.proofs.scope.climbs.Statement.{statement}
 use Rattle.table.proofs.scope.climbs.Tie as tie
 
 abbrev Inv-loop : tie.InvT-loop
-Inv-loop table outers inners p from a₀ a = (a ≤ nodes table) × Outward table from a
+Inv-loop table offspring p from a₀ a = (a ≤ nodes table) × Outward table from a
 
 abbrev μ-loop : tie.MeasureT-loop
-μ-loop table outers inners p from a₀ a = a
+μ-loop table offspring p from a₀ a = a
 
 loop-holds : tie.Need-loop-holds Inv-loop μ-loop
 loop-holds c =

@@ -1,23 +1,16 @@
 -- `scope::outer` meets its contract.
 use native.Mathlib.Omega.{arith}
-use native.Mathlib.Decide.{ℕ-discrete}
-use Prim.Native.Nat.{_≤_}
-use mathlib.Core.Path.{_≡_, ap}
+use Prim.Native.Nat.{_%_}
+use mathlib.Core.Path.{_≡_}
 use lib.ListN.{getD}
-use Rattle.table.specs.Bytes.{nodes}
 use Rattle.table.specs.Sweep.{around}
-use Rattle.table.proofs.SiftLaws.{around-none, around-lower}
+use Rattle.table.proofs.SiftLaws.{around-most, down-around}
 use borrow.Author.Needs.{needs}
 use Rattle.table.proofs.scope.outer.Statement.{statement}
 use Rattle.table.proofs.scope.outer.Tie as tie
 
-inside : (s : tie.Start) → Dec (s .args .a ≡ 0) → getD (s .args .outers .now) (s .args .a) 0 ≤ nodes (s .args .table .now)
-inside s (yes z) =
-    let t = s .args .table .now in
-    omega (arith, s .pre .1 .outer-told (s .args .a) (s .pre .2), ap (around t) z, around-none t)
-inside s (no z) =
-    let t = s .args .table .now in
-    omega (arith, s .pre .1 .outer-told (s .args .a) (s .pre .2), around-lower t (s .args .a) (omega arith), s .pre .2)
+told : (s : tie.Start) → getD (s .args .offspring .now) (s .args .a) 0 % 1024 ≡ around (s .args .table .now) (s .args .a)
+told s = down-around _ _ (omega (arith, s .pre .2, s .pre .0 .N-high)) _ (s .pre .1 .told (s .args .a) (s .pre .2))
 
 mul-result : tie.Need-mul-result
 mul-result c = search needs
@@ -25,11 +18,13 @@ mul-result c = search needs
 element-copy-out-result : tie.Need-element-copy-out-result
 element-copy-out-result c = search needs
 
+cast-result : tie.Need-cast-result
+cast-result c = search needs
+
 returns : tie.Need-returns
 returns c =
     let s : tie.Start = search in
-    let told = s .pre .1 .outer-told (s .args .a) (s .pre .2) in
-    (told, inside s (ℕ-discrete (s .args .a) 0))
+    (told s, omega (arith, told s, around-most (s .args .table .now) (s .args .a), s .pre .2))
 
 pub outer-spec : {M : Type 1} → statement M
-outer-spec = tie.close (tie.spec mul-result element-copy-out-result returns)
+outer-spec = tie.close (tie.spec mul-result element-copy-out-result cast-result returns)

@@ -9,11 +9,13 @@ use borrow.Author.Needs.{needs}
 use Rattle.table.proofs.sweep.arguments.Statement.{statement}
 use Rattle.table.proofs.sweep.arguments.Tie as tie
 
-small : (s : tie.Start) → s .args .call * (4 * s .args .word) ≤ 4 * functions (s .args .table .now)
+small : (s : tie.Start) → s .args .call * s .args .word ≤ functions (s .args .table .now)
 small s = flag-place _ _ _ (s .pre .1) (s .pre .2)
 
 mul-at : tie.Need-mul-at
-mul-at c = search needs
+mul-at c =
+    let s : tie.Start = search in
+    record { fits = omega (arith, s .pre .0 .F-high, small s) }
 
 mul-at-2 : tie.Need-mul-at-2
 mul-at-2 c =
@@ -28,11 +30,15 @@ shared-slice-read-wide c =
 wide-requires : tie.Need-wide-requires
 wide-requires c κs = search needs
 
+cast-result : tie.Need-cast-result
+cast-result c = search needs
+
 returns : tie.Need-returns
 returns c e =
     let s : tie.Start = search in
     let told : tie.After-wide = search in
-    told .wide .ensures ∙ params-byte _ _ _ (s .pre .2 e) (ap (λ k. k * (4 * s .args .word)) e ∙ omega arith)
+    told .wide .ensures ∙ params-byte _ _ _ (s .pre .2 e) (ap (λ k. 4 * (k * s .args .word)) e ∙ omega arith)
 
 pub arguments-spec : {M : Type 1} → statement M
-arguments-spec = tie.close (tie.spec mul-at mul-at-2 shared-slice-read-wide wide-requires returns)
+arguments-spec =
+    tie.close (tie.spec mul-at mul-at-2 shared-slice-read-wide wide-requires cast-result returns)

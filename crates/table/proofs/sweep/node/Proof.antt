@@ -1,28 +1,28 @@
 -- `sweep::node` meets its contract: it fails, or all is read, and is handed down.
 use native.Mathlib.Omega.{arith}
-use Prim.Native.Nat.{_+_, _/_, _%_, _≤_, _<_}
+use Prim.Native.Nat.{ℕ, _+_, _-_, _*_, _/_, _%_, _≤_, _<_}
 use mathlib.Core.Path.{_≡_, sym, ap, ap₂, _∙_}
 use lib.Dec.{eqb, leb}
 use borrow.Author.Tests.{not-false}
-use Rattle.table.specs.Pick.{pick}
 use Rattle.table.specs.Find.{one}
 use Rattle.table.specs.Bytes.{next}
-use Rattle.table.specs.Naming.{owner, tail}
+use Rattle.table.specs.Naming.{owner, parent, tail}
 use Rattle.table.specs.Working.{IsNode, IsFunction}
-use Rattle.table.specs.Sweep.{rank, around, KindFits, Siftable}
+use Rattle.table.specs.Sweep.{rank, around, isLet, KindFits, Siftable}
 use Rattle.table.proofs.Tests.{never}
-use Rattle.table.proofs.Family.{owner-in}
+use Rattle.table.proofs.Family.{owner-in, parent-lower}
 use Rattle.table.proofs.HandEnd.{params-few}
-use Rattle.table.proofs.RuleLaws.{rule-call, one-yes, one-most}
-use Rattle.table.proofs.SiftLaws.{around-lower, around-down, tail-told, counted-told, sifts-told, fits-here, pick-most}
-use Rattle.table.proofs.HandLaws.{kin-owner, kin-rank, rank-small}
+use Rattle.table.proofs.RuleLaws.{one-yes, one-most, flag-times, rule-small}
+use Rattle.table.proofs.SiftLaws.{around-most, scope-told, down-told, down-around, down-let, down-from}
+use Rattle.table.proofs.SiftLaws.{tail-told, counted-told, fits-here}
+use Rattle.table.proofs.HandLaws.{kin-owner, kin-parent, kin-rank, rank-small}
 use borrow.Author.Needs.{needs}
 use Rattle.table.proofs.sweep.node.Statement.{statement}
 use Rattle.table.proofs.sweep.node.Tie as tie
 
--- what was read of the node, up to its next
+-- what was read of the node, and that it is a last child
 abbrev Read : Type 0
-Read = tie.After-next
+Read = tie.After-ending
 
 module _ (c : Read) where
   abbrev s : tie.Start
@@ -40,8 +40,10 @@ module _ (c : Read) where
   abbrev words : tie.After-word
   words = search
 
-  abbrev node : Siftable (s .args .table .now) (s .args .base) (s .args .n .0) (s .args .own) (s .args .kids) (s .args .from)
-      (s .args .inner) (s .args .outer)
+  abbrev nexts : tie.After-next
+  nexts = search
+
+  abbrev node : Siftable (s .args .table .now) (s .args .base) (s .args .n .0) (s .args .own) (s .args .kids) (s .args .inherited)
   node = s .pre .0
 
   is : IsNode (s .args .table .now) (s .args .n .0)
@@ -68,6 +70,46 @@ module _ (c : Read) where
   function : IsFunction (s .args .table .now) (s .args .own % 64)
   function = rw owns (owner-in _ (node .links) _ is)
 
+  end-told : c .ending .result ≡ one (eqb (next (s .args .table .now) (s .args .n .0)) 0)
+  end-told = c .ending .ensures ∙ ap (λ m. one (eqb m 0)) (nexts .next .ensures)
+
+  end-most : c .ending .result ≤ 1
+  end-most = omega (arith, end-told, one-most (eqb (next (s .args .table .now) (s .args .n .0)) 0))
+
+  -- what its parent handed down
+  up : s .args .own / 64 % 1024 ≡ parent (s .args .table .now) (s .args .n .0)
+  up = kin-parent _ (node .place .framed) _ is _ (node .kin)
+
+  up-small : parent (s .args .table .now) (s .args .n .0) ≤ 512
+  up-small = omega (arith, parent-lower (s .args .table .now) (s .args .n .0) (is .0), is .1, node .place .framed .N-high)
+
+  outer : s .args .inherited % 1024 ≡ around (s .args .table .now) (parent (s .args .table .now) (s .args .n .0))
+  outer = down-around _ _ up-small _ (node .handed)
+
+  lets : s .args .inherited / 1024 % 2 ≡ one (isLet (s .args .table .now) (parent (s .args .table .now) (s .args .n .0)))
+  lets = down-let _ _ up-small _ (node .handed)
+
+  ends-let : c .ending .result * (s .args .inherited / 1024 % 2) ≤ 1
+  ends-let = omega (arith, flag-times (c .ending .result) (s .args .inherited / 1024 % 2) (omega arith), end-most)
+
+  -- what is around it
+  abbrev scope : ℕ
+  scope =
+      let out = s .args .inherited % 1024 in
+      out + (s .args .own / 64 % 1024 - out) * (c .ending .result * (s .args .inherited / 1024 % 2))
+
+  around-told : scope ≡ around (s .args .table .now) (s .args .n .0)
+  around-told = scope-told _ _ _ _ _ _ (is .0) outer up end-told lets
+
+  scope-small : scope ≤ 512
+  scope-small = omega (
+    arith,
+    around-told,
+    around-most (s .args .table .now) (s .args .n .0),
+    is .1,
+    node .place .framed .N-high,
+  )
+
 -- and of its function, with its tail position
 abbrev Fitting : Type 0
 Fitting = tie.After-params
@@ -75,17 +117,14 @@ Fitting = tie.After-params
 abbrev read : Fitting → Read
 read c = search
 
-abbrev ended : Fitting → tie.After-ending
-ended c = search
-
 abbrev tails : Fitting → tie.After-tail-at
 tails c = search
 
 tail-known : (p : Fitting) → tails p .tail-at .result ≡ one (tail (s (read p) .args .table .now) (s (read p) .args .n .0))
 tail-known p =
     let r = read p in
-    let q = ap₂ (λ x y. x + y) (ranks r) (ended p .ending .ensures ∙ ap (λ m. pick (eqb m 0) 1024 0) (r .next .ensures)) in
-    tails p .tail-at .ensures ∙ ap₂ (λ x y. one (leb x y)) (node r .from-told) q
+    tails p .tail-at .ensures
+    ∙ ap₂ (λ x y. one (leb x y)) (down-from _ _ (up-small r) _ (node r .handed)) (ap₂ (λ x y. x + 1024 * y) (ranks r) (end-told r))
     ∙ tail-told _ (node r .place .framed) (node r .links) _ (is r) (node r .parent-counted)
 
 tail-most : (p : Fitting) → tails p .tail-at .result ≤ 1
@@ -113,29 +152,33 @@ fits : (k : Called) → let p = fitting k in let r = read p in
     (tails p .tail-at .result)
 fits k = fitted k .kind-fits .ensures (not-false _ (passed k .if2 .left))
 
-calls : (k : Called) → k .rule .result ≡ one (eqb (of (read (fitting k)) .kind .result) 4)
-calls k = k .rule .ensures ∙ rule-call _ (kinds (read (fitting k)))
-
 call-most : (k : Called) → k .rule .result ≤ 1
-call-most k = omega (arith, calls k, one-most (eqb (of (read (fitting k)) .kind .result) 4))
+call-most k = omega (arith, k .rule .ensures, one-most (eqb (of (read (fitting k)) .kind .result) 4))
 
 callee : (k : Called) → k .rule .result ≡ 1
     → IsFunction (s (read (fitting k)) .args .table .now) (words (read (fitting k)) .word .result)
 callee k e =
-    let i = fits k .callee (one-yes _ 4 (sym (calls k) ∙ e)) in
+    let i = fits k .callee (one-yes _ 4 (sym (k .rule .ensures) ∙ e)) in
     (i .0, omega (arith, i .1, function (read (fitting k)) .1))
 
--- what is around it
-abbrev reading : tie.After-scope-at → Read
-reading c = search
+-- the places before, from what is handed down
+abbrev called : tie.After-arguments → Called
+called c = search
 
-around-told : (o : tie.After-scope-at) → o .scope-at .result ≡ around (s (reading o) .args .table .now) (s (reading o) .args .n .0)
-around-told o =
-    let r = reading o in
-    let t = s r .args .table .now in
-    let n = s r .args .n .0 in
-    o .scope-at .ensures ∙ ap (λ m. pick (eqb m 0) (s r .args .inner) (s r .args .outer)) (r .next .ensures)
-    ∙ ap₂ (λ x y. pick (eqb (next t n) 0) x y) (node r .inner-told) (node r .outer-told) ∙ around-down t n (is r .0)
+abbrev argued : tie.Else3 → tie.After-arguments
+argued c = search
+
+abbrev reading : tie.Else3 → Read
+reading c = read (fitting (called (argued c)))
+
+abbrev counted : tie.After-rule2 → tie.Else3
+counted c = search
+
+abbrev fitted-at : tie.After-rule2 → Fitting
+fitted-at c = fitting (called (argued (counted c)))
+
+abbrev read-at : tie.After-rule2 → Read
+read-at c = reading (counted c)
 
 kind-requires : tie.Need-kind-requires
 kind-requires c κs = search needs
@@ -151,41 +194,47 @@ returns c e =
 extra-requires : tie.Need-extra-requires
 extra-requires c κs = search needs
 
+cast-extra : tie.Need-cast-extra
+cast-extra c = search needs
+
 word-requires : tie.Need-word-requires
 word-requires c κs = search needs
+
+cast-word : tie.Need-cast-word
+cast-word c = search needs
 
 next-requires : tie.Need-next-requires
 next-requires c κs = search needs
 
-cast-owner : tie.Need-cast-owner
-cast-owner c = search needs
-
-cast-rank : tie.Need-cast-rank
-cast-rank c = search needs
-
 ending-requires : tie.Need-ending-requires
 ending-requires c κs = search needs
 
+mul-tail-at : tie.Need-mul-tail-at
+mul-tail-at c = record { fits = omega (arith, end-most c) }
+
 add-tail-at : tie.Need-add-tail-at
-add-tail-at c =
-    let r : Read = search in
-    let more : tie.After-ending = search in
-    record { fits = omega (arith, ranks r, ranked r, more .ending .ensures, pick-most (eqb (r .next .result .0) 0)) }
+add-tail-at c = record { fits = omega (arith, end-most c, ranks c, ranked c) }
 
 tail-at-requires : tie.Need-tail-at-requires
 tail-at-requires c κs = search needs
+
+cast-t28 : tie.Need-cast-t28
+cast-t28 c = search needs
 
 params-requires : tie.Need-params-requires
 params-requires c κs =
     let r : Read = search in
     (node r .place .framed, function r)
 
+cast-params : tie.Need-cast-params
+cast-params c = search needs
+
 kind-fits-requires : tie.Need-kind-fits-requires
 kind-fits-requires c κs =
     let p : Fitting = search in
     let r = read p in
     let f = function r in
-    (s r .pre .1, s r .pre .2, kinds r, f .0, omega (arith, f .1, node r .place .framed .F-high), params-told p, tail-most p)
+    (s r .pre .1, kinds r, f .0, omega (arith, f .1, node r .place .framed .F-high), params-told p, tail-most p)
 
 failed-requires-2 : tie.Need-failed-requires-2
 failed-requires-2 c κs = search needs
@@ -198,6 +247,9 @@ returns-2 c e =
 rule-requires : tie.Need-rule-requires
 rule-requires c κs = search needs
 
+cast-arguments : tie.Need-cast-arguments
+cast-arguments c = search needs
+
 arguments-requires : tie.Need-arguments-requires
 arguments-requires c κs =
     let k : Called = search in
@@ -209,10 +261,11 @@ counted-requires c κs =
     let a : tie.After-arguments = search in
     let k : Called = search in
     let r = read (fitting k) in (
-      s r .pre .3,
+      s r .pre .1,
+      s r .pre .2,
       kinds r,
       fits k .small,
-      calls k,
+      k .rule .ensures,
       λ e. omega (arith, a .arguments .ensures e, params-few _ (node r .roots) _ (callee k e)),
     )
 
@@ -224,35 +277,74 @@ returns-3 c e =
     let f : tie.After-failed3 = search in
     never (sym (f .failed3 .ensures) ∙ e)
 
-scope-at-requires : tie.Need-scope-at-requires
-scope-at-requires c κs = search needs
+sub-scope : tie.Need-sub-scope
+sub-scope c =
+    let r = reading c in
+    omega (arith, outer r, up r, around-most (s r .args .table .now) (parent (s r .args .table .now) (s r .args .n .0)))
 
-hand-down-requires : tie.Need-hand-down-requires
-hand-down-requires c κs =
-    let p : Fitting = search in
-    let r = read p in
-    let o : tie.After-scope-at = search in
-    (s r .pre .1, kinds r, omega (arith, around-told o, around-lower (s r .args .table .now) (s r .args .n .0) (is r .0)), tail-most p)
+mul-scope : tie.Need-mul-scope
+mul-scope c = record { fits = omega (arith, ends-let (reading c)) }
+
+mul-scope-2 : tie.Need-mul-scope-2
+mul-scope-2 c =
+    let r = reading c in
+    let up = s r .args .own / 64 % 1024 in
+    let out = s r .args .inherited % 1024 in
+    record { fits = omega (arith, flag-times (up - out) _ (ends-let r)) }
+
+add-scope : tie.Need-add-scope
+add-scope c = record { fits = omega (arith, scope-small (reading c)) }
+
+rule-requires-2 : tie.Need-rule-requires-2
+rule-requires-2 c κs = search needs
+
+add-down : tie.Need-add-down
+add-down c =
+    let r = read-at c in
+    record { fits = omega (arith, c .rule2 .ensures, rule-small (of r .kind .result) 3) }
+
+mul-down : tie.Need-mul-down
+mul-down c = record { fits = omega (arith, tail-most (fitted-at c)) }
+
+sub-down : tie.Need-sub-down
+sub-down c = omega (arith, tail-most (fitted-at c))
+
+mul-down-2 : tie.Need-mul-down-2
+mul-down-2 c =
+    let r = read-at c in
+    record { fits = omega (arith, c .rule2 .ensures, rule-small (of r .kind .result) 3) }
+
+add-down-2 : tie.Need-add-down-2
+add-down-2 c =
+    let r = read-at c in
+    record { fits = omega (arith, scope-small r, c .rule2 .ensures, rule-small (of r .kind .result) 3) }
+
+rule-requires-3 : tie.Need-rule-requires-3
+rule-requires-3 c κs = let r = read-at c in (s r .pre .1, kinds r, omega arith)
 
 returns-4 : tie.Need-returns-4
 returns-4 c e =
-    let k : Called = search in
-    let p = fitting k in
+    let d : tie.After-rule2 = search in
+    let p = fitted-at d in
     let r = read p in
-    let a : tie.After-arguments = search in
-    let n : tie.After-counted = search in
     let m : tie.Else3 = search in
-    let o : tie.After-scope-at = search in
-    let d : tie.After-hand-down = search in
+    let n : tie.After-counted = search in
+    let a : tie.After-arguments = search in
+    let k = called a in
+    let tail = tails p .tail-at .result in
     let kids = counted-told _ _ _ _ _ _ _ (of r .kind .ensures) (extras r .extra .ensures) (words r .word .ensures) (node r .children)
-    (λ e. a .arguments .ensures (calls k ∙ ap (λ x. one (eqb x 4)) e))
+    (λ e. a .arguments .ensures (k .rule .ensures ∙ ap (λ x. one (eqb x 4)) e))
     (sym (n .counted .ensures) ∙ not-false _ (m .if3 .left)) in
-    sifts-told _ _ (is r .0) _ (of r .kind .ensures) _ _ (around-told o) (tail-known p) _ (d .hand-down .ensures)
-    (record {
-      fits = fits-here _ _ _ _ _ _ _ _ (of r .kind .ensures) (extras r .extra .ensures) (words r .word .ensures) (owns r)
-          (p .params .ensures) (tail-known p) (fits k);
-      counts = kids;
-    })
+    record {
+      fits = record {
+        fits = fits-here _ _ _ _ _ _ _ _ (of r .kind .ensures) (extras r .extra .ensures) (words r .word .ensures) (owns r)
+            (p .params .ensures) (tail-known p) (fits k);
+        counts = kids;
+      };
+      down = ap (λ x. scope r + 1024 * (x + 4096 - 4096 * tail)) (d .rule2 .ensures)
+          ∙ down-told _ _ (scope r) (of r .kind .result) tail (is r .0) (around-told r) (of r .kind .ensures) (tail-known p);
+      bound = c .rule3 .ensures ∙ ap (λ x. one (eqb x 7)) (of r .kind .ensures);
+    }
 
 pub node-spec : {M : Type 1} → statement M
 node-spec =
@@ -262,22 +354,35 @@ node-spec =
     failed-requires
     returns
     extra-requires
+    cast-extra
     word-requires
+    cast-word
     next-requires
-    cast-owner
-    cast-rank
     ending-requires
+    mul-tail-at
     add-tail-at
     tail-at-requires
+    cast-t28
     params-requires
+    cast-params
     kind-fits-requires
     failed-requires-2
     returns-2
     rule-requires
+    cast-arguments
     arguments-requires
     counted-requires
     failed-requires-3
     returns-3
-    scope-at-requires
-    hand-down-requires
+    sub-scope
+    mul-scope
+    mul-scope-2
+    add-scope
+    rule-requires-2
+    add-down
+    mul-down
+    sub-down
+    mul-down-2
+    add-down-2
+    rule-requires-3
     returns-4)

@@ -1,16 +1,16 @@
 -- `sweep::sift` meets its contract: each turn sifts a node.
--- The invariant: the nodes up to n are sifted. The measure is the nodes left.
+-- The invariant: the nodes up to n are sifted, and the others have the numbers of their children. The measure is the nodes left.
 use native.Mathlib.Omega.{arith}
 use borrow.Author.Needs.{needs}
 use borrow.Author.Tests.{not-false}
 use Prim.Native.Nat.{ℕ, _+_, _-_, _/_, _%_, _≤_, _<_}
-use mathlib.Core.Path.{_≡_, refl, ap, _∙_}
+use mathlib.Core.Path.{_≡_, ap, _∙_}
 use mathlib.Core.List.{List}
 use lib.ListN.{getD}
 use Rattle.table.specs.Bytes.{nodes, kind}
 use Rattle.table.specs.Naming.{parent}
 use Rattle.table.specs.Working.{IsNode}
-use Rattle.table.specs.Sweep.{kinOf, around, inner, tailFrom, Sifts}
+use Rattle.table.specs.Sweep.{kinOf, downOf, Sifts}
 use lib.Dec.{eqb}
 use Rattle.table.proofs.RuleLaws.{one-most}
 use Rattle.table.proofs.Family.{parent-lower}
@@ -20,12 +20,11 @@ use Rattle.table.proofs.sweep.sift.Statement.{statement}
 use Rattle.table.proofs.sweep.sift.Tie as tie
 
 abbrev Inv-loop : tie.InvT-loop
-Inv-loop table kin kids outers₀ inners₀ bounds₀ rules words counts base end froms₀ count₀ n₀ outers inners bounds froms count n =
-    (n ≤ end) × (end ≡ nodes table) × SiftedTo table n outers inners froms bounds count
+Inv-loop table kin offspring₀ bounds₀ rules operations base end count₀ n₀ offspring bounds count n =
+    (n ≤ end) × (end ≡ nodes table) × SiftedTo table n offspring bounds count
 
 abbrev μ-loop : tie.MeasureT-loop
-μ-loop table kin kids outers₀ inners₀ bounds₀ rules words counts base end froms₀ count₀ n₀ outers inners bounds froms count n =
-    end - n
+μ-loop table kin offspring₀ bounds₀ rules operations base end count₀ n₀ offspring bounds count n = end - n
 
 abbrev Start : Type 0
 Start = tie.Start Inv-loop μ-loop
@@ -84,6 +83,12 @@ sifts c = told c .node .ensures (not-false _ (c .if1 .left))
 bound-few : (c : Passing) → told c .node .result .bound ≤ 1
 bound-few c = omega (arith, sifts c .bound, one-most (eqb (kind (table (turn c)) (n (turn c))) 7))
 
+rules-requires : tie.Need-rules-requires Inv-loop μ-loop
+rules-requires c κs = search needs
+
+operations-requires : tie.Need-operations-requires Inv-loop μ-loop
+operations-requires c κs = search needs
+
 base-requires : tie.Need-base-requires Inv-loop μ-loop
 base-requires c κs = search needs
 
@@ -94,7 +99,7 @@ loop-holds : tie.Need-loop-holds Inv-loop μ-loop
 loop-holds c =
     let s : Start = search in
     let last : tie.After-last-node Inv-loop μ-loop = search in
-    (omega arith, last .last-node .ensures, sifted-none _ _ _ _ _ (s .pre .5) (s .pre .6) refl (s .pre .7))
+    (omega arith, last .last-node .ensures, sifted-none _ _ _ (s .pre .4) (s .pre .5))
 
 add-n : tie.Need-add-n Inv-loop μ-loop
 add-n c = search needs
@@ -120,68 +125,41 @@ element-copy-out-node c = search needs
 mul-node-2 : tie.Need-mul-node-2 Inv-loop μ-loop
 mul-node-2 c = search needs
 
-array-read-node : tie.Need-array-read-node Inv-loop μ-loop
-array-read-node c = let t : Turn = search in inside t
-
-mul-node-3 : tie.Need-mul-node-3 Inv-loop μ-loop
-mul-node-3 c = search needs
-
 element-copy-out-node-2 : tie.Need-element-copy-out-node-2 Inv-loop μ-loop
 element-copy-out-node-2 c = let t : Turn = search in inside t
-
-mul-node-4 : tie.Need-mul-node-4 Inv-loop μ-loop
-mul-node-4 c = search needs
-
-element-copy-out-node-3 : tie.Need-element-copy-out-node-3 Inv-loop μ-loop
-element-copy-out-node-3 c = let t : Turn = search in inside t
 
 node-requires : tie.Need-node-requires Inv-loop μ-loop
 node-requires c κs =
     let t : Turn = search in
     let base : tie.After-base Inv-loop μ-loop = search in
-    let inv = l t .loop .inv .2 in
-    let fr = s t .pre .0 in
-    let p = above t in (
+    let rules : tie.After-rules Inv-loop μ-loop = search in
+    let operations : tie.After-operations Inv-loop μ-loop = search in
+    let inv = l t .loop .inv .2 in (
       record {
-        place = record { framed = fr; start = base .base .ensures; low = node t .0; high = node t .1 };
+        place = record { framed = s t .pre .0; start = base .base .ensures; low = node t .0; high = node t .1 };
         links = s t .pre .1;
         roots = s t .pre .2;
         kin = kin t;
-        children = s t .pre .4 .each _ (node t);
+        children = inv .left (n t) (omega arith) (node t .1);
         parent-counted = λ z. inv .fits (parent (table t) (n t)) (omega arith) (omega (
           arith,
           parent-lower (table t) (n t)
               (node t .0),
         )) .counts;
-        from-told = inv .from-told (own t / 64 % 1024) (omega (arith, p)) ∙ ap (tailFrom (table t)) (up t);
-        inner-told = inv .inner-told (own t / 64 % 1024) (omega (arith, p)) ∙ ap (inner (table t)) (up t);
-        outer-told = inv .outer-told (own t / 64 % 1024) (omega (arith, p)) ∙ ap (around (table t)) (up t);
+        handed = inv .handed (own t / 64 % 1024) (omega (arith, above t)) ∙ ap (downOf (table t)) (up t);
       },
-      refl,
-      refl,
-      refl,
+      rules .rules .ensures,
+      operations .operations .ensures,
     )
 
 returns : tie.Need-returns Inv-loop μ-loop
 returns c = tt
 
-mul-outers : tie.Need-mul-outers Inv-loop μ-loop
-mul-outers c = search needs
+mul-offspring : tie.Need-mul-offspring Inv-loop μ-loop
+mul-offspring c = search needs
 
-element-write-outers : tie.Need-element-write-outers Inv-loop μ-loop
-element-write-outers c = search needs
-
-mul-inners : tie.Need-mul-inners Inv-loop μ-loop
-mul-inners c = search needs
-
-element-write-inners : tie.Need-element-write-inners Inv-loop μ-loop
-element-write-inners c = search needs
-
-mul-froms : tie.Need-mul-froms Inv-loop μ-loop
-mul-froms c = search needs
-
-array-write-froms : tie.Need-array-write-froms Inv-loop μ-loop
-array-write-froms c = search needs
+element-write-offspring : tie.Need-element-write-offspring Inv-loop μ-loop
+element-write-offspring c = search needs
 
 mul-bounds : tie.Need-mul-bounds Inv-loop μ-loop
 mul-bounds c = search needs
@@ -210,7 +188,7 @@ loop-again c =
     let inv = l t .loop .inv in (
       omega (arith, node t .1, inv .1),
       inv .1,
-      sifted-more _ _ _ _ _ _ _ (inv .2) (omega (arith, node t .1, s t .pre .0 .N-high)) _
+      sifted-more _ _ _ _ _ (inv .2) (omega (arith, node t .1, s t .pre .0 .N-high)) _
           (sifts p),
     )
 
@@ -218,7 +196,7 @@ returns-2 : tie.Need-returns-2 Inv-loop μ-loop
 returns-2 c =
     let l : Head = search in
     let inv = l .loop .inv in
-    sifted-all _ _ _ _ _ _ _ (omega (arith, inv .0, inv .1, c .loop-test .left)) (inv .2)
+    sifted-all _ _ _ _ _ (omega (arith, inv .0, inv .1, c .loop-test .left)) (inv .2)
 
 pub sift-spec : {M : Type 1} → statement M
 sift-spec =
@@ -226,6 +204,8 @@ sift-spec =
     (tie.spec
     Inv-loop
     μ-loop
+    rules-requires
+    operations-requires
     base-requires
     last-node-requires
     loop-holds
@@ -237,19 +217,11 @@ sift-spec =
     mul-node
     element-copy-out-node
     mul-node-2
-    array-read-node
-    mul-node-3
     element-copy-out-node-2
-    mul-node-4
-    element-copy-out-node-3
     node-requires
     returns
-    mul-outers
-    element-write-outers
-    mul-inners
-    element-write-inners
-    mul-froms
-    array-write-froms
+    mul-offspring
+    element-write-offspring
     mul-bounds
     element-write-bounds
     cast-count

@@ -1,29 +1,28 @@
--- `lookup::kind_fits` meets its contract: each test fails, or all are those of the kind.
+-- `sweep::kind_fits` meets its contract: each test fails, or all are those of the kind.
 use native.Mathlib.Omega.{arith}
 use Prim.Native.Nat.{_+_, _-_, _*_, _≤_}
-use mathlib.Core.Path.{ap, _∙_}
-use lib.ListN.{getD}
+use mathlib.Core.Bool.{_||_}
 use lib.Dec.{eqb}
 use borrow.Author.Tests.{leb-true}
 use Rattle.table.proofs.Tests.{never}
-use Rattle.table.proofs.RuleLaws.{rule-param, rule-below, rule-call, rule-word, one-most, flag-times, fits-told}
+use Rattle.table.proofs.RuleLaws.{one-most, flag-times, rule-small, fits-told}
 use borrow.Author.Needs.{needs}
-use Rattle.table.proofs.lookup.kind_fits.Statement.{statement}
-use Rattle.table.proofs.lookup.kind_fits.Tie as tie
+use Rattle.table.proofs.sweep.kind_fits.Statement.{statement}
+use Rattle.table.proofs.sweep.kind_fits.Tie as tie
 
 -- what was looked up: a parameter or not, a call or not
 abbrev start : tie.After-rule → tie.Start
 start c = search
 
-param : (p : tie.After-rule) → start p .args .own * p .rule .result ≤ start p .args .own
-param p = flag-times _ _ (omega (arith, p .rule .ensures ∙ rule-param _ (start p .pre .2), one-most (eqb (start p .args .kind) 2)))
+param : (p : tie.After-rule) → start p .args .params * p .rule .result ≤ start p .args .params
+param p = flag-times _ _ (omega (arith, p .rule .ensures, one-most (eqb (start p .args .kind) 2)))
 
 abbrev begin : tie.After-rule3 → tie.Start
 begin c = search
 
-call : (c : tie.After-rule3) → (let s = begin c in
-    (s .args .owner + s .args .tail - 1) * c .rule3 .result ≤ s .args .owner + s .args .tail - 1)
-call c = flag-times _ _ (omega (arith, c .rule3 .ensures ∙ rule-call _ (begin c .pre .2), one-most (eqb (begin c .args .kind) 4)))
+call : (c : tie.After-rule3) → let s = begin c in
+    (s .args .owner + s .args .tail - 1) * c .rule3 .result ≤ s .args .owner + s .args .tail - 1
+call c = flag-times _ _ (omega (arith, c .rule3 .ensures, one-most (eqb (begin c .args .kind) 4)))
 
 rule-requires : tie.Need-rule-requires
 rule-requires c κs = search needs
@@ -31,7 +30,7 @@ rule-requires c κs = search needs
 mul-below : tie.Need-mul-below
 mul-below c =
     let p : tie.After-rule = search in
-    record { fits = omega (arith, param p, start p .pre .5) }
+    record { fits = omega (arith, param p, start p .pre .4) }
 
 rule-requires-2 : tie.Need-rule-requires-2
 rule-requires-2 c κs = search needs
@@ -40,7 +39,7 @@ add-below : tie.Need-add-below
 add-below c =
     let p : tie.After-rule = search in
     let b : tie.After-rule2 = search in
-    record { fits = omega (arith, param p, start p .pre .5, b .rule2 .ensures, rule-below (start p .args .kind) (start p .pre .2)) }
+    record { fits = omega (arith, param p, start p .pre .4, b .rule2 .ensures, rule-small (start p .args .kind) 0) }
 
 returns : tie.Need-returns
 returns c = never
@@ -48,8 +47,8 @@ returns c = never
 rule-requires-3 : tie.Need-rule-requires-3
 rule-requires-3 c κs = search needs
 
-cast-if2 : tie.Need-cast-if2
-cast-if2 c = search needs
+cast-call : tie.Need-cast-call
+cast-call c = search needs
 
 returns-2 : tie.Need-returns-2
 returns-2 c = never
@@ -63,38 +62,48 @@ sub-most c = search needs
 cast-most : tie.Need-cast-most
 cast-most c = search needs
 
-cast-most-2 : tie.Need-cast-most-2
-cast-most-2 c = search needs
-
 mul-most : tie.Need-mul-most
 mul-most c =
     let k : tie.After-rule3 = search in
-    record { fits = omega (arith, call k, begin k .pre .4, begin k .pre .6) }
+    record { fits = omega (arith, call k, begin k .pre .3, begin k .pre .5) }
+
+rule-requires-4 : tie.Need-rule-requires-4
+rule-requires-4 c κs = search needs
+
+cast-most-2 : tie.Need-cast-most-2
+cast-most-2 c = search needs
 
 mul-most-2 : tie.Need-mul-most-2
 mul-most-2 c = search needs
 
-element-copy-out-most : tie.Need-element-copy-out-most
-element-copy-out-most c = search needs
-
 add-most-2 : tie.Need-add-most-2
 add-most-2 c =
     let k : tie.After-rule3 = search in
+    let w : tie.After-rule4 = search in
     let s = begin k in
-    let word = ap (λ l. getD l (s .args .kind) 0) (s .pre .1) in
-    record { fits = omega (arith, call k, s .pre .4, s .pre .6, word, rule-word (s .args .kind) (s .pre .2)) }
+    record {
+      fits = omega (
+        arith,
+        call k,
+        s .pre .3,
+        s .pre .5,
+        w .rule4 .ensures,
+        one-most (eqb (s .args .kind) 1 || eqb
+            (s .args .kind) 7),
+      );
+    }
 
 returns-3 : tie.Need-returns-3
 returns-3 c e =
     let p : tie.After-rule = search in
     let b : tie.After-rule2 = search in
     let k : tie.After-rule3 = search in
+    let w : tie.After-rule4 = search in
     let low : tie.Else1 = search in
     let some : tie.Else2 = search in
     let s = begin k in
-    fits-told _ _ _ _ _ _ _ _ _ _ (s .pre .2) (p .rule .ensures) (b .rule2 .ensures) (k .rule3 .ensures)
-    (ap (λ l. getD l (s .args .kind) 0) (s .pre .1)) (s .pre .3) (s .pre .5) (s .pre .6) (low .if1 .left) (some .if2 .left)
-    (leb-true _ _ e)
+    fits-told _ _ _ _ _ _ _ _ _ _ (s .pre .1) (p .rule .ensures) (b .rule2 .ensures) (k .rule3 .ensures) (w .rule4 .ensures) (s .pre .2)
+    (s .pre .4) (s .pre .5) (low .if1 .left) (some .if2 .left) (leb-true _ _ e)
 
 pub kind-fits-spec : {M : Type 1} → statement M
 kind-fits-spec =
@@ -106,14 +115,14 @@ kind-fits-spec =
     add-below
     returns
     rule-requires-3
-    cast-if2
+    cast-call
     returns-2
     add-most
     sub-most
     cast-most
-    cast-most-2
     mul-most
+    rule-requires-4
+    cast-most-2
     mul-most-2
-    element-copy-out-most
     add-most-2
     returns-3)

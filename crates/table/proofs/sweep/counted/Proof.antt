@@ -1,0 +1,130 @@
+-- `sweep::counted` meets its contract: what was looked up is 7.
+use native.Mathlib.Omega.{arith}
+use Prim.Native.Nat.{ℕ, _+_, _*_, _/_, _%_, _≤_}
+use lib.ListN.{getD}
+use lib.Dec.{eqb, leb}
+use mathlib.Core.Bool.{_&&_}
+use mathlib.Core.Path.{_≡_, ap, ap₂, _∙_}
+use borrow.Author.Tests.{le-leb, lt-leb}
+use Rattle.table.specs.Find.{one}
+use Rattle.table.specs.Check.{operationCounts, countsOf, within}
+use Rattle.table.specs.Sweep.{packed}
+use Rattle.table.proofs.Tests.{first-fails, first-holds}
+use Rattle.table.proofs.RuleLaws.{one-most, flag-most, flag-times, operation-read, operation-few, rule-small, count-few, count-told}
+use borrow.Author.Needs.{needs}
+use Rattle.table.proofs.sweep.counted.Statement.{statement}
+use Rattle.table.proofs.sweep.counted.Tie as tie
+
+-- the operation's counts
+module _ (s : tie.Start) where
+  op-told : getD (s .args .operations .now) (s .args .extra) 0 ≡ packed (operationCounts (s .args .extra))
+  op-told = ap (λ l. getD l (s .args .extra) 0) (s .pre .1) ∙ operation-read _ (s .pre .3)
+
+  op-few : getD (s .args .operations .now) (s .args .extra) 0 ≤ 2313
+  op-few = omega (arith, op-told, operation-few (s .args .extra))
+
+  -- what a call has more
+  more : s .args .params * s .args .call ≤ 8
+  more = flag-most _ _ 8 (omega (arith, s .pre .4, one-most (eqb (s .args .kind) 4))) (s .pre .5)
+
+-- those of a primitive alone
+abbrev start : tie.After-rule → tie.Start
+start c = search
+
+own-few : (p : tie.After-rule) → getD (start p .args .operations .now) (start p .args .extra) 0 * p .rule .result ≤ 2313
+own-few p =
+    let s = start p in
+    let x = getD (s .args .operations .now) (s .args .extra) 0 in
+    omega (arith, op-few s, flag-times x (p .rule .result) (omega (arith, p .rule .ensures, one-most (eqb (s .args .kind) 3))))
+
+-- and the kind's
+abbrev Told : Type 0
+Told = tie.After-rule2
+
+abbrev own : Told → tie.After-rule
+own c = search
+
+module _ (k : Told) where
+  abbrev s : tie.Start
+  s = start (own k)
+
+  abbrev x : ℕ
+  x = k .rule2 .result + getD (s .args .operations .now) (s .args .extra) 0 * own k .rule .result
+
+  abbrev fewest : ℕ
+  fewest = x % 256 + s .args .params * s .args .call
+
+  abbrev most : ℕ
+  most = x / 256 + s .args .params * s .args .call
+
+  told : x ≡ packed (countsOf (s .args .kind) 11 0) + packed (operationCounts (s .args .extra)) * one (eqb (s .args .kind) 3)
+  told = ap₂ (λ x y. x + y) (k .rule2 .ensures) (ap₂ (λ x y. x * y) (op-told s) (own k .rule .ensures))
+
+  counts : (leb fewest (s .args .kids) && leb (s .args .kids) most)
+      ≡ within (countsOf (s .args .kind) (s .args .extra) (s .args .params)) (s .args .kids)
+  counts = count-told (s .args .kind) (s .args .extra) x told (s .args .params) (s .args .call) (s .args .kids) (s .pre .4)
+
+mul-own : tie.Need-mul-own
+mul-own c = search needs
+
+element-copy-out-own : tie.Need-element-copy-out-own
+element-copy-out-own c = search needs
+
+cast-own : tie.Need-cast-own
+cast-own c =
+    let s : tie.Start = search in
+    record { fits = omega (arith, op-few s) }
+
+rule-requires : tie.Need-rule-requires
+rule-requires c κs = search needs
+
+mul-own-2 : tie.Need-mul-own-2
+mul-own-2 c = record { fits = omega (arith, own-few c) }
+
+rule-requires-2 : tie.Need-rule-requires-2
+rule-requires-2 c κs = search needs
+
+add-c : tie.Need-add-c
+add-c c = record { fits = omega (arith, own-few (own c), c .rule2 .ensures, rule-small (start (own c) .args .kind) 7) }
+
+mul-more : tie.Need-mul-more
+mul-more c =
+    let s : tie.Start = search in
+    record { fits = omega (arith, more s) }
+
+add-if1 : tie.Need-add-if1
+add-if1 c =
+    let s : tie.Start = search in
+    record { fits = omega (arith, more s) }
+
+add-result : tie.Need-add-result
+add-result c =
+    let k : Told = search in
+    record { fits = omega (arith, more (s k), count-few (s k .args .kind) (s k .args .extra) (x k) (told k)) }
+
+returns : tie.Need-returns
+returns c =
+    let k : Told = search in
+    first-fails (leb (fewest k) (s k .args .kids)) (leb (s k .args .kids) (most k)) _ (lt-leb _ _ (c .if1 .taken)) (counts k)
+
+returns-2 : tie.Need-returns-2
+returns-2 c =
+    let k : Told = search in
+    first-holds (leb (fewest k) (s k .args .kids)) (leb (s k .args .kids) (most k)) _ (le-leb _ _ (c .if1 .left)) (counts k)
+
+pub counted-spec : {M : Type 1} → statement M
+counted-spec =
+    tie.close
+    (tie.spec
+    mul-own
+    element-copy-out-own
+    cast-own
+    rule-requires
+    mul-own-2
+    rule-requires-2
+    add-c
+    mul-more
+    add-if1
+    add-result
+    returns
+    returns-2)
