@@ -56,15 +56,17 @@ pub(crate) fn formed(kind: u16, extra: u16, word: u32, first: Node) -> bool
     }
 }
 
-// What a kind asks, in numbers: extra is below `extras`, a parameter's below its function's count; the word may be any where `words` is 1,
-// else it is a callee or 0; `reach` is twice from where its children are in tail position, and 1 more for a let.
+// What a kind asks of a node and tells its children, in numbers: 1 is yes.
 pub struct Rule {
+    // What extra is below; a parameter's is below its function's count.
     pub extras: u16,
     pub parameter: u16,
     pub call: u16,
+    // Twice what children reach in tail position, and 1 more for a let.
     pub reach: u16,
     pub bound: u16,
     pub primitive: u16,
+    // Whether the word may be any; a call's is a callee.
     pub words: u16,
 }
 
@@ -196,7 +198,7 @@ pub(crate) fn rules() -> [u16; 64]
     rules
 }
 
-// And by operation, the numbers of children.
+// The same for the operations' numbers of children.
 pub(crate) fn operations() -> [u16; 16]
     ensures { λ r. ⌜ r ≡ operationRules 11 ⌝ }
 {

@@ -82,6 +82,7 @@ fn passes(table: &[u8], kin: &mut [u32; 513]) -> bool
     if !linking::roots(table, kin) {
         return false;
     }
+    // Of each node's children: how many they are, and once it is sifted what they inherit.
     let mut offspring = [0u32; 513];
     if !linking::links(table, kin, &mut offspring) {
         return false;

@@ -110,13 +110,13 @@ fn counted(
         × (call ≡ 1 → params ≤ 8) ⌝ }
     ensures { λ r. ⌜ r ≡ within (countsOf kind extra params) kids ⌝ }
 {
-    let own = (operations[extra as usize] as u32) * rule(rules, kind, kinds::PRIMITIVE);
-    let c = rule(rules, kind, kinds::COUNTS) + own;
+    let operation = (operations[extra as usize] as u32) * rule(rules, kind, kinds::PRIMITIVE);
+    let counts = rule(rules, kind, kinds::COUNTS) + operation;
     let more = params * call;
-    if kids < c % 256 + more {
+    if kids < counts % 256 + more {
         false
     } else {
-        kids <= c / 256 + more
+        kids <= counts / 256 + more
     }
 }
 

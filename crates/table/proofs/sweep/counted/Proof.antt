@@ -64,28 +64,28 @@ module _ (k : Told) where
       ≡ within (countsOf (s .args .kind) (s .args .extra) (s .args .params)) (s .args .kids)
   counts = count-told (s .args .kind) (s .args .extra) x told (s .args .params) (s .args .call) (s .args .kids) (s .pre .4)
 
-mul-own : tie.Need-mul-own
-mul-own c = search needs
+mul-operation : tie.Need-mul-operation
+mul-operation c = search needs
 
-element-copy-out-own : tie.Need-element-copy-out-own
-element-copy-out-own c = search needs
+element-copy-out-operation : tie.Need-element-copy-out-operation
+element-copy-out-operation c = search needs
 
-cast-own : tie.Need-cast-own
-cast-own c =
+cast-operation : tie.Need-cast-operation
+cast-operation c =
     let s : tie.Start = search in
     record { fits = omega (arith, op-few s) }
 
 rule-requires : tie.Need-rule-requires
 rule-requires c κs = search needs
 
-mul-own-2 : tie.Need-mul-own-2
-mul-own-2 c = record { fits = omega (arith, own-few c) }
+mul-operation-2 : tie.Need-mul-operation-2
+mul-operation-2 c = record { fits = omega (arith, own-few c) }
 
 rule-requires-2 : tie.Need-rule-requires-2
 rule-requires-2 c κs = search needs
 
-add-c : tie.Need-add-c
-add-c c = record { fits = omega (arith, own-few (own c), c .rule2 .ensures, rule-small (start (own c) .args .kind) 7) }
+add-counts : tie.Need-add-counts
+add-counts c = record { fits = omega (arith, own-few (own c), c .rule2 .ensures, rule-small (start (own c) .args .kind) 7) }
 
 mul-more : tie.Need-mul-more
 mul-more c =
@@ -116,13 +116,13 @@ pub counted-spec : {M : Type 1} → statement M
 counted-spec =
     tie.close
     (tie.spec
-    mul-own
-    element-copy-out-own
-    cast-own
+    mul-operation
+    element-copy-out-operation
+    cast-operation
     rule-requires
-    mul-own-2
+    mul-operation-2
     rule-requires-2
-    add-c
+    add-counts
     mul-more
     add-if1
     add-result
