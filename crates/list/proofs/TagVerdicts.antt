@@ -27,7 +27,7 @@ use Rattle.list.proofs.ListLaws.{tags-are}
 
 module _ (cells tags : List ℕ) where
   abbrev N : ℕ
-  N = cellAt cells tableSlot 1
+  N = cellAt cells tableSlot 2
 
   abbrev told : Verdict
   told = accepted (cellAt cells tableSlot 0) N

@@ -8,7 +8,7 @@ use Rattle.table.specs.Pick.{Range}
 use Rattle.table.specs.Bytes.{functions, nodes}
 use Rattle.table.specs.Check.{checkOf, accepted}
 use Rattle.table.specs.Decoded.{decodedInto}
-use Rattle.table.proofs.SurveyLaws.{taken-by, taken-framed}
+use Rattle.table.proofs.SurveyLaws.{taken-by, taken-small}
 use Rattle.table.proofs.DecodedLaws.{decoded-read}
 use Rattle.list.proofs.TagVerdicts.{held-read}
 use Rattle.list.specs.Tags.{Holding, bitsSet, checkWith, heldBy, isCall, listed, tagged, tagsOf, tagsRefusal}
@@ -50,4 +50,4 @@ pub tags-beside : (t cells tags : List ℕ) (F N : ℕ) → checkOf t ≡ accept
     → heldBy (decodedInto t cells) tags ≡ tagsRefusal t tags
 tags-beside t cells tags F N e z =
     let k = taken-by t F N (sym e) .0 in
-    held-read t (decodedInto t cells) tags (record { taken = k; told = decoded-read t cells (taken-framed t k) z })
+    held-read t (decodedInto t cells) tags (record { taken = k; told = decoded-read t cells (taken-small t k) z })

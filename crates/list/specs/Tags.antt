@@ -67,7 +67,7 @@ cellFits cells tags n =
 
 unfoldable pub heldBy : (cells tags : List ℕ) → Verdict
 heldBy cells tags =
-    let N = cellAt cells tableSlot 1 in
+    let N = cellAt cells tableSlot 2 in
     let none = all (λ i. not (tagged tags (N + i))) (8 * length tags - N) in
     stage 10 (eqb (length tags) ((N + 7) / 8) && none) (lowest (cellFits cells tags) N) λ _.
     accepted (cellAt cells tableSlot 0) N

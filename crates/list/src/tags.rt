@@ -31,7 +31,7 @@ fn none_past(tags: &[u8], last: Node) -> bool
 
 // The lowest node that is tagged and is no call, or is a self call; 0 where there is none.
 fn lowest_unfit(cells: &Cells, tags: &[u8]) -> Node
-    ensures { λ r. ⌜ r .0 ≡ lowest (cellFits (now (cells .entry)) (now (tags .entry))) (cellAt (now (cells .entry)) tableSlot 1) ⌝ }
+    ensures { λ r. ⌜ r .0 ≡ lowest (cellFits (now (cells .entry)) (now (tags .entry))) (cellAt (now (cells .entry)) tableSlot 2) ⌝ }
 {
     let last = decoded::last(cells);
     let end = last.0;

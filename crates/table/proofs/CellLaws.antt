@@ -1,24 +1,21 @@
--- an array of cells, slot by slot: how far it is filled, what a record put into its slot changes, and what is read then
-use Prim.Native.Nat.{ℕ, zero, suc, _+_, _-_, _*_, _%_, _≤_, _<_}
-use mathlib.Core.Path.{_≡_, refl, subst, sym, ap, ap₂, _∙_}
+-- an array of cells, slot by slot: what numbers put into a slot change, what fields are read then, and those of the records
+use Prim.Native.Nat.{ℕ, zero, suc, _+_, _*_, _/_, _%_, _≤_, _<_}
+use mathlib.Core.Path.{_≡_, refl, sym, ap, ap₂, _∙_}
 use mathlib.Core.List.{List}
 use native.Mathlib.Omega.{arith}
-use native.Mathlib.Decide.{ℕ-discrete, decLt, decLe}
-use native.Mathlib.Nat.{mod-self, mod-eq-of-lt}
-use mathlib.Core.Bool.{Bool, true, false}
+use native.Mathlib.Decide.{ℕ-discrete, decLt}
 use lib.Dec.{eqb, ltb}
-use lib.ListN.{length, getD, replicate, length-set, length-replicate}
+use lib.ListN.{length, length-set}
 use lib.Seq.{getD-set-same, getD-set-other}
-use borrow.Author.Tests.{le-leb, lt-leb, lt-ltb, le-ltb, eq-eqb, ne-eqb}
+use borrow.Author.Tests.{lt-ltb, le-ltb, eq-eqb, ne-eqb}
 use Rattle.table.specs.Pick.{pick}
-use Rattle.table.specs.Bytes.{functions, nodes, word, fourAt}
-use Rattle.table.specs.Naming.{owner, parent}
-use Rattle.table.specs.Decoded.{cellAt, putCell, nodeSlot, functionSlot, tableSlot, low, high, nodeField, functionField, tableField}
-use Rattle.table.specs.Decoded.{putFields}
-use Rattle.table.specs.Working.{IsNode, IsFunction, Framed, CellsTo, Raw, Decoded, numberAt, upTo, filledTo, Filled}
-use Rattle.table.proofs.Loops.{blank-at}
+use Rattle.table.specs.Bytes.{twoAt, fourAt, functionAt, nodeAt, params, spare, root, kind, extra, word, first, next}
+use Rattle.table.specs.Naming.{owner}
+use Rattle.table.specs.Decoded.{numberAt, putNumber, putNumbers, fieldOf, cellAt, nodeSlot, low, high}
+use Rattle.table.specs.Decoded.{nodeField, functionField, nodeNumber, functionNumber}
+use Rattle.table.specs.Working.{IsNode, CellsTo}
 
--- by the number of a slot
+-- by a field or a number of a slot
 pub by-eight : (P : ℕ → Type 0) → P 0 → P 1 → P 2 → P 3 → P 4 → P 5 → P 6 → P 7 → (k : ℕ) → k < 8 → P k
 by-eight P a b c d e f g h zero l = a
 by-eight P a b c d e f g h (suc zero) l = b
@@ -33,328 +30,95 @@ by-eight P a b c d e f g h (suc (suc (suc (suc (suc (suc (suc (suc k)))))))) l =
 -- slot s of an array becomes W, and the others stay
 pub record Row (s : ℕ) (W : ℕ → ℕ) (cells cells′ : List ℕ) : Type 0 where
   pub size : length cells′ ≡ length cells
-  pub here : (k : ℕ) → k < 8 → cellAt cells′ s k ≡ W k
-  pub other : (s′ k : ℕ) → (s′ ≡ s → ⊥) → k < 8 → cellAt cells′ s′ k ≡ cellAt cells s′ k
+  pub here : (k : ℕ) → k < 8 → numberAt cells′ s k ≡ W k
+  pub other : (s′ k : ℕ) → (s′ ≡ s → ⊥) → k < 8 → numberAt cells′ s′ k ≡ numberAt cells s′ k
 
-row-start : (s : ℕ) (cells : List ℕ) → Row s (cellAt cells s) cells cells
+pub row-start : (s : ℕ) (cells : List ℕ) → Row s (numberAt cells s) cells cells
 row-start s cells = record { size = refl; here = λ k h. refl; other = λ s′ k d h. refl }
 
-row-put : (s : ℕ) (W : ℕ → ℕ) (cells cells′ : List ℕ) → length cells ≡ 4360 → s < 545 → Row s W cells cells′ → (j x : ℕ) → j < 8
-    → Row s (λ k. pick (eqb k j) x (W k)) cells (putCell cells′ s j x)
-unfolding cellAt putCell
+pub row-put : (s : ℕ) (W : ℕ → ℕ) (cells cells′ : List ℕ) → length cells ≡ 4360 → s < 545 → Row s W cells cells′ → (j x : ℕ) → j < 8
+    → Row s (λ k. pick (eqb k j) x (W k)) cells (putNumber cells′ s j x)
+unfolding numberAt putNumber
 row-put s W cells cells′ z b r j x i = record {
   size = length-set cells′ (8 * s + j) x ∙ r .size;
   here = λ k h. here k h (ℕ-discrete k j);
   other = λ s′ k d h. getD-set-other cells′ (8 * s + j) (8 * s′ + k) x 0 (λ e. d (omega arith)) ∙ r .other s′ k d h;
 }
   where
-    here : (k : ℕ) → k < 8 → Dec (k ≡ j) → cellAt (putCell cells′ s j x) s k ≡ pick (eqb k j) x (W k)
+    here : (k : ℕ) → k < 8 → Dec (k ≡ j) → numberAt (putNumber cells′ s j x) s k ≡ pick (eqb k j) x (W k)
     here k h (yes e) = rw (e, eq-eqb j j refl) (getD-set-same cells′ (8 * s + j) x 0 (omega (arith, r .size)))
     here k h (no e) = rw (ne-eqb k j e) (getD-set-other cells′ (8 * s + j) (8 * s + k) x 0 (λ q. e (omega arith)) ∙ r .here k h)
 
 row-as : {s : ℕ} {W U : ℕ → ℕ} {cells cells′ : List ℕ} → Row s W cells cells′ → ((k : ℕ) → k < 8 → W k ≡ U k) → Row s U cells cells′
 row-as r f = record { size = r .size; here = λ k h. r .here k h ∙ f k h; other = r .other }
 
--- the first numbers of a record
-pub row-fields : (k s : ℕ) (g : ℕ → ℕ) (cells : List ℕ) → length cells ≡ 4360 → s < 545 → k ≤ 8
-    → Row s (λ j. pick (ltb j k) (g j) (cellAt cells s j)) cells (putFields k s g cells)
-unfolding putFields
-row-fields zero s g cells z b i = row-as (row-start s cells) (λ j h. sym (ap (λ x. pick x (g j) (cellAt cells s j)) (le-ltb j 0
+-- the numbers of slot s, of which the first k are put
+abbrev pub over : (k s : ℕ) → (ℕ → ℕ) → List ℕ → ℕ → ℕ
+over k s g cells j = pick (ltb j k) (g j) (numberAt cells s j)
+
+pub row-numbers : (k s : ℕ) (g : ℕ → ℕ) (cells : List ℕ) → length cells ≡ 4360 → s < 545 → k ≤ 8
+    → Row s (over k s g cells) cells (putNumbers k s g cells)
+unfolding putNumbers
+row-numbers zero s g cells z b i = row-as (row-start s cells) (λ j h. sym (ap (λ x. pick x (g j) (numberAt cells s j)) (le-ltb j 0
     (omega arith))))
-row-fields (suc k) s g cells z b i =
-    row-as (row-put s _ cells _ z b (row-fields k s g cells z b (omega arith)) k (g k) (omega arith)) (λ j h. one-more j
+row-numbers (suc k) s g cells z b i =
+    row-as (row-put s _ cells _ z b (row-numbers k s g cells z b (omega arith)) k (g k) (omega arith)) (λ j h. one-more j
     (ℕ-discrete j k) (decLt j k))
   where
     one-more : (j : ℕ) → Dec (j ≡ k) → Dec (j < k)
-        → pick (eqb j k) (g k) (pick (ltb j k) (g j) (cellAt cells s j)) ≡ pick (ltb j (suc k)) (g j) (cellAt cells s j)
+        → pick (eqb j k) (g k) (pick (ltb j k) (g j) (numberAt cells s j)) ≡ pick (ltb j (suc k)) (g j) (numberAt cells s j)
     one-more j (yes e) d = rw (eq-eqb j k e, lt-ltb j (suc k) (omega arith)) (ap g (sym e))
     one-more j (no e) (yes d) = rw (ne-eqb j k e, lt-ltb j k d, lt-ltb j (suc k) (omega arith))
     one-more j (no e) (no d) = rw (ne-eqb j k e, le-ltb j k (omega arith), le-ltb j (suc k) (omega arith))
 
--- the number that has a slot, and the slot that a number has
-number-other : (m s : ℕ) → (s ≡ 0 → ⊥) → numberAt m s ≡ s
-number-other m s d = rw (ne-eqb s 0 d)
+-- the fields are read off the numbers alone
+fields-as : (g h : ℕ → ℕ) → ((k : ℕ) → k < 8 → g k ≡ h k) → (k : ℕ) → k < 8 → fieldOf g k ≡ fieldOf h k
+fields-as g h e = by-eight (λ k. fieldOf g k ≡ fieldOf h k) (ap (λ x. x % 256) (e 0 (omega arith))) (ap (λ x. x / 256) (e 0 (omega arith)))
+    (e 1 (omega arith)) (e 2 (omega arith)) (e 3 (omega arith)) (e 4 (omega arith)) (ap (λ x. x % 64) (e 5 (omega arith)))
+    (ap (λ x. x / 64) (e 5 (omega arith)))
 
-numberAt-low : (m s : ℕ) → 1 ≤ m → 1 ≤ numberAt m s
-numberAt-low m s h = go (ℕ-discrete s 0)
-  where
-    go : Dec (s ≡ 0) → 1 ≤ numberAt m s
-    go (yes q) = rw q h
-    go (no q) = omega (arith, number-other m s q)
+module _ {s : ℕ} {W : ℕ → ℕ} {cells cells′ : List ℕ} (row : Row s W cells cells′) where
+  pub field-here : (k : ℕ) → k < 8 → cellAt cells′ s k ≡ fieldOf W k
+  unfolding cellAt
+  field-here = fields-as (numberAt cells′ s) W (row .here)
 
-slot-number : (m j : ℕ) → 1 ≤ j → j ≤ m → numberAt m (j % m) ≡ j
-slot-number m j a b = go (ℕ-discrete j m)
-  where
-    go : Dec (j ≡ m) → numberAt m (j % m) ≡ j
-    go (yes q) = rw (q, mod-self m) refl
-    go (no q) = rw (mod-eq-of-lt {n = j} {m = m} (omega arith)) (number-other m j (λ e. omega arith))
+  pub field-other : (s′ k : ℕ) → (s′ ≡ s → ⊥) → k < 8 → cellAt cells′ s′ k ≡ cellAt cells s′ k
+  unfolding cellAt
+  field-other s′ k d = fields-as (numberAt cells′ s′) (numberAt cells s′) (λ j. row .other s′ j d) k
 
-number-slot : (m s j : ℕ) → s < m → numberAt m s ≡ j → s ≡ j % m
-number-slot m s j b e = go (ℕ-discrete s 0)
-  where
-    go : Dec (s ≡ 0) → s ≡ j % m
-    go (yes q) =
-        let p : m ≡ j = rw q at e in
-        q ∙ sym (ap (λ i. i % m) (sym p) ∙ mod-self m)
-    go (no q) = sym (ap (λ i. i % m) (sym e ∙ number-other m s q) ∙ mod-eq-of-lt b)
+-- a node's numbers hold its fields: the kind is a byte, the function below 64
+module _ (t : List ℕ) (n : ℕ) where
+  first-two : twoAt t (nodeAt t n + 2 * 0) ≡ kind t n + 256 * extra t n
+  unfolding twoAt kind extra
+  first-two = let e : nodeAt t n + 2 * 0 ≡ nodeAt t n = omega arith in ap (twoAt t) e
 
-pub upTo-in : (g : ℕ → ℕ) (m n : ℕ) → n ≤ m → upTo m g n ≡ g n
-upTo-in g m n h = ap (λ b. pick b (g n) 0) (le-leb n m h)
+  upper-half : twoAt t (nodeAt t n + 2 * 2) ≡ high t n
+  unfolding high
+  upper-half = ap (twoAt t) (omega arith)
 
-pub upTo-past : (g : ℕ → ℕ) (m n : ℕ) → m < n → upTo m g n ≡ 0
-upTo-past g m n h = ap (λ b. pick b (g n) 0) (lt-leb n m h)
+  pub record-fields : kind t n < 256 → (k : ℕ) → k < 6 → fieldOf (nodeNumber t n) k ≡ nodeField t n k
+  unfolding low first next
+  record-fields a k h = by-eight (λ k. k < 6 → fieldOf (nodeNumber t n) k ≡ nodeField t n k) (λ _. omega (arith, first-two))
+      (λ _. omega (arith, first-two)) (λ _. refl) (λ _. upper-half) (λ _. refl) (λ _. refl) (λ h. absurd (omega arith))
+      (λ h. absurd (omega arith)) k (omega arith) h
 
-upTo-on : (g : ℕ → ℕ) (m n : ℕ) → (n ≡ m + 1 → ⊥) → upTo m g n ≡ upTo (m + 1) g n
-upTo-on g m n d = go (decLe n m)
-  where
-    go : Dec (n ≤ m) → upTo m g n ≡ upTo (m + 1) g n
-    go (yes h) = upTo-in g m n h ∙ sym (upTo-in g (m + 1) n (omega arith))
-    go (no h) = upTo-past g m n (omega arith) ∙ sym (upTo-past g (m + 1) n (omega arith))
+  pub node-fields : kind t n < 256 → owner t n < 64 → (k : ℕ) → k < 8 → fieldOf (nodeNumber t n) k ≡ nodeField t n k
+  node-fields a b =
+      let told = record-fields a in
+      by-eight (λ k. fieldOf (nodeNumber t n) k ≡ nodeField t n k) (told 0 (omega arith)) (told 1 (omega arith)) (told 2 (omega arith))
+      (told 3 (omega arith)) (told 4 (omega arith)) (told 5 (omega arith)) (omega arith) (omega arith)
 
--- which of the three kinds a slot is of
-module _ (t : List ℕ) (f n m : ℕ) where
-  of-node : (s k : ℕ) → s < 512 → filledTo t f n m s k ≡ upTo (pick (ltb k 6) n m) (λ n. nodeField t n k) (numberAt 512 s)
-  of-node s k h = rw (lt-ltb s 512 h)
+-- a function's, of which the parameter count is a byte
+module _ (t : List ℕ) (f : ℕ) where
+  record-two : twoAt t (functionAt f + 2 * 0) ≡ params t f + 256 * spare t f
+  unfolding twoAt params spare
+  record-two = let e : functionAt f + 2 * 0 ≡ functionAt f = omega arith in ap (twoAt t) e
 
-  of-function : (s k : ℕ) → 512 ≤ s → s < 544 → filledTo t f n m s k ≡ upTo f (λ f. functionField t f k) (numberAt 32 (s - 512))
-  of-function s k h l = rw (le-ltb s 512 h, lt-ltb s 544 l)
-
-  of-table : (s k : ℕ) → 544 ≤ s → filledTo t f n m s k ≡ tableField t k
-  of-table s k h = rw (le-ltb s 512 (omega arith), le-ltb s 544 h)
-
--- one slot more
-module _ (t cells cells′ : List ℕ) (f n m f′ n′ m′ s₀ : ℕ) (W : ℕ → ℕ) (h : Filled t f n m cells) (row : Row s₀ W cells cells′)
-    (fits : (k : ℕ) → k < 8 → W k ≡ filledTo t f′ n′ m′ s₀ k)
-    (on : (s k : ℕ) → s < 545 → k < 8 → (s ≡ s₀ → ⊥) → filledTo t f n m s k ≡ filledTo t f′ n′ m′ s k) where
-  filled-row : Filled t f′ n′ m′ cells′
-  filled-row = record { size = row .size ∙ h .size; each = λ s k a b. each s k a b (ℕ-discrete s s₀) }
-    where
-      each : (s k : ℕ) → s < 545 → k < 8 → Dec (s ≡ s₀) → cellAt cells′ s k ≡ filledTo t f′ n′ m′ s k
-      each s k a b (yes e) = rw e (row .here k b ∙ fits k b)
-      each s k a b (no e) = row .other s k e b ∙ h .each s k a b ∙ on s k a b e
-
--- nothing but the sizes
-pub filled-none : (t cells : List ℕ) → cells ≡ replicate 4360 0 → (cells′ : List ℕ)
-    → cells′ ≡ putFields 2 tableSlot (tableField t) cells → Filled t 0 0 0 cells′
-unfolding cellAt
-filled-none t cells e cells′ q =
-    subst (Filled t 0 0 0) (sym q) (record { size = two .size ∙ size; each = λ s k a b. each s k a b (ℕ-discrete s 544) })
-  where
-    size : length cells ≡ 4360
-    size = ap length e ∙ length-replicate {A = ℕ} 4360 0
-
-    two : Row 544 (λ k. pick (ltb k 2) (tableField t k) (cellAt cells 544 k)) cells (putFields 2 544 (tableField t) cells)
-    two = row-fields 2 544 (tableField t) cells size (omega arith) (omega arith)
-
-    zero-at : (i : ℕ) → getD cells i 0 ≡ 0
-    zero-at i = ap (λ l. getD l i 0) e ∙ blank-at {A = ℕ} 4360 i 0
-
-    none : (b : Bool) → _≡_ {A = ℕ} (pick b 0 0) 0
-    none true = refl
-    none false = refl
-
-    own : (k : ℕ) → k < 8 → pick (ltb k 2) (tableField t k) (cellAt cells 544 k) ≡ tableField t k
-    own = by-eight (λ k. pick (ltb k 2) (tableField t k) (cellAt cells 544 k) ≡ tableField t k) refl refl
-        (zero-at _) (zero-at _) (zero-at _) (zero-at _) (zero-at _) (zero-at _)
-
-    past : (s k : ℕ) → s < 544 → Dec (s < 512) → filledTo t 0 0 0 s k ≡ 0
-    past s k a (yes b) = of-node t 0 0 0 s k b
-        ∙ ap (λ x. upTo x (λ n. nodeField t n k) (numberAt 512 s)) (none (ltb k 6))
-        ∙ upTo-past (λ n. nodeField t n k) 0 (numberAt 512 s) (numberAt-low 512 s (omega arith))
-    past s k a (no b) = of-function t 0 0 0 s k (omega arith) a
-        ∙ upTo-past (λ f. functionField t f k) 0 (numberAt 32 (s - 512)) (numberAt-low 32 (s - 512) (omega arith))
-
-    each : (s k : ℕ) → s < 545 → k < 8 → Dec (s ≡ 544)
-        → cellAt (putFields 2 544 (tableField t) cells) s k ≡ filledTo t 0 0 0 s k
-    each s k a b (yes q) = rw q (two .here k b ∙ own k b)
-    each s k a b (no q) = two .other s k q b ∙ zero-at _ ∙ sym (past s k (omega arith) (decLt s 512))
-
--- a function more
-module _ (t cells : List ℕ) (f : ℕ) (l : f < 32) (h : Filled t f 0 0 cells) where
-  function-row : Row (functionSlot (f + 1)) (λ k. pick (ltb k 3) (functionField t (f + 1) k) (cellAt cells (functionSlot (f + 1)) k)) cells
-      (putFields 3 (functionSlot (f + 1)) (functionField t (f + 1)) cells)
-  function-row = row-fields 3 (functionSlot (f + 1)) (functionField t (f + 1)) cells (h .size) (omega arith) (omega arith)
-
-  -- f + 1 is the function whose slot this is
-  own-function : (g k : ℕ) → filledTo t g 0 0 (functionSlot (f + 1)) k ≡ upTo g (λ f. functionField t f k) (f + 1)
-  own-function g k =
-      let s = functionSlot (f + 1) in
-      of-function t g 0 0 s k (omega arith) (omega arith)
-      ∙ ap (λ n. upTo g (λ f. functionField t f k) n) (ap (numberAt 32) less ∙ slot-number 32 (f + 1) (omega arith) (omega arith))
-    where
-      less : functionSlot (f + 1) - 512 ≡ (f + 1) % 32
-      less = omega arith
-
-  pub filled-function : (cells′ : List ℕ) → cells′ ≡ putFields 3 (functionSlot (f + 1)) (functionField t (f + 1)) cells
-      → Filled t (f + 1) 0 0 cells′
-  filled-function cells′ e = subst (Filled t (f + 1) 0 0) (sym e)
-      (filled-row t cells _ f 0 0 (f + 1) 0 0 (functionSlot (f + 1)) _ h function-row
-      (λ k b. fits k b ∙ sym (own-function (f + 1) k ∙ upTo-in (λ f. functionField t f k) (f + 1) (f + 1) (omega arith))) on)
-    where
-      -- nothing stood there before
-      blank : (k : ℕ) → k < 8 → cellAt cells (functionSlot (f + 1)) k ≡ 0
-      blank k b = h .each (functionSlot (f + 1)) k (omega arith) b ∙ own-function f k
-          ∙ upTo-past (λ f. functionField t f k) f (f + 1) (omega arith)
-
-      fits : (k : ℕ) → k < 8 → pick (ltb k 3) (functionField t (f + 1) k) (cellAt cells (functionSlot (f + 1)) k)
-          ≡ functionField t (f + 1) k
-      fits = by-eight (λ k. pick (ltb k 3) (functionField t (f + 1) k) (cellAt cells (functionSlot (f + 1)) k) ≡ functionField t (f + 1) k)
-          refl refl refl (blank 3 (omega arith)) (blank 4 (omega arith)) (blank 5 (omega arith)) (blank 6 (omega arith)) (blank 7
-          (omega arith))
-
-      on : (s k : ℕ) → s < 545 → k < 8 → (s ≡ functionSlot (f + 1) → ⊥) → filledTo t f 0 0 s k ≡ filledTo t (f + 1) 0 0 s k
-      on s k a b d = go (decLt s 512) (decLt s 544)
-        where
-          go : Dec (s < 512) → Dec (s < 544) → filledTo t f 0 0 s k ≡ filledTo t (f + 1) 0 0 s k
-          go (yes x) y = of-node t f 0 0 s k x ∙ sym (of-node t (f + 1) 0 0 s k x)
-          go (no x) (yes y) = of-function t f 0 0 s k (omega arith) y
-              ∙ upTo-on (λ f. functionField t f k) f (numberAt 32 (s - 512))
-              (λ e. let q = number-slot 32 (s - 512) (f + 1) (omega arith) e in d (omega arith))
-              ∙ sym (of-function t (f + 1) 0 0 s k (omega arith) y)
-          go (no x) (no y) = of-table t f 0 0 s k (omega arith) ∙ sym (of-table t (f + 1) 0 0 s k (omega arith))
-
--- a node more: its record, or its function and parent
-module _ (t cells : List ℕ) (F n m j : ℕ) (low : 1 ≤ j) (high : j ≤ 512) (h : Filled t F n m cells) where
-  -- j is the node whose slot this is
-  own-node : (n m k : ℕ) → filledTo t F n m (nodeSlot j) k ≡ upTo (pick (ltb k 6) n m) (λ n. nodeField t n k) j
-  own-node n m k = of-node t F n m (nodeSlot j) k (omega arith)
-      ∙ ap (λ i. upTo (pick (ltb k 6) n m) (λ n. nodeField t n k) i) (slot-number 512 j low high)
-
-  -- what is filled already
-  pub filled-at : (k : ℕ) → k < 8 → j ≤ pick (ltb k 6) n m → cellAt cells (nodeSlot j) k ≡ nodeField t j k
-  filled-at k b i = h .each (nodeSlot j) k (omega arith) b ∙ own-node n m k ∙ upTo-in (λ n. nodeField t n k) (pick (ltb k 6) n m) j i
-
-  -- and what isn't
-  filled-blank : (k : ℕ) → k < 8 → pick (ltb k 6) n m < j → cellAt cells (nodeSlot j) k ≡ 0
-  filled-blank k b i = h .each (nodeSlot j) k (omega arith) b ∙ own-node n m k ∙ upTo-past (λ n. nodeField t n k) (pick (ltb k 6) n m) j i
-
-  node-on : (n′ m′ : ℕ) → ((k : ℕ) (i : ℕ) → (i ≡ j → ⊥) → upTo (pick (ltb k 6) n m) (λ n. nodeField t n k) i
-      ≡ upTo (pick (ltb k 6) n′ m′) (λ n. nodeField t n k) i)
-      → (s k : ℕ) → s < 545 → k < 8 → (s ≡ nodeSlot j → ⊥) → filledTo t F n m s k ≡ filledTo t F n′ m′ s k
-  node-on n′ m′ on s k a b d = go (decLt s 512) (decLt s 544)
-    where
-      go : Dec (s < 512) → Dec (s < 544) → filledTo t F n m s k ≡ filledTo t F n′ m′ s k
-      go (yes x) y = of-node t F n m s k x ∙ on k (numberAt 512 s) (λ e. d (number-slot 512 s j x e)) ∙ sym (of-node t F n′ m′ s k x)
-      go (no x) (yes y) = of-function t F n m s k (omega arith) y ∙ sym (of-function t F n′ m′ s k (omega arith) y)
-      go (no x) (no y) = of-table t F n m s k (omega arith) ∙ sym (of-table t F n′ m′ s k (omega arith))
-
--- by which of its numbers are filled
-by-part : (P : ℕ → Type 0) (k n m : ℕ) → P n → P m → P (pick (ltb k 6) n m)
-by-part P k n m a b = go (ltb k 6)
-  where
-    go : (x : Bool) → P (pick x n m)
-    go true = a
-    go false = b
-
-pub filled-node : (t cells : List ℕ) (F n : ℕ) → n < 512 → Filled t F n 0 cells
-    → (cells′ : List ℕ) → cells′ ≡ putFields 6 (nodeSlot (n + 1)) (nodeField t (n + 1)) cells → Filled t F (n + 1) 0 cells′
-filled-node t cells F n l h cells′ e = subst (Filled t F (n + 1) 0) (sym e)
-    (filled-row t cells _ F n 0 F (n + 1) 0 (nodeSlot (n + 1)) W h row (λ k b. fits k b ∙ sym (full k))
-    (node-on t cells F n 0 (n + 1) (omega arith) (omega arith) h (n + 1) 0 on))
-  where
-    W : ℕ → ℕ
-    W k = pick (ltb k 6) (nodeField t (n + 1) k) (cellAt cells (nodeSlot (n + 1)) k)
-
-    row : Row (nodeSlot (n + 1)) W cells (putFields 6 (nodeSlot (n + 1)) (nodeField t (n + 1)) cells)
-    row = row-fields 6 (nodeSlot (n + 1)) (nodeField t (n + 1)) cells (h .size) (omega arith) (omega arith)
-
-    -- its own slot: the record, and nothing yet of function and parent
-    own : ℕ → ℕ
-    own k = pick (ltb k 6) (nodeField t (n + 1) k) 0
-
-    full : (k : ℕ) → filledTo t F (n + 1) 0 (nodeSlot (n + 1)) k ≡ own k
-    full k = own-node t cells F n 0 (n + 1) (omega arith) (omega arith) h (n + 1) 0 k ∙ go (ltb k 6)
-      where
-        go : (x : Bool) → upTo (pick x (n + 1) 0) (λ n. nodeField t n k) (n + 1) ≡ pick x (nodeField t (n + 1) k) 0
-        go true = upTo-in (λ n. nodeField t n k) (n + 1) (n + 1) (omega arith)
-        go false = upTo-past (λ n. nodeField t n k) 0 (n + 1) (omega arith)
-
-    blank : (k : ℕ) → k < 8 → pick (ltb k 6) n 0 ≤ n → cellAt cells (nodeSlot (n + 1)) k ≡ 0
-    blank k b i = filled-blank t cells F n 0 (n + 1) (omega arith) (omega arith) h k b (omega arith)
-
-    fits : (k : ℕ) → k < 8 → W k ≡ own k
-    fits = by-eight (λ k. W k ≡ own k) refl refl refl refl refl refl (blank 6 (omega arith) (omega arith))
-        (blank 7 (omega arith) (omega arith))
-
-    on : (k i : ℕ) → (i ≡ n + 1 → ⊥) → upTo (pick (ltb k 6) n 0) (λ n. nodeField t n k) i
-        ≡ upTo (pick (ltb k 6) (n + 1) 0) (λ n. nodeField t n k) i
-    on k i d = go (ltb k 6)
-      where
-        go : (x : Bool) → upTo (pick x n 0) (λ n. nodeField t n k) i ≡ upTo (pick x (n + 1) 0) (λ n. nodeField t n k) i
-        go true = upTo-on (λ n. nodeField t n k) n i d
-        go false = refl
-
--- and its function and parent
-pub filled-kin : (t cells : List ℕ) (F N n x y : ℕ) → n < 512 → n + 1 ≤ N → Filled t F N n cells
-    → x ≡ owner t (n + 1) → y ≡ parent t (n + 1)
-    → Filled t F N (n + 1) (putCell (putCell cells (nodeSlot (n + 1)) 6 x) (nodeSlot (n + 1)) 7 y)
-filled-kin t cells F N n x y l i h ex ey =
-    filled-row t cells _ F N n F N (n + 1) (nodeSlot (n + 1)) W h row (λ k b. fits k b ∙ sym (full k))
-    (node-on t cells F N n (n + 1) (omega arith) (omega arith) h N (n + 1) on)
-  where
-    W : ℕ → ℕ
-    W k = pick (eqb k 7) y (pick (eqb k 6) x (cellAt cells (nodeSlot (n + 1)) k))
-
-    row : Row (nodeSlot (n + 1)) W cells (putCell (putCell cells (nodeSlot (n + 1)) 6 x) (nodeSlot (n + 1)) 7 y)
-    row =
-        let s = nodeSlot (n + 1) in
-        let b : s < 545 = omega arith in
-        row-put s _ cells _ (h .size) b (row-put s _ cells _ (h .size) b (row-start s cells) 6 x (omega arith)) 7 y (omega arith)
-
-    full : (k : ℕ) → filledTo t F N (n + 1) (nodeSlot (n + 1)) k ≡ nodeField t (n + 1) k
-    full k = own-node t cells F N n (n + 1) (omega arith) (omega arith) h N (n + 1) k
-        ∙ upTo-in (λ n. nodeField t n k) _ (n + 1) (by-part (λ m. n + 1 ≤ m) k N (n + 1) i (omega arith))
-
-    old : (k : ℕ) → k < 8 → n + 1 ≤ pick (ltb k 6) N n → cellAt cells (nodeSlot (n + 1)) k ≡ nodeField t (n + 1) k
-    old = filled-at t cells F N n (n + 1) (omega arith) (omega arith) h
-
-    fits : (k : ℕ) → k < 8 → W k ≡ nodeField t (n + 1) k
-    fits = by-eight (λ k. W k ≡ nodeField t (n + 1) k) (old 0 (omega arith) i) (old 1 (omega arith) i) (old 2 (omega arith) i)
-        (old 3 (omega arith) i) (old 4 (omega arith) i) (old 5 (omega arith) i) ex ey
-
-    on : (k j : ℕ) → (j ≡ n + 1 → ⊥) → upTo (pick (ltb k 6) N n) (λ n. nodeField t n k) j
-        ≡ upTo (pick (ltb k 6) N (n + 1)) (λ n. nodeField t n k) j
-    on k j d = go (ltb k 6)
-      where
-        go : (x : Bool) → upTo (pick x N n) (λ n. nodeField t n k) j ≡ upTo (pick x N (n + 1)) (λ n. nodeField t n k) j
-        go true = refl
-        go false = upTo-on (λ n. nodeField t n k) n j d
-
--- what is read of an array that is filled so far
-pub function-filled : (t cells : List ℕ) (F n m : ℕ) → Filled t F n m cells → (f k : ℕ) → 1 ≤ f → f ≤ F → f ≤ 32 → k < 8
-    → cellAt cells (functionSlot f) k ≡ functionField t f k
-function-filled t cells F n m h f k low high small b =
-    let less : functionSlot f - 512 ≡ f % 32 = omega arith in
-    h .each (functionSlot f) k (omega arith) b ∙ of-function t F n m (functionSlot f) k (omega arith) (omega arith)
-    ∙ ap (λ j. upTo F (λ f. functionField t f k) j) (ap (numberAt 32) less ∙ slot-number 32 f low small)
-    ∙ upTo-in (λ f. functionField t f k) F f high
-
-module _ (t cells : List ℕ) (fr : Framed t) where
-  functions-filled : (n m : ℕ) → Filled t (functions t) n m cells → (f k : ℕ) → IsFunction t f → k < 8
-      → cellAt cells (functionSlot f) k ≡ functionField t f k
-  functions-filled n m h f k i b =
-      function-filled t cells (functions t) n m h f k (i .0) (i .1) (omega (arith, i .1, fr .F-high)) b
-
-  pub sizes-filled : (f n m : ℕ) → Filled t f n m cells → (k : ℕ) → k < 8 → cellAt cells tableSlot k ≡ tableField t k
-  sizes-filled f n m h k b = h .each tableSlot k (omega arith) b ∙ of-table t f n m tableSlot k (omega arith)
-
-  pub raw : (m : ℕ) → Filled t (functions t) (nodes t) m cells → Raw t cells
-  raw m h = record {
-    size = h .size;
-    node = λ n k i b. filled-at t cells (functions t) (nodes t) m n (i .0) (omega (arith, i .1, fr .N-high)) h k (omega arith)
-        (rw (lt-ltb k 6 b) (i .1));
-    function = λ f k i b. functions-filled (nodes t) m h f k i (omega arith);
-    own = λ k b. sizes-filled (functions t) (nodes t) m h k (omega arith);
-  }
-
-  pub all-read : Filled t (functions t) (nodes t) (nodes t) cells → Decoded t cells
-  all-read h = record {
-    size = h .size;
-    node = λ n k i b. filled-at t cells (functions t) (nodes t) (nodes t) n (i .0) (omega (arith, i .1, fr .N-high)) h k b
-        (by-part (λ m. n ≤ m) k (nodes t) (nodes t) (i .1) (i .1));
-    function = λ f k i b. functions-filled (nodes t) (nodes t) h f k i (omega arith);
-    own = λ k b. sizes-filled (functions t) (nodes t) (nodes t) h k (omega arith);
-  }
+  pub function-fields : params t f < 256 → (k : ℕ) → k < 3 → fieldOf (functionNumber t f) k ≡ functionField t f k
+  unfolding root
+  function-fields a k h = by-eight (λ k. k < 3 → fieldOf (functionNumber t f) k ≡ functionField t f k) (λ _. omega (arith, record-two))
+      (λ _. omega (arith, record-two)) (λ _. refl) (λ h. absurd (omega arith)) (λ h. absurd (omega arith)) (λ h. absurd (omega arith))
+      (λ h. absurd (omega arith)) (λ h. absurd (omega arith)) k (omega arith) h
 
 -- the word is its two halves
 pub word-read : (t cells : List ℕ) (top : ℕ) → 4 ≤ top → CellsTo t cells top → (n : ℕ) → IsNode t n

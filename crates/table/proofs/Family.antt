@@ -8,9 +8,9 @@ use native.Mathlib.Decide.{ℕ-discrete}
 use lib.Dec.{eqb}
 use borrow.Author.Tests.{eq-eqb, ne-eqb}
 use Rattle.table.specs.Pick.{pick}
-use Rattle.table.specs.Bytes.{root, first, next}
+use Rattle.table.specs.Bytes.{functions, root, first, next}
 use Rattle.table.specs.Find.{backBy, back}
-use Rattle.table.proofs.FindLaws.{back-step}
+use Rattle.table.proofs.FindLaws.{highest-bound, back-step}
 use Rattle.table.specs.Naming.{rootOf, namer, owner, parent, tailChild, tail}
 use Rattle.table.specs.Working.{IsNode, IsFunction, Linked}
 use Rattle.table.proofs.Links.{namer-names, namer-lower, link, root-named, not-both, first-named, next-named, named}
@@ -20,6 +20,14 @@ pick-true b x y e = ap (λ c. pick c x y) e
 
 pub pick-false {ℓ} : {A : Type ℓ} (b : Bool) (x y : A) → b ≡ false → pick b x y ≡ y
 pick-false b x y e = ap (λ c. pick c x y) e
+
+owner-zero : (t : List ℕ) → owner t 0 ≡ 0
+unfolding owner back backBy
+owner-zero t = refl
+
+root-below : (t : List ℕ) (n : ℕ) → rootOf t n ≤ functions t
+unfolding rootOf
+root-below t n = highest-bound (λ f. eqb (root t f) n) (functions t)
 
 -- by what names a node, in any table
 module _ (t : List ℕ) (n : ℕ) (i : 1 ≤ n) where
@@ -58,6 +66,23 @@ module _ (t : List ℕ) (n : ℕ) (i : 1 ≤ n) where
       ∙ pick-false (eqb (first t (namer t n)) n) (namer t n) (parent t (namer t n))
       (ne-eqb (first t (namer t n)) n (λ q. f (sym (ap (first t) e) ∙ q)))
       ∙ ap (parent t) e
+
+-- a node's function is at most F
+owner-below : (t : List ℕ) (k n : ℕ) → n ≤ k → owner t n ≤ functions t
+owner-below t zero n h = let z : n ≡ 0 = omega arith in rw z (omega (arith, owner-zero t))
+owner-below t (suc k) n h = go (ℕ-discrete n 0) (ℕ-discrete (namer t n) 0) (λ m a. owner-below t k m (omega arith))
+  where
+    go : Dec (n ≡ 0) → Dec (namer t n ≡ 0) → ((m : ℕ) → m < n → owner t m ≤ functions t) → owner t n ≤ functions t
+    go (yes q) z f = rw q (omega (arith, owner-zero t))
+    go (no q) (yes z) f = omega (arith, owner-top t n (omega arith) z, root-below t n)
+    go (no q) (no z) f = omega (
+      arith,
+      owner-down t n (omega arith) (namer t n) (omega arith) refl,
+      f (namer t n) (namer-lower t n (omega arith)),
+    )
+
+pub owner-few : (t : List ℕ) (n : ℕ) → owner t n ≤ functions t
+owner-few t n = owner-below t n n (omega arith)
 
 parent-below : (t : List ℕ) (k n : ℕ) → n ≤ k → 1 ≤ n → parent t n < n
 parent-below t zero n h i = absurd (omega arith)

@@ -12,11 +12,11 @@ use borrow.Author.Tests.{eq-eqb}
 use Rattle.table.specs.Pick.{pick}
 use Rattle.table.specs.Bytes.{nodes, first}
 use Rattle.table.specs.Naming.{rootOf, namer, owner, parent, tailChild, tail}
-use Rattle.table.specs.Decoded.{cellAt, putCell, nodeSlot}
+use Rattle.table.specs.Decoded.{cellAt, putNumber, nodeSlot}
 use Rattle.table.specs.Working.{Filled, Tails, Framed, Linked, Kindred}
 use Rattle.table.proofs.Links.{namer-lower}
 use Rattle.table.proofs.Family.{owner-step, parent-step, parent-lower, tail-step, owner-in}
-use Rattle.table.proofs.CellLaws.{filled-at, filled-kin}
+use Rattle.table.proofs.FilledLaws.{filled-at, filled-kin}
 
 -- node n, of which the lower ones have their function and parent in their slots
 module _ (t cells : List ℕ) (F N n : ℕ) (low : 1 ≤ n) (high : n ≤ 512) (h : Filled t F N (n - 1) cells) (m r x y : ℕ)
@@ -44,12 +44,12 @@ module _ (t cells : List ℕ) (F N n : ℕ) (low : 1 ≤ n) (high : n ≤ 512) (
           (filled-at t cells F N (n - 1) m (omega arith) (omega (arith, lower)) h 7 (omega arith) (omega (arith, lower)))
 
   -- both put into its slot
-  pub related : (a b : List ℕ) (s : ℕ) → s ≡ nodeSlot n → a ≡ putCell cells s 6 x → b ≡ putCell a s 7 y → n ≤ N → Filled t F N n b
-  related a b s es ea eb i =
+  pub related : (a : List ℕ) (s : ℕ) → s ≡ nodeSlot n → a ≡ putNumber cells s 5 (x + 64 * y) → n ≤ N → x < 64 → Filled t F N n a
+  related a s es ea i small =
       let q : n - 1 + 1 ≡ n = omega arith in
       let f = filled-kin t cells F N (n - 1) x y (omega arith) (omega arith) h (new-owner ∙ ap (owner t) (sym q))
-      (new-parent ∙ ap (parent t) (sym q)) in
-      rw (eb, ea, es) (rw q at f)
+      (new-parent ∙ ap (parent t) (sym q)) small in
+      rw (ea, es) (rw q at f)
 
 -- the tail positions of the nodes up to n
 pub record TailsTo (t : List ℕ) (l : List Bool) (n : ℕ) : Type 0 where

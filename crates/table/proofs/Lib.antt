@@ -23,6 +23,7 @@ pub mod Family
 pub mod Tree
 pub mod NodeCases
 pub mod CellLaws
+pub mod FilledLaws
 pub mod DecodedLaws
 pub mod DecodeLaws
 pub mod Children

@@ -2,12 +2,15 @@
 use Prim.Native.Nat.{ℕ, zero, suc, _+_, _*_, _≤_}
 use mathlib.Core.Bool.{Bool, true, false}
 use mathlib.Core.Path.{_≡_, refl}
+use mathlib.Core.Logic.{inr}
 use mathlib.Core.List.{List}
 use native.Mathlib.Omega.{arith}
+use native.Mathlib.Decide.{decLe}
 use lib.Dec.{T, eqb, leb, eqb→eq, leb→le}
 use lib.ListN.{length}
-use Rattle.table.specs.Bytes.{functions, nodes, params, spare, root}
+use Rattle.table.specs.Bytes.{functions, nodes, params, spare, root, kind, extra, word, first}
 use Rattle.table.specs.Working.{IsNode, IsFunction, Linked}
+use Rattle.table.proofs.KindLaws.{unknown}
 use Rattle.table.proofs.FindLaws.{both, lowest-passes, all-passes}
 use Rattle.table.specs.Check.{Verdict, accepted, refused, among, sizes, whole, rootFits, linked, recordFits, formed, calleeFits}
 use Rattle.table.specs.Check.{counted, scoped, tailed, stage, checkOf}
@@ -32,6 +35,14 @@ in-range low high n h = let p = both (leb low n) (leb n high) h in (leb→le low
 pub params-small : (t : List ℕ) → Passed t → (f : ℕ) → IsFunction t f → params t f ≤ 8
 unfolding recordFits
 params-small t ok f i = leb→le (params t f) 8 (both (leb (params t f) 8) (eqb (spare t f) 0) (ok .records f i) .0)
+
+pub kind-small : (t : List ℕ) → Passed t → (n : ℕ) → IsNode t n → kind t n ≤ 7
+unfolding formed
+kind-small t ok n i = go (decLe (kind t n) 7)
+  where
+    go : Dec (kind t n ≤ 7) → kind t n ≤ 7
+    go (yes h) = h
+    go (no h) = absurd (rw (unknown (kind t n) (extra t n) (word t n) (first t n) (inr (omega arith))) at (ok .forms n i))
 
 -- one number passed
 refused-not : (k p F N : ℕ) → refused k p ≡ accepted F N → ⊥

@@ -16,7 +16,7 @@ low-all t n h = omega (arith, halves)
     halves = unfold word fourAt low high in refl
 
 module _ (t cells : List ℕ) (rd : Read t cells) where
-  -- number k of a node
+  -- field k of a node
   pub told : (n : ℕ) → IsNode t n → (k r : ℕ) → k < 8 → r ≡ cellAt cells (nodeSlot n) k → r ≡ nodeField t n k
   told n i k r b e = e ∙ rd .told .node n k i b
 
@@ -37,5 +37,5 @@ module _ (t cells : List ℕ) (rd : Read t cells) where
   pub told-main : (r : ℕ) → r ≡ cellAt cells tableSlot 0 → r ≡ functions t
   told-main r e = e ∙ rd .told .own 0 (omega arith)
 
-  pub told-last : (r : ℕ) → r ≡ cellAt cells tableSlot 1 → r ≡ nodes t
+  pub told-last : (r : ℕ) → r ≡ cellAt cells tableSlot 2 → r ≡ nodes t
   told-last r e = e ∙ rd .told .own 1 (omega arith)

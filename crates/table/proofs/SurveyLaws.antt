@@ -34,8 +34,8 @@ use Rattle.table.specs.Working.{Framed, Linked, Taken, Decoded, Kindred,
 use Rattle.table.specs.Survey.{verdictOf}
 use Rattle.table.specs.Decoded.{decodedInto, surveyed}
 use Rattle.table.proofs.FindLaws.{both, all-passes, lowest-passes}
-use Rattle.table.proofs.Passed.{in-range, passed}
-use Rattle.table.proofs.DecodedLaws.{decoded-read}
+use Rattle.table.proofs.Passed.{in-range, params-small, kind-small, passed}
+use Rattle.table.proofs.DecodedLaws.{Small, decoded-read}
 
 -- what the nodes' part found
 pub fault-refused : (t : List ℕ) (r : Fault) → faultVerdict t r ≡ checkNodes t → (r .number ≡ 10 → ⊥) → checkNodes t ≡ refused
@@ -160,6 +160,15 @@ taken-framed t e =
     let p = passed t (functions t) (nodes t) e .0 in
     record { F-low = p .F-low; F-high = p .F-high; N-low = p .N-low; N-high = p .N-high; size = p .size }
 
+pub taken-small : (t : List ℕ) → Taken t → Small t
+taken-small t e =
+    let p = passed t (functions t) (nodes t) e .0 in
+    record {
+      framed = taken-framed t e;
+      kinds = λ n i. omega (arith, kind-small t p n i);
+      counts = λ f i. omega (arith, params-small t p f i);
+    }
+
 -- the cells of an accepted table are filled, those of a refused one kept
 pub surveyed-in : (t cells cells′ : List ℕ) → Taken t → cells′ ≡ decodedInto t cells → cells′ ≡ surveyed t cells
 unfolding surveyed
@@ -176,4 +185,4 @@ unfolding surveyed
 survey-taken t cells cells′ r f n size told q e =
     let k = taken-by t (f .0) (n .0) (sym (ap verdictOf e) ∙ told) in
     let into = q ∙ ap (λ v. ifAccepted v (decodedInto t cells) cells) (k .0) in
-    (record { taken = k .0; told = subst (Decoded t) (sym into) (decoded-read t cells (taken-framed t (k .0)) size) }, k .1, k .2)
+    (record { taken = k .0; told = subst (Decoded t) (sym into) (decoded-read t cells (taken-small t (k .0)) size) }, k .1, k .2)

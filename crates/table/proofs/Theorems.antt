@@ -11,7 +11,7 @@ use Rattle.table.specs.Expressions.{bodyOf, exprAt}
 use Rattle.table.specs.Well.{Laid}
 use Rattle.table.proofs.Accepted.{Accepted, from-check}
 use Rattle.table.proofs.LaidOut as LaidOut
-use Rattle.table.proofs.SurveyLaws.{taken-by, taken-framed}
+use Rattle.table.proofs.SurveyLaws.{taken-by, taken-small}
 use Rattle.table.proofs.DecodedLaws.{decoded-read}
 
 -- numbers apart, one owner, every callee below its caller or a self call in tail position, bounds in scope, at most eight arguments
@@ -22,11 +22,11 @@ laid = LaidOut.laid
 pub of-accepted : (t : List ℕ) (F N : ℕ) → checkOf t ≡ accepted F N → Accepted t F N
 of-accepted = from-check
 
--- what the survey puts into cells is read back, number by number
+-- what the survey puts into cells is read back, field by field
 pub nodes-decoded : (t cells : List ℕ) (F N : ℕ) → checkOf t ≡ accepted F N → length cells ≡ 4360 → (n k : ℕ) → 1 ≤ n → n ≤ nodes t → k < 8
     → cellAt (decodedInto t cells) (nodeSlot n) k ≡ nodeField t n k
-nodes-decoded t cells F N e z n k a b c = decoded-read t cells (taken-framed t (taken-by t F N (sym e) .0)) z .node n k (a, b) c
+nodes-decoded t cells F N e z n k a b c = decoded-read t cells (taken-small t (taken-by t F N (sym e) .0)) z .node n k (a, b) c
 
 pub functions-decoded : (t cells : List ℕ) (F N : ℕ) → checkOf t ≡ accepted F N → length cells ≡ 4360 → (f k : ℕ) → 1 ≤ f → f ≤ functions t
     → k < 3 → cellAt (decodedInto t cells) (functionSlot f) k ≡ functionField t f k
-functions-decoded t cells F N e z f k a b c = decoded-read t cells (taken-framed t (taken-by t F N (sym e) .0)) z .function f k (a, b) c
+functions-decoded t cells F N e z f k a b c = decoded-read t cells (taken-small t (taken-by t F N (sym e) .0)) z .function f k (a, b) c

@@ -1,20 +1,34 @@
--- a table decoded: 545 slots of 8 numbers, into which its records are put; what no record is put into keeps its content
-use Prim.Native.Nat.{ℕ, zero, suc, _+_, _*_, _%_}
+-- a table decoded: 545 slots of 8 numbers, into which its records are put, and what is read of a slot, field by field; what no record is
+-- put into keeps its content
+use Prim.Native.Nat.{ℕ, zero, suc, _+_, _-_, _*_, _/_, _%_}
 use mathlib.Core.List.{List}
-use lib.Dec.{eqb}
+use lib.Dec.{eqb, ltb}
 use lib.ListN.{getD, set}
 use Rattle.table.specs.Pick.{pick}
-use Rattle.table.specs.Bytes.{twoAt, functions, nodes, nodeAt, params, spare, root, kind, extra, first, next}
+use Rattle.table.specs.Bytes.{twoAt, functions, nodes, functionAt, nodeAt, params, spare, root, kind, extra, first, next}
 use Rattle.table.specs.Naming.{owner, parent}
 use Rattle.table.specs.Check.{ifAccepted, checkOf}
 
--- number k of slot s
-unfoldable pub cellAt : List ℕ → ℕ → ℕ → ℕ
-cellAt cells s k = getD cells (8 * s + k) 0
+-- number k of slot s, as it is stored
+unfoldable pub numberAt : List ℕ → ℕ → ℕ → ℕ
+numberAt cells s k = getD cells (8 * s + k) 0
 
 -- it becomes x
-unfoldable pub putCell : List ℕ → ℕ → ℕ → ℕ → List ℕ
-putCell cells s k x = set cells (8 * s + k) x
+unfoldable pub putNumber : List ℕ → ℕ → ℕ → ℕ → List ℕ
+putNumber cells s k x = set cells (8 * s + k) x
+
+-- field k of a slot with the numbers g: number 0 holds two of them, 256 apart, number 5 the last two, 64 apart, the others one each
+abbrev pub fieldOf : (ℕ → ℕ) → ℕ → ℕ
+fieldOf g k =
+    pick (eqb k 0) (g 0 % 256)
+    (pick (eqb k 1) (g 0 / 256)
+    (pick (eqb k 6) (g 5 % 64)
+    (pick (eqb k 7) (g 5 / 64)
+    (g (k - 1)))))
+
+-- field k of slot s, as it is read
+unfoldable pub cellAt : List ℕ → ℕ → ℕ → ℕ
+cellAt cells s k = fieldOf (numberAt cells s) k
 
 -- the slots of node n, 1 to 512, and of function f, 1 to 32; the last slot is the table's own
 abbrev pub nodeSlot : ℕ → ℕ
@@ -33,7 +47,7 @@ low t n = twoAt t (nodeAt t n + 2)
 unfoldable pub high : List ℕ → ℕ → ℕ
 high t n = twoAt t (nodeAt t n + 2 + 2)
 
--- a node's numbers: kind, extra, the word's low and high half, first child, next sibling, function, parent
+-- a node's fields: kind, extra, the word's low and high half, first child, next sibling, function, parent
 abbrev pub nodeField : List ℕ → ℕ → ℕ → ℕ
 nodeField t n k =
     pick (eqb k 0) (kind t n)
@@ -49,26 +63,38 @@ nodeField t n k =
 abbrev pub functionField : List ℕ → ℕ → ℕ → ℕ
 functionField t f k = pick (eqb k 0) (params t f) (pick (eqb k 1) (spare t f) (pick (eqb k 2) (root t f) 0))
 
--- the table's: F and N
+-- the table's: F and, in field 2, N, which doesn't fit a byte
 abbrev pub tableField : List ℕ → ℕ → ℕ
-tableField t k = pick (eqb k 0) (functions t) (pick (eqb k 1) (nodes t) 0)
+tableField t k = pick (eqb k 0) (functions t) (pick (eqb k 2) (nodes t) 0)
 
--- the first k of the numbers of a record put into slot s
-unfoldable pub putFields : (k : ℕ) → (s : ℕ) → (ℕ → ℕ) → List ℕ → List ℕ
-putFields zero s g cells = cells
-putFields (suc k) s g cells = putCell (putFields k s g cells) s k (g k)
+-- the numbers that are put: of a node its record's ten bytes two by two, then function and parent in one
+abbrev pub nodeNumber : List ℕ → ℕ → ℕ → ℕ
+nodeNumber t n k = pick (ltb k 5) (twoAt t (nodeAt t n + 2 * k)) (owner t n + 64 * parent t n)
+
+-- of a function its record's four bytes two by two
+abbrev pub functionNumber : List ℕ → ℕ → ℕ → ℕ
+functionNumber t f k = twoAt t (functionAt f + 2 * k)
+
+-- of the table F and N
+abbrev pub tableNumber : List ℕ → ℕ → ℕ
+tableNumber t k = pick (eqb k 0) (functions t) (nodes t)
+
+-- the first k of the numbers g put into slot s
+unfoldable pub putNumbers : (k : ℕ) → (s : ℕ) → (ℕ → ℕ) → List ℕ → List ℕ
+putNumbers zero s g cells = cells
+putNumbers (suc k) s g cells = putNumber (putNumbers k s g cells) s k (g k)
 
 -- the records of the functions up to k, of the nodes up to k, each in its slot
 unfoldable pub functionsPut : List ℕ → ℕ → List ℕ → List ℕ
 functionsPut t zero cells = cells
-functionsPut t (suc k) cells = putFields 3 (functionSlot (suc k)) (functionField t (suc k)) (functionsPut t k cells)
+functionsPut t (suc k) cells = putNumbers 2 (functionSlot (suc k)) (functionNumber t (suc k)) (functionsPut t k cells)
 
 unfoldable pub nodesPut : List ℕ → ℕ → List ℕ → List ℕ
 nodesPut t zero cells = cells
-nodesPut t (suc k) cells = putFields 8 (nodeSlot (suc k)) (nodeField t (suc k)) (nodesPut t k cells)
+nodesPut t (suc k) cells = putNumbers 6 (nodeSlot (suc k)) (nodeNumber t (suc k)) (nodesPut t k cells)
 
 unfoldable pub decodedInto : List ℕ → List ℕ → List ℕ
-decodedInto t cells = nodesPut t (nodes t) (functionsPut t (functions t) (putFields 2 tableSlot (tableField t) cells))
+decodedInto t cells = nodesPut t (nodes t) (functionsPut t (functions t) (putNumbers 2 tableSlot (tableNumber t) cells))
 
 -- cells that are lent to the survey: those of a refused table stay as they are
 unfoldable pub surveyed : List ℕ → List ℕ → List ℕ

@@ -43,12 +43,12 @@ pub record At (t : List ℕ) (base n : ℕ) : Type 0 where
   pub low : 1 ≤ n
   pub high : n ≤ nodes t
 
--- of a table's cells the first `top` numbers of each node are filled, and all of each function and of the table
+-- of a table's cells the first `top` fields of each node are filled, all of each function, and of the table's own F and N, fields 0 and 2
 pub record CellsTo (t cells : List ℕ) (top : ℕ) : Type 0 where
   pub size : length cells ≡ 4360
   pub node : (n k : ℕ) → IsNode t n → k < top → cellAt cells (nodeSlot n) k ≡ nodeField t n k
   pub function : (f k : ℕ) → IsFunction t f → k < 3 → cellAt cells (functionSlot f) k ≡ functionField t f k
-  pub own : (k : ℕ) → k < 2 → cellAt cells tableSlot k ≡ tableField t k
+  pub own : (k : ℕ) → k < 2 → cellAt cells tableSlot (2 * k) ≡ tableField t (2 * k)
 
 -- decoded from the bytes alone: no function and no parent yet
 abbrev pub Raw : List ℕ → List ℕ → Type 0
@@ -58,8 +58,8 @@ abbrev pub Decoded : List ℕ → List ℕ → Type 0
 Decoded t cells = CellsTo t cells 8
 
 -- the number from 1 to m whose slot is s: m itself has slot 0
-abbrev pub numberAt : ℕ → ℕ → ℕ
-numberAt m s = pick (eqb s 0) m s
+abbrev pub inSlot : ℕ → ℕ → ℕ
+inSlot m s = pick (eqb s 0) m s
 
 -- of a number above the last: 0
 abbrev pub upTo : ℕ → (ℕ → ℕ) → ℕ → ℕ
@@ -68,8 +68,8 @@ upTo m g n = pick (leb n m) (g n) 0
 -- how far an array of zeros is filled: functions up to f, of the nodes up to n what their records say, up to m function and parent
 abbrev pub filledTo : List ℕ → (f n m s k : ℕ) → ℕ
 filledTo t f n m s k =
-    pick (ltb s 512) (upTo (pick (ltb k 6) n m) (λ n. nodeField t n k) (numberAt 512 s))
-    (pick (ltb s 544) (upTo f (λ f. functionField t f k) (numberAt 32 (s - 512)))
+    pick (ltb s 512) (upTo (pick (ltb k 6) n m) (λ n. nodeField t n k) (inSlot 512 s))
+    (pick (ltb s 544) (upTo f (λ f. functionField t f k) (inSlot 32 (s - 512)))
     (tableField t k))
 
 pub record Filled (t : List ℕ) (f n m : ℕ) (cells : List ℕ) : Type 0 where

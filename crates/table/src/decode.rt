@@ -10,13 +10,13 @@ ghost use lib.ListN.{length};
 ghost use Rattle.table.specs.Naming.{owner, parent};
 ghost use Rattle.table.specs.Bytes.{twoAt, functions};
 ghost use Rattle.table.specs.Decoded.{
-  putFields,
+  putNumbers,
   nodeSlot,
-  nodeField,
+  nodeNumber,
   functionSlot,
-  functionField,
+  functionNumber,
   tableSlot,
-  tableField,
+  tableNumber,
   functionsPut,
   decodedInto,
 };
@@ -46,7 +46,7 @@ pub(crate) fn two_at(table: &[u8], at: usize) -> u16
 // F and N.
 pub(crate) fn sizes(table: &[u8], cells: &mut Cells)
     requires { ⌜ Framed (now table) ⌝ }
-    ensures { λ _. ⌜ now (cells .exit) ≡ putFields 2 tableSlot (tableField (now (table .entry))) (now (cells .entry)) ⌝ }
+    ensures { λ _. ⌜ now (cells .exit) ≡ putNumbers 2 tableSlot (tableNumber (now (table .entry))) (now (cells .entry)) ⌝ }
 {
     decoded::put(cells, 544, 0, two_at(table, 0));
     decoded::put(cells, 544, 1, two_at(table, 2));
@@ -54,47 +54,42 @@ pub(crate) fn sizes(table: &[u8], cells: &mut Cells)
 
 pub(crate) fn function(table: &[u8], f: Function, cells: &mut Cells)
     requires { ⌜ Framed (now table) × IsFunction (now table) (f .0) ⌝ }
-    ensures { λ _. ⌜ now (cells .exit) ≡ putFields 3 (functionSlot (f .0)) (functionField (now (table .entry)) (f .0)) (now
+    ensures { λ _. ⌜ now (cells .exit) ≡ putNumbers 2 (functionSlot (f .0)) (functionNumber (now (table .entry)) (f .0)) (now
         (cells .entry)) ⌝ }
 {
     let at = 4 * (f.0 as usize);
     let slot = decoded::function_slot(f);
-    decoded::put(cells, slot, 0, wide(table[at]));
-    decoded::put(cells, slot, 1, wide(table[at + 1]));
-    decoded::put(cells, slot, 2, two_at(table, at + 2));
+    decoded::put(cells, slot, 0, two_at(table, at));
+    decoded::put(cells, slot, 1, two_at(table, at + 2));
 }
 
-// Node n, of a table whose node records begin at `base`.
+// Node n, of a table whose node records begin at `base`. All is read before anything is put, so that the record is copied in two moves.
 pub(crate) fn node(table: &[u8], base: usize, n: Node, cells: &mut Cells)
     requires { ⌜ At (now table) base (n .0) ⌝ }
-    ensures { λ _. ⌜ now (cells .exit) ≡ putFields 6 (nodeSlot (n .0)) (nodeField (now (table .entry)) (n .0)) (now (cells .entry)) ⌝ }
+    ensures { λ _. ⌜ now (cells .exit) ≡ putNumbers 5 (nodeSlot (n .0)) (nodeNumber (now (table .entry)) (n .0)) (now (cells .entry)) ⌝ }
 {
     let k = n.0 as usize;
     let at = base + 10 * k - 10;
-    let kind = wide(table[at]);
-    let extra = wide(table[at + 1]);
+    let kind = two_at(table, at);
     let low = two_at(table, at + 2);
     let high = two_at(table, at + 4);
     let first = two_at(table, at + 6);
     let next = two_at(table, at + 8);
     let slot = decoded::node_slot(n);
     decoded::put(cells, slot, 0, kind);
-    decoded::put(cells, slot, 1, extra);
-    decoded::put(cells, slot, 2, low);
-    decoded::put(cells, slot, 3, high);
-    decoded::put(cells, slot, 4, first);
-    decoded::put(cells, slot, 5, next);
+    decoded::put(cells, slot, 1, low);
+    decoded::put(cells, slot, 2, high);
+    decoded::put(cells, slot, 3, first);
+    decoded::put(cells, slot, 4, next);
 }
 
 // Node n, with its function and parent from its kin.
 fn whole(table: &[u8], base: usize, n: Node, own: u32, cells: &mut Cells)
     requires { ⌜ At (now table) base (n .0) × (own % 64 ≡ owner (now table) (n .0)) × (own / 64 % 1024 ≡ parent (now table) (n .0)) ⌝ }
-    ensures { λ _. ⌜ now (cells .exit) ≡ putFields 8 (nodeSlot (n .0)) (nodeField (now (table .entry)) (n .0)) (now (cells .entry)) ⌝ }
+    ensures { λ _. ⌜ now (cells .exit) ≡ putNumbers 6 (nodeSlot (n .0)) (nodeNumber (now (table .entry)) (n .0)) (now (cells .entry)) ⌝ }
 {
     node(table, base, n, cells);
-    let slot = decoded::node_slot(n);
-    decoded::put(cells, slot, 6, (own % 64) as u16);
-    decoded::put(cells, slot, 7, (own / 64 % 1024) as u16);
+    decoded::put(cells, decoded::node_slot(n), 5, (own % 65536) as u16);
 }
 
 // All functions.

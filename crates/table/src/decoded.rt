@@ -1,24 +1,35 @@
-// A decoded table: 545 slots of 8 numbers, read faster than bytes. Node n has slot n mod 512 with kind, extra, low and high half of the
-// word, first child, next sibling, function and parent; function f has slot 512 + f mod 32 with parameter count, second byte and root;
-// the last slot has F and N. The readers take any number: what is no node's and no function's reads another's slot.
+// A decoded table: 545 slots of 8 numbers, read faster than bytes. Node n has slot n mod 512, function f slot 512 + f mod 32, the table
+// itself the last. A slot is put number by number and read field by field. A node's numbers are its record's ten bytes two by two, kind
+// and extra, low and high half of the word, first child, next sibling, then function + 64 * parent; a function's are its record's four
+// bytes, parameter count and second byte, then root; the table's are F and N. The readers take any number: what is no node's and no
+// function's reads another's slot.
 use crate::Function;
 use crate::Node;
 ghost use mathlib.Core.Path.{_≡_};
 ghost use Prim.Native.Nat.{_+_, _*_, _<_};
-ghost use Rattle.table.specs.Decoded.{cellAt, putCell, nodeSlot, functionSlot, tableSlot};
+ghost use Rattle.table.specs.Decoded.{cellAt, putNumber, nodeSlot, functionSlot, tableSlot};
 
 pub type Cells = [u16; 4360];
 
+// Field k of a slot: number 0 holds two, number 5 the last two. Each reader asks for one k, so that the choice is none when compiled.
 fn get(cells: &Cells, slot: usize, k: usize) -> u16
     requires { ⌜ (slot < 545) × (k < 8) ⌝ }
     ensures { λ r. ⌜ r ≡ cellAt (now (cells .entry)) slot k ⌝ }
 {
-    cells[8 * slot + k]
+    let at = 8 * slot;
+    match k {
+        0 => cells[at] % 256,
+        1 => cells[at] / 256,
+        6 => cells[at + 5] % 64,
+        7 => cells[at + 5] / 64,
+        _ => cells[at + k - 1],
+    }
 }
 
+// Number k of a slot.
 pub(crate) fn put(cells: &mut Cells, slot: usize, k: usize, x: u16)
     requires { ⌜ (slot < 545) × (k < 8) ⌝ }
-    ensures { λ _. ⌜ now (cells .exit) ≡ putCell (now (cells .entry)) slot k x ⌝ }
+    ensures { λ _. ⌜ now (cells .exit) ≡ putNumber (now (cells .entry)) slot k x ⌝ }
 {
     cells[8 * slot + k] = x;
 }
@@ -135,7 +146,7 @@ pub fn main(cells: &Cells) -> Function
 
 // The last node's number, N.
 pub fn last(cells: &Cells) -> Node
-    ensures { λ r. ⌜ r .0 ≡ cellAt (now (cells .entry)) tableSlot 1 ⌝ }
+    ensures { λ r. ⌜ r .0 ≡ cellAt (now (cells .entry)) tableSlot 2 ⌝ }
 {
-    Node(get(cells, 544, 1))
+    Node(get(cells, 544, 2))
 }

@@ -91,8 +91,7 @@ fn relate(table: &[u8], cells: &mut Cells, namer: Node, root: Function, n: Node)
     let above = decoded::parent(cells, namer);
     let up = parent_of(table, cells, namer, n, above);
     let slot = decoded::node_slot(n);
-    decoded::put(cells, slot, 6, own.0);
-    decoded::put(cells, slot, 7, up.0);
+    decoded::put(cells, slot, 5, own.0 + 64 * up.0);
     up
 }
 

@@ -7,7 +7,7 @@ use Rattle.table.specs.Bytes.{functions, nodes}
 use Rattle.table.specs.Find.{all, lowest}
 use Rattle.table.specs.Check.{rootFits, linked, checkOf}
 use Rattle.table.specs.Working.{checkNodes}
-use Rattle.table.proofs.CellLaws.{filled-none, raw, all-read, sizes-filled}
+use Rattle.table.proofs.FilledLaws.{filled-none, raw, all-read, sizes-filled}
 use Rattle.table.proofs.SurveyLaws.{roots-refused, unlinked-refused, records-refused, nodes-checked, links-pass}
 use Rattle.table.proofs.SurveyLaws.{fault-refused, fault-none, refuses, accepts}
 use borrow.Author.Needs.{needs}
@@ -73,7 +73,7 @@ roots-requires : tie.Need-roots-requires
 roots-requires c κs =
     let s : tie.Start = search in
     let one : tie.After-sizes = search in
-    (s .pre, filled-none _ _ refl _ (one .sizes .ensures), refl, refl)
+    (s .pre, filled-none _ _ (s .pre) refl _ (one .sizes .ensures), refl, refl)
 
 roots-fit-requires : tie.Need-roots-fit-requires
 roots-fit-requires c κs =

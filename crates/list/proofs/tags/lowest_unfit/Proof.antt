@@ -15,7 +15,7 @@ use Rattle.list.proofs.tags.lowest_unfit.Tie as tie
 
 abbrev Inv-loop : tie.InvT-loop
 Inv-loop cells tags end n₀ n =
-    (n ≤ end) × (lowest (cellFits cells tags) n ≡ 0) × (end ≡ cellAt cells tableSlot 1)
+    (n ≤ end) × (lowest (cellFits cells tags) n ≡ 0) × (end ≡ cellAt cells tableSlot 2)
 
 abbrev μ-loop : tie.MeasureT-loop
 μ-loop cells tags end n₀ n = end - n
@@ -37,7 +37,7 @@ module _ (c : Turn) where
   abbrev l : Head
   l = search
 
-  inside : l .loop .n + 1 ≤ cellAt (s .args .cells .now) tableSlot 1
+  inside : l .loop .n + 1 ≤ cellAt (s .args .cells .now) tableSlot 2
   inside = omega (arith, l .loop .inv .2, c .loop-test .taken)
 
 abbrev tag-turn : tie.Then1 Inv-loop μ-loop → Turn
@@ -118,7 +118,7 @@ returns-3 : tie.Need-returns-3 Inv-loop μ-loop
 returns-3 c =
     let l : Head = search in
     let s : Start = search in
-    let e : l .loop .n ≡ cellAt (s .args .cells .now) tableSlot 1 = omega (arith, l .loop .inv .0, l .loop .inv .2, c .loop-test .left) in
+    let e : l .loop .n ≡ cellAt (s .args .cells .now) tableSlot 2 = omega (arith, l .loop .inv .0, l .loop .inv .2, c .loop-test .left) in
     sym (sym (ap (lowest (cellFits (s .args .cells .now) (s .args .tags .now))) e) ∙ l .loop .inv .1)
 
 pub lowest-unfit-spec : {M : Type 1} → statement M

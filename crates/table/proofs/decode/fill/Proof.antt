@@ -4,7 +4,7 @@ use borrow.Author.Needs.{needs}
 use Prim.Native.Nat.{_+_, _-_, _≤_}
 use mathlib.Core.Path.{_≡_, refl, sym, ap, ap₂, _∙_}
 use Rattle.table.specs.Bytes.{functions, nodes}
-use Rattle.table.specs.Decoded.{putFields, nodeSlot, nodeField, functionsPut, nodesPut, decodedInto}
+use Rattle.table.specs.Decoded.{putNumbers, nodeSlot, nodeNumber, functionsPut, nodesPut, decodedInto}
 use Rattle.table.specs.Working.{IsNode}
 use Rattle.table.proofs.DecodedLaws.{nodes-more}
 use Rattle.table.proofs.decode.fill.Statement.{statement}
@@ -93,7 +93,7 @@ loop-again c =
     let n = l t .loop .n in (
       omega (arith, t .loop-test .taken),
       l t .loop .inv .1,
-      one .whole .ensures ∙ ap (putFields 8 (nodeSlot (n + 1)) (nodeField e (n + 1))) (l t .loop .inv .2) ∙ sym (nodes-more e n _),
+      one .whole .ensures ∙ ap (putNumbers 6 (nodeSlot (n + 1)) (nodeNumber e (n + 1))) (l t .loop .inv .2) ∙ sym (nodes-more e n _),
     )
 
 returns : tie.Need-returns Inv-loop μ-loop

@@ -4,7 +4,7 @@ use borrow.Author.Needs.{needs}
 use Prim.Native.Nat.{_+_, _-_, _≤_}
 use mathlib.Core.Path.{_≡_, refl, sym, ap, _∙_}
 use Rattle.table.specs.Bytes.{functions}
-use Rattle.table.specs.Decoded.{putFields, functionSlot, functionField, functionsPut}
+use Rattle.table.specs.Decoded.{putNumbers, functionSlot, functionNumber, functionsPut}
 use Rattle.table.proofs.DecodedLaws.{functions-more}
 use Rattle.table.proofs.decode.functions.Statement.{statement}
 use Rattle.table.proofs.decode.functions.Tie as tie
@@ -53,7 +53,7 @@ loop-again c =
     let e = s .args .table .now in (
       omega (arith, t .loop-test .taken),
       l .loop .inv .1,
-      one .function .ensures ∙ ap (putFields 3 (functionSlot (l .loop .f + 1)) (functionField e (l .loop .f + 1))) (l .loop .inv .2)
+      one .function .ensures ∙ ap (putNumbers 2 (functionSlot (l .loop .f + 1)) (functionNumber e (l .loop .f + 1))) (l .loop .inv .2)
           ∙ sym (functions-more e (l .loop .f) (s .args .cells .now)),
     )
 

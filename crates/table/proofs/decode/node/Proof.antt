@@ -1,6 +1,6 @@
--- `decode::node` meets its contract: each number of the record is put into the node's slot.
-use mathlib.Core.Path.{refl, _∙_}
-use Rattle.table.proofs.DecodeLaws.{kind-byte, extra-byte, low-bytes, high-bytes, first-bytes, next-bytes, node-put}
+-- `decode::node` meets its contract: the record's bytes are read two by two and put into the node's slot.
+use mathlib.Core.Path.{refl}
+use Rattle.table.proofs.DecodeLaws.{node-put}
 use borrow.Author.Needs.{needs}
 use Rattle.table.proofs.decode.node.Statement.{statement}
 use Rattle.table.proofs.decode.node.Tie as tie
@@ -17,44 +17,32 @@ add-at c = search needs
 sub-at : tie.Need-sub-at
 sub-at c = search needs
 
-shared-slice-read-wide : tie.Need-shared-slice-read-wide
-shared-slice-read-wide c = search needs
-
-wide-requires : tie.Need-wide-requires
-wide-requires c κs = search needs
-
-add-wide : tie.Need-add-wide
-add-wide c = search needs
-
-shared-slice-read-wide-2 : tie.Need-shared-slice-read-wide-2
-shared-slice-read-wide-2 c = search needs
-
-wide-requires-2 : tie.Need-wide-requires-2
-wide-requires-2 c κs = search needs
+two-at-requires : tie.Need-two-at-requires
+two-at-requires c κs = search needs
 
 add-two-at : tie.Need-add-two-at
 add-two-at c = search needs
 
-two-at-requires : tie.Need-two-at-requires
-two-at-requires c κs = search needs
+two-at-requires-2 : tie.Need-two-at-requires-2
+two-at-requires-2 c κs = search needs
 
 add-two-at-2 : tie.Need-add-two-at-2
 add-two-at-2 c = search needs
 
-two-at-requires-2 : tie.Need-two-at-requires-2
-two-at-requires-2 c κs = search needs
+two-at-requires-3 : tie.Need-two-at-requires-3
+two-at-requires-3 c κs = search needs
 
 add-two-at-3 : tie.Need-add-two-at-3
 add-two-at-3 c = search needs
 
-two-at-requires-3 : tie.Need-two-at-requires-3
-two-at-requires-3 c κs = search needs
+two-at-requires-4 : tie.Need-two-at-requires-4
+two-at-requires-4 c κs = search needs
 
 add-two-at-4 : tie.Need-add-two-at-4
 add-two-at-4 c = search needs
 
-two-at-requires-4 : tie.Need-two-at-requires-4
-two-at-requires-4 c κs = search needs
+two-at-requires-5 : tie.Need-two-at-requires-5
+two-at-requires-5 c κs = search needs
 
 node-slot-requires : tie.Need-node-slot-requires
 node-slot-requires c κs = search needs
@@ -74,71 +62,44 @@ put-requires-4 c κs = search needs
 put-requires-5 : tie.Need-put-requires-5
 put-requires-5 c κs = search needs
 
-put-requires-6 : tie.Need-put-requires-6
-put-requires-6 c κs = search needs
-
--- the places before, found from near to far
-abbrev puts : tie.After-put5 → tie.After-put4
-puts c = search
-
-abbrev third : tie.After-put4 → tie.After-put3
-third c = search
-
-abbrev second : tie.After-put3 → tie.After-put2
-second c = search
-
-abbrev first : tie.After-put2 → tie.After-put
-first c = search
-
+-- what was read, found from near to far
 abbrev slot : tie.After-put → tie.After-node-slot
 slot c = search
 
-abbrev nexts : tie.After-node-slot → tie.After-two-at4
+abbrev nexts : tie.After-node-slot → tie.After-two-at5
 nexts c = search
 
-abbrev firsts : tie.After-two-at4 → tie.After-two-at3
+abbrev firsts : tie.After-two-at5 → tie.After-two-at4
 firsts c = search
 
-abbrev highs : tie.After-two-at3 → tie.After-two-at2
+abbrev highs : tie.After-two-at4 → tie.After-two-at3
 highs c = search
 
-abbrev lows : tie.After-two-at2 → tie.After-two-at
+abbrev lows : tie.After-two-at3 → tie.After-two-at2
 lows c = search
 
-abbrev extras : tie.After-two-at → tie.After-wide2
-extras c = search
+abbrev kinds : tie.After-two-at2 → tie.After-two-at
+kinds c = search
 
-abbrev kinded : tie.After-wide2 → tie.After-wide
-kinded c = search
-
-abbrev start : tie.After-wide → tie.Start
+abbrev start : tie.After-two-at → tie.Start
 start c = search
 
 returns : tie.Need-returns
 returns c =
-    let f : tie.After-put5 = search in
-    let h = puts f in
-    let l = third h in
-    let e = second l in
-    let one = first e in
+    let four : tie.After-put4 = search in
+    let three : tie.After-put3 = search in
+    let two : tie.After-put2 = search in
+    let one : tie.After-put = search in
     let at = slot one in
-    let nb = nexts at in
-    let fb = firsts nb in
-    let hb = highs fb in
-    let lb = lows hb in
-    let x = extras lb in
-    let k = kinded x in
+    let n = nexts at in
+    let f = firsts n in
+    let h = highs f in
+    let l = lows h in
+    let k = kinds l in
     let s = start k in
-    let t = s .args .table .now in
-    let n = s .args .n .0 in
-    let p = s .pre in
-    node-put t n _ _ _ _ _ _ _ _ _ _ _ _ _ _ (at .node-slot .ensures .0)
-    (one .put .ensures) (k .wide .ensures ∙ kind-byte t _ n _ p refl)
-    (e .put2 .ensures) (x .wide2 .ensures ∙ extra-byte t _ n _ p refl)
-    (l .put3 .ensures) (lb .two-at .ensures ∙ low-bytes t _ n _ p refl)
-    (h .put4 .ensures) (hb .two-at2 .ensures ∙ high-bytes t _ n _ p refl)
-    (f .put5 .ensures) (fb .two-at3 .ensures ∙ first-bytes t _ n _ p refl)
-    (c .put6 .ensures) (nb .two-at4 .ensures ∙ next-bytes t _ n _ p refl)
+    node-put (s .args .table .now) _ _ _ (s .pre) refl _ _ _ _ _ _ _ _ _ _ _ _ (at .node-slot .ensures .0) (k .two-at .ensures)
+    (l .two-at2 .ensures) (h .two-at3 .ensures) (f .two-at4 .ensures) (n .two-at5 .ensures) (one .put .ensures) (two .put2 .ensures)
+    (three .put3 .ensures) (four .put4 .ensures) (c .put5 .ensures)
 
 pub node-spec : {M : Type 1} → statement M
 node-spec =
@@ -148,24 +109,19 @@ node-spec =
     mul-at
     add-at
     sub-at
-    shared-slice-read-wide
-    wide-requires
-    add-wide
-    shared-slice-read-wide-2
-    wide-requires-2
-    add-two-at
     two-at-requires
-    add-two-at-2
+    add-two-at
     two-at-requires-2
-    add-two-at-3
+    add-two-at-2
     two-at-requires-3
-    add-two-at-4
+    add-two-at-3
     two-at-requires-4
+    add-two-at-4
+    two-at-requires-5
     node-slot-requires
     put-requires
     put-requires-2
     put-requires-3
     put-requires-4
     put-requires-5
-    put-requires-6
     returns)

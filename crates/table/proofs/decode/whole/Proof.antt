@@ -1,4 +1,5 @@
--- `decode::whole` meets its contract: the record, then what the kin tells.
+-- `decode::whole` meets its contract: the record, then what the kin tells: its lower half is function and parent.
+use native.Mathlib.Omega.{arith}
 use Rattle.table.proofs.DecodeLaws.{whole-put}
 use borrow.Author.Needs.{needs}
 use Rattle.table.proofs.decode.whole.Statement.{statement}
@@ -16,29 +17,12 @@ cast-put c = search needs
 put-requires : tie.Need-put-requires
 put-requires c κs = search needs
 
-cast-put-2 : tie.Need-cast-put-2
-cast-put-2 c = search needs
-
-put-requires-2 : tie.Need-put-requires-2
-put-requires-2 c κs = search needs
-
 returns : tie.Need-returns
 returns c =
     let s : tie.Start = search in
     let slot : tie.After-node-slot = search in
-    let six : tie.After-node = search in
-    let own : tie.After-put = search in
-    whole-put _ _ _ _ _ _ _ _ _ (slot .node-slot .ensures .0) (six .node .ensures) (own .put .ensures) (s .pre .1) (c .put2 .ensures)
-    (s .pre .2)
+    let five : tie.After-node = search in
+    whole-put _ _ _ _ _ _ _ (slot .node-slot .ensures .0) (five .node .ensures) (c .put .ensures) (omega (arith, s .pre .1, s .pre .2))
 
 pub whole-spec : {M : Type 1} → statement M
-whole-spec =
-    tie.close
-    (tie.spec
-    node-requires
-    node-slot-requires
-    cast-put
-    put-requires
-    cast-put-2
-    put-requires-2
-    returns)
+whole-spec = tie.close (tie.spec node-requires node-slot-requires cast-put put-requires returns)

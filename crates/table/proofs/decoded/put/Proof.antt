@@ -1,6 +1,6 @@
 -- `decoded::put` meets its contract.
 use mathlib.Core.Path.{refl}
-use Rattle.table.specs.Decoded.{putCell}
+use Rattle.table.specs.Decoded.{putNumber}
 use borrow.Author.Needs.{needs}
 use Rattle.table.proofs.decoded.put.Statement.{statement}
 use Rattle.table.proofs.decoded.put.Tie as tie
@@ -18,7 +18,7 @@ element-write-cells : tie.Need-element-write-cells
 element-write-cells c = search needs
 
 returns : tie.Need-returns
-unfolding putCell
+unfolding putNumber
 returns c = refl
 
 pub put-spec : {M : Type 1} → statement M

@@ -10,7 +10,7 @@ use Rattle.table.specs.Find.{all}
 use Rattle.table.specs.Check.{among, rootFits}
 use Rattle.table.specs.Working.{IsFunction}
 use Rattle.table.proofs.Loops.{all-more, all-fails}
-use Rattle.table.proofs.CellLaws.{function-filled}
+use Rattle.table.proofs.FilledLaws.{function-filled}
 use Rattle.table.proofs.frame.roots_fit.Statement.{statement}
 use Rattle.table.proofs.frame.roots_fit.Tie as tie
 

@@ -6,7 +6,7 @@ use mathlib.Core.Path.{_≡_, subst, _∙_}
 use Prim.Native.Nat.{_+_, _-_, _≤_, _<_}
 use Rattle.table.specs.Bytes.{functions, nodes}
 use Rattle.table.specs.Working.{IsNode, Filled}
-use Rattle.table.proofs.CellLaws.{raw, sizes-filled}
+use Rattle.table.proofs.FilledLaws.{raw, sizes-filled}
 use Rattle.table.proofs.Family.{parent-lower}
 use Rattle.table.proofs.KinLoops.{TailsTo, tails-none, tails-more, tails-all}
 use Rattle.table.proofs.kin.collect.Statement.{statement}

@@ -5,10 +5,12 @@ use Prim.Native.Nat.{_≤_, _<_}
 use lib.Dec.{eqb}
 use Rattle.table.specs.Pick.{pick}
 use Rattle.table.specs.Bytes.{first}
+use Rattle.table.specs.Naming.{parent}
 use Rattle.table.specs.Decoded.{cellAt, nodeSlot}
 use Rattle.table.proofs.Links.{namer-lower}
-use Rattle.table.proofs.CellLaws.{raw}
-use Rattle.table.proofs.KinLoops.{related, new-parent}
+use Rattle.table.proofs.FilledLaws.{raw}
+use Rattle.table.proofs.Family.{owner-few, parent-lower}
+use Rattle.table.proofs.KinLoops.{related, new-owner, new-parent}
 use borrow.Author.Needs.{needs}
 use Rattle.table.proofs.kin.relate.Statement.{statement}
 use Rattle.table.proofs.kin.relate.Tie as tie
@@ -45,6 +47,25 @@ up-told c =
 lower : (s : tie.Start) → s .args .namer .0 < s .args .n .0
 lower s = omega (arith, s .pre .2, namer-lower (s .args .table .now) (s .args .n .0) (s .pre .1 .0))
 
+high : (s : tie.Start) → s .args .n .0 ≤ 512
+high s = omega (arith, s .pre .1 .1, s .pre .0 .N-high)
+
+-- both are right, so that they fit one number
+module _ (c : tie.After-parent-of) where
+  abbrev s : tie.Start
+  s = start (owned c)
+
+  up-parent : c .parent-of .result .0 ≡ parent (s .args .table .now) (s .args .n .0)
+  up-parent = new-parent _ _ _ _ _ (s .pre .1 .0) (high s) (s .pre .4) _ _ _ _ (s .pre .2) (s .pre .3) (own-told (owned c)) (up-told c)
+
+  up-few : c .parent-of .result .0 < 512
+  up-few = omega (arith, up-parent, parent-lower (s .args .table .now) (s .args .n .0) (s .pre .1 .0), high s)
+
+  own-few : owned c .owner-of .result .0 ≤ 32
+  own-few =
+      let e = new-owner _ _ _ _ _ (s .pre .1 .0) (high s) (s .pre .4) _ _ _ _ (s .pre .2) (s .pre .3) (own-told (owned c)) (up-told c) in
+      omega (arith, e, owner-few (s .args .table .now) (s .args .n .0), s .pre .0 .F-high)
+
 owner-requires : tie.Need-owner-requires
 owner-requires c κs = search needs
 
@@ -62,23 +83,27 @@ parent-of-requires c κs =
 node-slot-requires : tie.Need-node-slot-requires
 node-slot-requires c κs = search needs
 
+mul-put : tie.Need-mul-put
+mul-put c =
+    let slot : tie.After-node-slot = search in
+    omega (arith, up-few (raised slot))
+
+add-put : tie.Need-add-put
+add-put c =
+    let slot : tie.After-node-slot = search in
+    omega (arith, up-few (raised slot), own-few (raised slot))
+
 put-requires : tie.Need-put-requires
 put-requires c κs = search needs
-
-put-requires-2 : tie.Need-put-requires-2
-put-requires-2 c κs = search needs
 
 returns : tie.Need-returns
 returns c =
     let slot : tie.After-node-slot = search in
-    let put : tie.After-put = search in
     let up = raised slot in
-    let own = owned up in
-    let s = start own in
-    let high : s .args .n .0 ≤ 512 = omega (arith, s .pre .1 .1, s .pre .0 .N-high) in (
-      new-parent _ _ _ _ _ (s .pre .1 .0) high (s .pre .4) _ _ _ _ (s .pre .2) (s .pre .3) (own-told own) (up-told up),
-      related _ _ _ _ _ (s .pre .1 .0) high (s .pre .4) _ _ _ _ (s .pre .2) (s .pre .3) (own-told own) (up-told up) _ _ _
-          (slot .node-slot .ensures .0) (put .put .ensures) (c .put2 .ensures) (s .pre .1 .1),
+    let s = start (owned up) in (
+      up-parent up,
+      related _ _ _ _ _ (s .pre .1 .0) (high s) (s .pre .4) _ _ _ _ (s .pre .2) (s .pre .3) (own-told (owned up)) (up-told up) _ _
+          (slot .node-slot .ensures .0) (c .put .ensures) (s .pre .1 .1) (omega (arith, own-few up)),
     )
 
 pub relate-spec : {M : Type 1} → statement M
@@ -90,6 +115,7 @@ relate-spec =
     parent-requires
     parent-of-requires
     node-slot-requires
+    mul-put
+    add-put
     put-requires
-    put-requires-2
     returns)

@@ -3,10 +3,10 @@
 use native.Mathlib.Omega.{arith}
 use borrow.Author.Needs.{needs}
 use mathlib.Core.Path.{_≡_, _∙_}
-use Prim.Native.Nat.{_+_, _*_, _-_, _≤_}
-use Rattle.table.specs.Bytes.{functions, nodes, first, next}
+use Prim.Native.Nat.{_+_, _*_, _-_, _≤_, _<_}
+use Rattle.table.specs.Bytes.{functions, nodes, nodeAt, kind, first, next}
 use Rattle.table.specs.Working.{IsNode, Filled}
-use Rattle.table.proofs.CellLaws.{filled-node, filled-at}
+use Rattle.table.proofs.FilledLaws.{filled-node, filled-at}
 use Rattle.table.proofs.Loops.{bumped-few}
 use Rattle.table.proofs.NameLoops.{LinksTo, links-none, links-more, links-all}
 use Rattle.table.proofs.names.links.Statement.{statement}
@@ -39,6 +39,14 @@ module _ (c : Turn) where
   node : IsNode (s .args .table .now) (l .loop .n + 1)
   node = (omega arith, omega (arith, l .loop .inv .3, c .loop-test .taken))
 
+abbrev known : Turn → tie.After-shared-slice-known Inv-loop μ-loop
+known c = search
+
+-- a kind is a byte
+small : (c : Turn) → kind (s c .args .table .now) (l c .loop .n + 1) < 256
+unfolding kind
+small c = omega (arith, known c .shared-slice-known .given (nodeAt (s c .args .table .now) (l c .loop .n + 1)))
+
 abbrev Decoded : Type 0
 Decoded = tie.After-node Inv-loop μ-loop
 
@@ -49,7 +57,7 @@ filled : (c : Decoded) → let t = turn c in Filled (s t .args .table .now) (fun
     (c .node .last .1 .1 .1 .0)
 filled c =
     let t = turn c in
-    filled-node _ _ _ _ (omega (arith, node t .1, s t .pre .0 .N-high)) (l t .loop .inv .2) _ (c .node .ensures)
+    filled-node _ _ _ _ (omega (arith, node t .1, s t .pre .0 .N-high)) (l t .loop .inv .2) (small t) _ (c .node .ensures)
 
 -- and what was read of it
 abbrev Read : Type 0

@@ -3,10 +3,10 @@
 use native.Mathlib.Omega.{arith}
 use borrow.Author.Needs.{needs}
 use mathlib.Core.Path.{_≡_, _∙_}
-use Prim.Native.Nat.{_+_, _-_, _≤_}
-use Rattle.table.specs.Bytes.{functions, root}
+use Prim.Native.Nat.{_+_, _-_, _≤_, _<_}
+use Rattle.table.specs.Bytes.{functions, functionAt, params, root}
 use Rattle.table.specs.Working.{IsFunction, Filled}
-use Rattle.table.proofs.CellLaws.{filled-function, function-filled}
+use Rattle.table.proofs.FilledLaws.{filled-function, function-filled}
 use Rattle.table.proofs.NameLoops.{RootsTo, roots-none, roots-more, roots-all}
 use Rattle.table.proofs.names.roots.Statement.{statement}
 use Rattle.table.proofs.names.roots.Tie as tie
@@ -38,6 +38,14 @@ module _ (c : Turn) where
   function : IsFunction (s .args .table .now) (l .loop .f + 1)
   function = (omega arith, omega (arith, l .loop .inv .3, c .loop-test .taken))
 
+abbrev known : Turn → tie.After-shared-slice-known Inv-loop μ-loop
+known c = search
+
+-- a parameter count is a byte
+small : (c : Turn) → params (s c .args .table .now) (l c .loop .f + 1) < 256
+unfolding params
+small c = omega (arith, known c .shared-slice-known .given (functionAt (l c .loop .f + 1)))
+
 abbrev turn : tie.After-function Inv-loop μ-loop → Turn
 turn c = search
 
@@ -45,7 +53,7 @@ filled : (c : tie.After-function Inv-loop μ-loop)
     → Filled (s (turn c) .args .table .now) (l (turn c) .loop .f + 1) 0 0 (c .function .last .1 .1 .0)
 filled c =
     let t = turn c in
-    filled-function _ _ _ (omega (arith, function t .1, s t .pre .0 .F-high)) (l t .loop .inv .2) _ (c .function .ensures)
+    filled-function _ _ _ (omega (arith, function t .1, s t .pre .0 .F-high)) (l t .loop .inv .2) (small t) _ (c .function .ensures)
 
 abbrev decoded : tie.After-root Inv-loop μ-loop → tie.After-function Inv-loop μ-loop
 decoded c = search
