@@ -16,7 +16,7 @@ use Rattle.table.specs.Bytes.{functions, nodes, params, root, kind, extr
 use Rattle.table.specs.Find.{one, total, highest, back}
 use Rattle.table.specs.Naming.{names, namer, owner, parent, tail, underLast, inScope, children}
 use Rattle.table.specs.Check.{among, rootFits, recordFits, fields, operationCounts, countsOf, counted}
-use Rattle.table.specs.Decoded.{putFields}
+use Rattle.table.specs.Decoded.{putNumbers}
 use Rattle.table.specs.Working.{IsNode, At, Linked}
 
 -- a node's place among its siblings, from 1; a root's is 1
@@ -198,7 +198,7 @@ ruleAt k j =
 -- the rules of the kinds below k, and of the operations below k, each in its place
 unfoldable pub kindRules : ℕ → List ℕ
 kindRules zero = replicate 64 0
-kindRules (suc k) = putFields 8 k (ruleAt k) (kindRules k)
+kindRules (suc k) = putNumbers 8 k (ruleAt k) (kindRules k)
 
 unfoldable pub operationRules : ℕ → List ℕ
 operationRules zero = replicate 16 0
