@@ -98,9 +98,13 @@ module _ (t : List ℕ) (n : ℕ) where
 
   pub record-fields : kind t n < 256 → (k : ℕ) → k < 6 → fieldOf (nodeNumber t n) k ≡ nodeField t n k
   unfolding low first next
-  record-fields a k h = by-eight (λ k. k < 6 → fieldOf (nodeNumber t n) k ≡ nodeField t n k) (λ _. omega (arith, first-two))
-      (λ _. omega (arith, first-two)) (λ _. refl) (λ _. upper-half) (λ _. refl) (λ _. refl) (λ h. absurd (omega arith))
-      (λ h. absurd (omega arith)) k (omega arith) h
+  record-fields a zero h = omega (arith, first-two)
+  record-fields a (suc zero) h = omega (arith, first-two)
+  record-fields a (suc (suc zero)) h = refl
+  record-fields a (suc (suc (suc zero))) h = upper-half
+  record-fields a (suc (suc (suc (suc zero)))) h = refl
+  record-fields a (suc (suc (suc (suc (suc zero))))) h = refl
+  record-fields a (suc (suc (suc (suc (suc (suc k)))))) h = absurd (omega arith)
 
   pub node-fields : kind t n < 256 → owner t n < 64 → (k : ℕ) → k < 8 → fieldOf (nodeNumber t n) k ≡ nodeField t n k
   node-fields a b =
@@ -116,9 +120,10 @@ module _ (t : List ℕ) (f : ℕ) where
 
   pub function-fields : params t f < 256 → (k : ℕ) → k < 3 → fieldOf (functionNumber t f) k ≡ functionField t f k
   unfolding root
-  function-fields a k h = by-eight (λ k. k < 3 → fieldOf (functionNumber t f) k ≡ functionField t f k) (λ _. omega (arith, record-two))
-      (λ _. omega (arith, record-two)) (λ _. refl) (λ h. absurd (omega arith)) (λ h. absurd (omega arith)) (λ h. absurd (omega arith))
-      (λ h. absurd (omega arith)) (λ h. absurd (omega arith)) k (omega arith) h
+  function-fields a zero h = omega (arith, record-two)
+  function-fields a (suc zero) h = omega (arith, record-two)
+  function-fields a (suc (suc zero)) h = refl
+  function-fields a (suc (suc (suc k))) h = absurd (omega arith)
 
 -- the word is its two halves
 pub word-read : (t cells : List ℕ) (top : ℕ) → 4 ≤ top → CellsTo t cells top → (n : ℕ) → IsNode t n

@@ -11,7 +11,7 @@ ghost use Rattle.table.specs.Decoded.{cellAt, putNumber, nodeSlot, funct
 
 pub type Cells = [u16; 4360];
 
-// Field k of a slot: number 0 holds two, number 5 the last two. Each reader asks for one k, so that the choice is none when compiled.
+// Field k of a slot: number 0 holds two, number 5 the last two. Every call names its k, so that the compiled code has no choice to make.
 fn get(cells: &Cells, slot: usize, k: usize) -> u16
     requires { ⌜ (slot < 545) × (k < 8) ⌝ }
     ensures { λ r. ⌜ r ≡ cellAt (now (cells .entry)) slot k ⌝ }

@@ -1,4 +1,4 @@
--- `kin::relate` meets its contract: what names the node is lower, and its slot is filled.
+-- `kin::relate` meets its contract: what names the node is lower, and its slot is filled; function and parent fit one number.
 use native.Mathlib.Omega.{arith}
 use mathlib.Core.Path.{_≡_, ap, _∙_}
 use Prim.Native.Nat.{_≤_, _<_}
