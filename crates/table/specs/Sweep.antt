@@ -95,10 +95,11 @@ tailReach k = pick (eqb k 5) 2 (pick (eqb k 6) 1025 2048)
 unfoldable pub tailFrom : List ℕ → ℕ → ℕ
 tailFrom t p = pick (eqb p 0) 0 (tailReach (kind t p) + pick (tail t p) 0 2048)
 
--- what n hands down to its children, in one number: the innermost let around it, whether it is a let, and tailFrom; 0 is no node
+-- n is a let; 0 is no node
 abbrev pub isLet : List ℕ → ℕ → Bool
 isLet t n = not (eqb n 0) && eqb (kind t n) 6
 
+-- what n hands down to its children, in one number: the innermost let around it, whether it is a let, and tailFrom
 unfoldable pub downOf : List ℕ → ℕ → ℕ
 downOf t n = around t n + 1024 * one (isLet t n) + 2048 * tailFrom t n
 
@@ -167,7 +168,7 @@ abbrev pub SiftedBy : (t offspring bounds : List ℕ) → Residue → Type 0
 SiftedBy t offspring bounds (Passed count) = Sifted t offspring bounds count
 SiftedBy t offspring bounds Failed = Unit {0}
 
--- what a kind asks, as `fields` has it: what extra is below, but for a parameter, and whether the word may be any, but for a call
+-- what a kind asks, as `fields` has it, and tells its children: 1 is yes; a parameter's extra and a call's word are asked for elsewhere
 abbrev pub ruleOf : (kind : ℕ) → Rule
 ruleOf k = record {
   extras = pick (eqb k 3) 11 (one (eqb k 1 || among 4 7 k));
@@ -183,7 +184,7 @@ ruleOf k = record {
 abbrev pub packed : Counts → ℕ
 packed c = c .low + 256 * c .high
 
--- and eight numbers of it, with the counts of its children: none for a primitive, whose operation tells, or a call, whose callee does
+-- eight numbers of a kind, the last its numbers of children: none of a primitive, whose operation tells, or a call, whose callee does
 abbrev pub ruleAt : (kind j : ℕ) → ℕ
 ruleAt k j =
     pick (eqb j 0) (ruleOf k .extras)
