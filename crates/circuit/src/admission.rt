@@ -9,7 +9,7 @@ ghost use Rattle.circuit.specs.Working.{ReadIn, Admitted};
 
 // The table and its tags; where both are taken, the table is decoded into the cells.
 pub(crate) fn read_in(table: &[u8], tags: &[u8], cells: &mut Cells) -> Checked
-    requires { ⌜ length (now cells) ≡ 4360 ⌝ }
+    requires { ⌜ length (now cells) ≡ 3270 ⌝ }
     ensures { λ r. ⌜ ReadIn (now (table .entry)) (now (tags .entry)) r (now (cells .exit)) ⌝ }
 {
     let checked = table::survey(table, cells);
@@ -27,7 +27,7 @@ pub(crate) fn admit(
     occupant: &[u16; 32],
     cells: &mut Cells,
 ) -> Checked
-    requires { ⌜ length (now cells) ≡ 4360 ⌝ }
+    requires { ⌜ length (now cells) ≡ 3270 ⌝ }
     ensures { λ r. ⌜ Admitted (now (table .entry)) (now (tags .entry)) (now (status .entry)) (now (occupant .entry)) r
         (now (cells .exit)) ⌝ }
 {

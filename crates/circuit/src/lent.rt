@@ -33,7 +33,7 @@ pub fn start(
         r (stateAs (now (status .exit)) (now (second .exit)) (now (value .exit)) (now (registers .exit)) (now (occupant .exit)))
         (startOf (now (table .entry)) (now (tags .entry)) (now (args .entry))) ⌝ }
 {
-    let mut cells = [0u16; 4360];
+    let mut cells = [0u16; 3270];
     let checked = admission::read_in(table, tags, &mut cells);
     match checked {
         Checked::Refused(number, place) => Opening::Refused(number, place),
@@ -67,7 +67,7 @@ pub fn step(
         (stateAs (now (status .entry)) (now (second .entry)) (now (value .entry)) (now (registers .entry)) (now (occupant .entry)))
         (n .0) ⌝ }
 {
-    let mut cells = [0u16; 4360];
+    let mut cells = [0u16; 3270];
     let checked = admission::read_in(table, tags, &mut cells);
     match checked {
         Checked::Refused(number, place) => Answer::Refused(number, place),
@@ -102,7 +102,7 @@ pub fn run(
         (stateAs (now (status .entry)) (now (second .entry)) (now (value .entry)) (now (registers .entry)) (now (occupant .entry)))
         (now (nodes .entry)) ⌝ }
 {
-    let mut cells = [0u16; 4360];
+    let mut cells = [0u16; 3270];
     let checked = admission::admit(table, tags, status, occupant, &mut cells);
     match checked {
         Checked::Refused(number, place) => RunEnd {
@@ -137,7 +137,7 @@ pub fn query(
         (stateAs (now (status .entry)) (now (second .entry)) (now (value .entry)) (now (registers .entry)) (now (occupant .entry)))
         (foundOf r) ⌝ }
 {
-    let mut cells = [0u16; 4360];
+    let mut cells = [0u16; 3270];
     let checked = admission::admit(table, tags, status, occupant, &mut cells);
     match checked {
         Checked::Refused(number, place) => Found::Refused(number, place),
@@ -170,7 +170,7 @@ pub fn drive(
         (drivenAs r
         (stateAs (now (status .exit)) (now (second .exit)) (now (value .exit)) (now (registers .exit)) (now (occupant .exit)))) ⌝ }
 {
-    let mut cells = [0u16; 4360];
+    let mut cells = [0u16; 3270];
     let checked = admission::admit(table, tags, status, occupant, &mut cells);
     match checked {
         Checked::Refused(number, place) => DriveEnd {

@@ -46,7 +46,7 @@ pub total-whole : (t : List ℕ) (F N : ℕ) → checkOf t ≡ accepted F N → 
 total-whole t F N e = Totals.total-whole t (taken-by t F N (sym e) .0)
 
 -- what `check_held` reads off the cells that the survey filled is refusal 10
-pub tags-beside : (t cells tags : List ℕ) (F N : ℕ) → checkOf t ≡ accepted F N → length cells ≡ 4360
+pub tags-beside : (t cells tags : List ℕ) (F N : ℕ) → checkOf t ≡ accepted F N → length cells ≡ 3270
     → heldBy (decodedInto t cells) tags ≡ tagsRefusal t tags
 tags-beside t cells tags F N e z =
     let k = taken-by t F N (sym e) .0 in

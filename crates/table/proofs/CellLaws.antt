@@ -30,33 +30,33 @@ by-eight P a b c d e f g h (suc (suc (suc (suc (suc (suc (suc (suc k)))))))) l =
 -- slot s of an array becomes W, and the others stay
 pub record Row (s : ℕ) (W : ℕ → ℕ) (cells cells′ : List ℕ) : Type 0 where
   pub size : length cells′ ≡ length cells
-  pub here : (k : ℕ) → k < 8 → numberAt cells′ s k ≡ W k
-  pub other : (s′ k : ℕ) → (s′ ≡ s → ⊥) → k < 8 → numberAt cells′ s′ k ≡ numberAt cells s′ k
+  pub here : (k : ℕ) → k < 6 → numberAt cells′ s k ≡ W k
+  pub other : (s′ k : ℕ) → (s′ ≡ s → ⊥) → k < 6 → numberAt cells′ s′ k ≡ numberAt cells s′ k
 
 pub row-start : (s : ℕ) (cells : List ℕ) → Row s (numberAt cells s) cells cells
 row-start s cells = record { size = refl; here = λ k h. refl; other = λ s′ k d h. refl }
 
-pub row-put : (s : ℕ) (W : ℕ → ℕ) (cells cells′ : List ℕ) → length cells ≡ 4360 → s < 545 → Row s W cells cells′ → (j x : ℕ) → j < 8
+pub row-put : (s : ℕ) (W : ℕ → ℕ) (cells cells′ : List ℕ) → length cells ≡ 3270 → s < 545 → Row s W cells cells′ → (j x : ℕ) → j < 6
     → Row s (λ k. pick (eqb k j) x (W k)) cells (putNumber cells′ s j x)
 unfolding numberAt putNumber
 row-put s W cells cells′ z b r j x i = record {
-  size = length-set cells′ (8 * s + j) x ∙ r .size;
+  size = length-set cells′ (6 * s + j) x ∙ r .size;
   here = λ k h. here k h (ℕ-discrete k j);
-  other = λ s′ k d h. getD-set-other cells′ (8 * s + j) (8 * s′ + k) x 0 (λ e. d (omega arith)) ∙ r .other s′ k d h;
+  other = λ s′ k d h. getD-set-other cells′ (6 * s + j) (6 * s′ + k) x 0 (λ e. d (omega arith)) ∙ r .other s′ k d h;
 }
   where
-    here : (k : ℕ) → k < 8 → Dec (k ≡ j) → numberAt (putNumber cells′ s j x) s k ≡ pick (eqb k j) x (W k)
-    here k h (yes e) = rw (e, eq-eqb j j refl) (getD-set-same cells′ (8 * s + j) x 0 (omega (arith, r .size)))
-    here k h (no e) = rw (ne-eqb k j e) (getD-set-other cells′ (8 * s + j) (8 * s + k) x 0 (λ q. e (omega arith)) ∙ r .here k h)
+    here : (k : ℕ) → k < 6 → Dec (k ≡ j) → numberAt (putNumber cells′ s j x) s k ≡ pick (eqb k j) x (W k)
+    here k h (yes e) = rw (e, eq-eqb j j refl) (getD-set-same cells′ (6 * s + j) x 0 (omega (arith, r .size)))
+    here k h (no e) = rw (ne-eqb k j e) (getD-set-other cells′ (6 * s + j) (6 * s + k) x 0 (λ q. e (omega arith)) ∙ r .here k h)
 
-row-as : {s : ℕ} {W U : ℕ → ℕ} {cells cells′ : List ℕ} → Row s W cells cells′ → ((k : ℕ) → k < 8 → W k ≡ U k) → Row s U cells cells′
+row-as : {s : ℕ} {W U : ℕ → ℕ} {cells cells′ : List ℕ} → Row s W cells cells′ → ((k : ℕ) → k < 6 → W k ≡ U k) → Row s U cells cells′
 row-as r f = record { size = r .size; here = λ k h. r .here k h ∙ f k h; other = r .other }
 
 -- the numbers of slot s, of which the first k are put
 abbrev pub over : (k s : ℕ) → (ℕ → ℕ) → List ℕ → ℕ → ℕ
 over k s g cells j = pick (ltb j k) (g j) (numberAt cells s j)
 
-pub row-numbers : (k s : ℕ) (g : ℕ → ℕ) (cells : List ℕ) → length cells ≡ 4360 → s < 545 → k ≤ 8
+pub row-numbers : (k s : ℕ) (g : ℕ → ℕ) (cells : List ℕ) → length cells ≡ 3270 → s < 545 → k ≤ 6
     → Row s (over k s g cells) cells (putNumbers k s g cells)
 unfolding putNumbers
 row-numbers zero s g cells z b i = row-as (row-start s cells) (λ j h. sym (ap (λ x. pick x (g j) (numberAt cells s j)) (le-ltb j 0
@@ -72,7 +72,7 @@ row-numbers (suc k) s g cells z b i =
     one-more j (no e) (no d) = rw (ne-eqb j k e, le-ltb j k (omega arith), le-ltb j (suc k) (omega arith))
 
 -- the fields are read off the numbers alone
-fields-as : (g h : ℕ → ℕ) → ((k : ℕ) → k < 8 → g k ≡ h k) → (k : ℕ) → k < 8 → fieldOf g k ≡ fieldOf h k
+fields-as : (g h : ℕ → ℕ) → ((k : ℕ) → k < 6 → g k ≡ h k) → (k : ℕ) → k < 8 → fieldOf g k ≡ fieldOf h k
 fields-as g h e = by-eight (λ k. fieldOf g k ≡ fieldOf h k) (ap (λ x. x % 256) (e 0 (omega arith))) (ap (λ x. x / 256) (e 0 (omega arith)))
     (e 1 (omega arith)) (e 2 (omega arith)) (e 3 (omega arith)) (e 4 (omega arith)) (ap (λ x. x % 64) (e 5 (omega arith)))
     (ap (λ x. x / 64) (e 5 (omega arith)))

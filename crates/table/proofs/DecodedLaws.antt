@@ -35,13 +35,13 @@ pub record Small (t : List ℕ) : Type 0 where
 
 -- what stands in the slots, functions up to f and nodes up to n
 record Stand (t : List ℕ) (f n : ℕ) (cells : List ℕ) : Type 0 where
-  size : length cells ≡ 4360
+  size : length cells ≡ 3270
   own : (k : ℕ) → k < 2 → cellAt cells tableSlot (2 * k) ≡ tableField t (2 * k)
   function : (g k : ℕ) → 1 ≤ g → g ≤ f → k < 3 → cellAt cells (functionSlot g) k ≡ functionField t g k
   node : (m k : ℕ) → 1 ≤ m → m ≤ n → k < 8 → cellAt cells (nodeSlot m) k ≡ nodeField t m k
 
 module _ (t : List ℕ) (sm : Small t) where
-  stand-table : (cells : List ℕ) → length cells ≡ 4360 → Stand t 0 0 (putNumbers 2 tableSlot (tableNumber t) cells)
+  stand-table : (cells : List ℕ) → length cells ≡ 3270 → Stand t 0 0 (putNumbers 2 tableSlot (tableNumber t) cells)
   stand-table cells z = record {
     size = row .size ∙ z;
     own = λ k b. field-here row (2 * k) (omega arith) ∙ each k b;
@@ -134,7 +134,7 @@ module _ (t : List ℕ) (sm : Small t) where
       subst (λ m. Stand t F m (putNumbers 6 (nodeSlot m) (nodeNumber t m) (nodesPut t n cells))) (next-number n)
       (stand-node F n _ i (omega arith) (all-nodes F n cells i (omega arith) h))
 
-pub decoded-read : (t cells : List ℕ) → Small t → length cells ≡ 4360 → Decoded t (decodedInto t cells)
+pub decoded-read : (t cells : List ℕ) → Small t → length cells ≡ 3270 → Decoded t (decodedInto t cells)
 unfolding decodedInto
 decoded-read t cells sm z = record {
   size = all .size;

@@ -82,14 +82,14 @@ module _ (t cells cells′ : List ℕ) (f n m f′ n′ m′ s₀ : ℕ) (W : �
       each s k a b (no e) = field-other row s k e b ∙ h .each s k a b ∙ on s k a b e
 
 -- nothing but the sizes
-pub filled-none : (t cells : List ℕ) → Framed t → cells ≡ replicate 4360 0 → (cells′ : List ℕ)
+pub filled-none : (t cells : List ℕ) → Framed t → cells ≡ replicate 3270 0 → (cells′ : List ℕ)
     → cells′ ≡ putNumbers 2 tableSlot (tableNumber t) cells → Filled t 0 0 0 cells′
 unfolding numberAt cellAt
 filled-none t cells fr e cells′ q =
     subst (Filled t 0 0 0) (sym q) (record { size = two .size ∙ size; each = λ s k a b. each s k a b (ℕ-discrete s 544) })
   where
-    size : length cells ≡ 4360
-    size = ap length e ∙ length-replicate {A = ℕ} 4360 0
+    size : length cells ≡ 3270
+    size = ap length e ∙ length-replicate {A = ℕ} 3270 0
 
     W : ℕ → ℕ
     W = over 2 544 (tableNumber t) cells
@@ -98,7 +98,7 @@ filled-none t cells fr e cells′ q =
     two = row-numbers 2 544 (tableNumber t) cells size (omega arith) (omega arith)
 
     zero-at : (i : ℕ) → getD cells i 0 ≡ 0
-    zero-at i = ap (λ l. getD l i 0) e ∙ blank-at {A = ℕ} 4360 i 0
+    zero-at i = ap (λ l. getD l i 0) e ∙ blank-at {A = ℕ} 3270 i 0
 
     blank : (s k : ℕ) → k < 8 → cellAt cells s k ≡ 0
     blank s = by-eight (λ k. cellAt cells s k ≡ 0) (ap (λ x. x % 256) (zero-at _)) (ap (λ x. x / 256) (zero-at _)) (zero-at _) (zero-at _)

@@ -14,8 +14,7 @@ use Rattle.table.specs.declared.kinds.Rule.{Rule}
 use Rattle.table.specs.Pick.{pick}
 use Rattle.table.specs.Find.{one, all}
 use Rattle.table.specs.Check.{between, among, fields, countsOf, operationCounts, within}
-use Rattle.table.specs.Decoded.{putNumbers, putNumber}
-use Rattle.table.specs.Sweep.{ruleOf, ruleAt, packed, kindRules, operationRules, KindFits, tailReach}
+use Rattle.table.specs.Sweep.{ruleOf, ruleAt, packed, rulesPut, kindRules, operationRules, KindFits, tailReach}
 use Rattle.table.proofs.CellLaws.{by-eight}
 use Rattle.table.proofs.FindLaws.{all-passes}
 use Rattle.table.proofs.CountLaws.{counts-by}
@@ -33,7 +32,7 @@ module _ (l : List ℕ) (want : ℕ → ℕ) where
       (all-passes test m h (i + 1) (omega arith) (omega arith)))
 
 pub rule-read : (k j : ℕ) → k < 8 → j < 8 → getD (kindRules 8) (8 * k + j) 0 ≡ ruleAt k j
-unfolding test all kindRules putNumbers putNumber countsOf operationCounts
+unfolding test all kindRules rulesPut countsOf operationCounts
 rule-read k j a b =
     let kind : (8 * k + j) / 8 ≡ k = omega arith in
     let place : (8 * k + j) % 8 ≡ j = omega arith in
@@ -47,7 +46,7 @@ operation-read = by-places (operationRules 11) (λ e. packed (operationCounts e)
 pub rules-more : (k : ℕ) (l : List ℕ) (r : Rule) (x : ℕ) → l ≡ kindRules k → r ≡ ruleOf k → x ≡ packed (countsOf k 11 0)
     → (let low = set (set (set (set l (8 * k + 0) (r .extras)) (8 * k + 1) (r .parameter)) (8 * k + 2) (r .call)) (8 * k + 3) (r .reach) in
     set (set (set (set low (8 * k + 4) (r .bound)) (8 * k + 5) (r .primitive)) (8 * k + 6) (r .words)) (8 * k + 7) x ≡ kindRules (k + 1))
-unfolding kindRules putNumbers putNumber
+unfolding kindRules rulesPut
 rules-more k l r x el er ex = rw (el, er, ex) (sym (ap kindRules (add-one k)))
 
 pub operations-more : (k : ℕ) (l : List ℕ) (x : ℕ) → l ≡ operationRules k → x ≡ packed (operationCounts k)

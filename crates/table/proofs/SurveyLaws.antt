@@ -179,7 +179,7 @@ unfolding surveyed
 surveyed-out t cells k p e = ap (λ v. ifAccepted v (decodedInto t cells) cells) e
 
 -- what a survey says: an accepted table can be read
-pub survey-taken : (t cells cells′ : List ℕ) (r : Checked) (f : Function) (n : Node) → length cells ≡ 4360 → verdictOf r ≡ checkOf t
+pub survey-taken : (t cells cells′ : List ℕ) (r : Checked) (f : Function) (n : Node) → length cells ≡ 3270 → verdictOf r ≡ checkOf t
     → cells′ ≡ surveyed t cells → r ≡ Accepted f n → Read t cells′ × (f .0 ≡ functions t) × (n .0 ≡ nodes t)
 unfolding surveyed
 survey-taken t cells cells′ r f n size told q e =

@@ -23,10 +23,10 @@ pub of-accepted : (t : List ℕ) (F N : ℕ) → checkOf t ≡ accepted F N → 
 of-accepted = from-check
 
 -- what the survey puts into cells is read back, field by field
-pub nodes-decoded : (t cells : List ℕ) (F N : ℕ) → checkOf t ≡ accepted F N → length cells ≡ 4360 → (n k : ℕ) → 1 ≤ n → n ≤ nodes t → k < 8
+pub nodes-decoded : (t cells : List ℕ) (F N : ℕ) → checkOf t ≡ accepted F N → length cells ≡ 3270 → (n k : ℕ) → 1 ≤ n → n ≤ nodes t → k < 8
     → cellAt (decodedInto t cells) (nodeSlot n) k ≡ nodeField t n k
 nodes-decoded t cells F N e z n k a b c = decoded-read t cells (taken-small t (taken-by t F N (sym e) .0)) z .node n k (a, b) c
 
-pub functions-decoded : (t cells : List ℕ) (F N : ℕ) → checkOf t ≡ accepted F N → length cells ≡ 4360 → (f k : ℕ) → 1 ≤ f → f ≤ functions t
+pub functions-decoded : (t cells : List ℕ) (F N : ℕ) → checkOf t ≡ accepted F N → length cells ≡ 3270 → (f k : ℕ) → 1 ≤ f → f ≤ functions t
     → k < 3 → cellAt (decodedInto t cells) (functionSlot f) k ≡ functionField t f k
 functions-decoded t cells F N e z f k a b c = decoded-read t cells (taken-small t (taken-by t F N (sym e) .0)) z .function f k (a, b) c

@@ -1,4 +1,4 @@
--- a table decoded: 545 slots of 8 numbers, into which its records are put, and what is read of a slot, field by field; what no record is
+-- a table decoded: 545 slots of 6 numbers, into which its records are put, and what is read of a slot, field by field; what no record is
 -- put into keeps its content
 use Prim.Native.Nat.{ℕ, zero, suc, _+_, _-_, _*_, _/_, _%_}
 use mathlib.Core.List.{List}
@@ -11,11 +11,11 @@ use Rattle.table.specs.Check.{ifAccepted, checkOf}
 
 -- number k of slot s, as it is stored
 unfoldable pub numberAt : List ℕ → ℕ → ℕ → ℕ
-numberAt cells s k = getD cells (8 * s + k) 0
+numberAt cells s k = getD cells (6 * s + k) 0
 
 -- it becomes x
 unfoldable pub putNumber : List ℕ → ℕ → ℕ → ℕ → List ℕ
-putNumber cells s k x = set cells (8 * s + k) x
+putNumber cells s k x = set cells (6 * s + k) x
 
 -- field k of a slot with the numbers g: number 0 holds two of them, 256 apart, number 5 the last two, 64 apart, the others one each
 abbrev pub fieldOf : (ℕ → ℕ) → ℕ → ℕ

@@ -16,7 +16,6 @@ use Rattle.table.specs.Bytes.{functions, nodes, params, root, kind, extr
 use Rattle.table.specs.Find.{one, total, highest, back}
 use Rattle.table.specs.Naming.{names, namer, owner, parent, tail, underLast, inScope, children}
 use Rattle.table.specs.Check.{among, rootFits, recordFits, fields, operationCounts, countsOf, counted}
-use Rattle.table.specs.Decoded.{putNumbers}
 use Rattle.table.specs.Working.{IsNode, At, Linked}
 
 -- a node's place among its siblings, from 1; a root's is 1
@@ -196,10 +195,15 @@ ruleAt k j =
     (pick (eqb j 6) (ruleOf k .words)
     (packed (countsOf k 11 0))))))))
 
+-- the first j of kind k's eight numbers put in their places
+unfoldable pub rulesPut : (j k : ℕ) → List ℕ → List ℕ
+rulesPut zero k l = l
+rulesPut (suc j) k l = set (rulesPut j k l) (8 * k + j) (ruleAt k j)
+
 -- the rules of the kinds below k, and of the operations below k, each in its place
 unfoldable pub kindRules : ℕ → List ℕ
 kindRules zero = replicate 64 0
-kindRules (suc k) = putNumbers 8 k (ruleAt k) (kindRules k)
+kindRules (suc k) = rulesPut 8 k (kindRules k)
 
 unfoldable pub operationRules : ℕ → List ℕ
 operationRules zero = replicate 16 0

@@ -45,7 +45,7 @@ pub record At (t : List ℕ) (base n : ℕ) : Type 0 where
 
 -- of a table's cells the first `top` fields of each node are filled, all of each function, and of the table's own F and N, fields 0 and 2
 pub record CellsTo (t cells : List ℕ) (top : ℕ) : Type 0 where
-  pub size : length cells ≡ 4360
+  pub size : length cells ≡ 3270
   pub node : (n k : ℕ) → IsNode t n → k < top → cellAt cells (nodeSlot n) k ≡ nodeField t n k
   pub function : (f k : ℕ) → IsFunction t f → k < 3 → cellAt cells (functionSlot f) k ≡ functionField t f k
   pub own : (k : ℕ) → k < 2 → cellAt cells tableSlot (2 * k) ≡ tableField t (2 * k)
@@ -73,7 +73,7 @@ filledTo t f n m s k =
     (tableField t k))
 
 pub record Filled (t : List ℕ) (f n m : ℕ) (cells : List ℕ) : Type 0 where
-  pub size : length cells ≡ 4360
+  pub size : length cells ≡ 3270
   pub each : (s k : ℕ) → s < 545 → k < 8 → cellAt cells s k ≡ filledTo t f n m s k
 
 -- the first of the numbers 1 to 3 that is met, 0 if none is

@@ -1,4 +1,4 @@
-// A decoded table: 545 slots of 8 numbers, read faster than bytes. Node n has slot n mod 512, function f slot 512 + f mod 32, the table
+// A decoded table: 545 slots of 6 numbers, read faster than bytes. Node n has slot n mod 512, function f slot 512 + f mod 32, the table
 // itself the last. A slot is put number by number and read field by field. A node's numbers are its record's ten bytes two by two, kind
 // and extra, low and high half of the word, first child, next sibling, then function + 64 * parent; a function's are its record's four
 // bytes, parameter count and second byte, then root; the table's are F and N. The readers take any number: what is no node's and no
@@ -9,14 +9,14 @@ ghost use mathlib.Core.Path.{_≡_};
 ghost use Prim.Native.Nat.{_+_, _*_, _<_};
 ghost use Rattle.table.specs.Decoded.{cellAt, putNumber, nodeSlot, functionSlot, tableSlot};
 
-pub type Cells = [u16; 4360];
+pub type Cells = [u16; 3270];
 
 // Field k of a slot: number 0 holds two, number 5 the last two. Every call names its k, so that the compiled code has no choice to make.
 fn get(cells: &Cells, slot: usize, k: usize) -> u16
     requires { ⌜ (slot < 545) × (k < 8) ⌝ }
     ensures { λ r. ⌜ r ≡ cellAt (now (cells .entry)) slot k ⌝ }
 {
-    let at = 8 * slot;
+    let at = 6 * slot;
     match k {
         0 => cells[at] % 256,
         1 => cells[at] / 256,
@@ -28,10 +28,10 @@ fn get(cells: &Cells, slot: usize, k: usize) -> u16
 
 // Number k of a slot.
 pub(crate) fn put(cells: &mut Cells, slot: usize, k: usize, x: u16)
-    requires { ⌜ (slot < 545) × (k < 8) ⌝ }
+    requires { ⌜ (slot < 545) × (k < 6) ⌝ }
     ensures { λ _. ⌜ now (cells .exit) ≡ putNumber (now (cells .entry)) slot k x ⌝ }
 {
-    cells[8 * slot + k] = x;
+    cells[6 * slot + k] = x;
 }
 
 pub(crate) fn node_slot(n: Node) -> usize

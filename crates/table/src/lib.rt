@@ -43,7 +43,7 @@ pub fn check(table: &[u8]) -> Checked
 }
 
 // The check, and an accepted table decoded into lent cells, with each node's function and parent; refused, they stay as they are.
-pub fn survey(table: &[u8], cells: &mut [u16; 4360]) -> Checked
+pub fn survey(table: &[u8], cells: &mut [u16; 3270]) -> Checked
     ensures { λ r. ⌜ (verdictOf r ≡ checkOf (now (table .entry)))
         × (now (cells .exit) ≡ surveyed (now (table .entry)) (now (cells .entry))) ⌝ }
 {
@@ -100,7 +100,7 @@ fn inspect(table: &[u8], kin: &mut [u32; 513]) -> Checked
     requires { ⌜ Framed (now table) ⌝ }
     ensures { λ r. ⌜ Settles (now (table .entry)) r (now (kin .exit)) ⌝ }
 {
-    let mut cells = [0u16; 4360];
+    let mut cells = [0u16; 3270];
     decode::sizes(table, &mut cells);
     let mut mentions = [0u16; 513];
     let mut tops = [0u16; 513];
