@@ -10,7 +10,7 @@ use Rattle.table.specs.Pick.{pick}
 use Rattle.table.specs.Environment.{values}
 use Rattle.table.specs.Syntax.{Expr, Exprs, none, some, id, roots, const, param, prim, call, self, cond, bind, bound}
 use Rattle.table.specs.Bytes.{root, kind, extra, word, first}
-use Rattle.table.specs.Naming.{owner, chain, children}
+use Rattle.table.specs.Naming.{owner, chain, children, initial}
 use Rattle.table.specs.Expressions.{exprsAt, exprAt, bodyOf, defsAt, finalAt, thenAt, elseAt}
 use Rattle.table.specs.Working.{IsNode, IsFunction}
 use Rattle.table.proofs.Passed.{Passed}
@@ -18,14 +18,14 @@ use Rattle.table.proofs.Family.{owner-in}
 use Rattle.table.proofs.NodeCases.{NodeCase, node-case, id-at}
 use Rattle.table.proofs.NodeCases.{is-const, is-param, is-prim, is-call, is-self, is-cond, is-bind, is-bound}
 use Rattle.table.proofs.Children.{values-are, roots-kids, Final, final}
-use Rattle.table.proofs.Accepted.{id-body}
+use Rattle.table.proofs.Bodies.{id-body}
 use Rattle.rules.specs.State.{State512, View, view, entry, register}
 use Rattle.rules.specs.Step.{Act, stuck, blocked, does, begins, turns, finishes, enters, leaves, restarts, all-done, branch, by-status}
 use Rattle.rules.specs.Step.{act}
 use Rattle.rules.specs.Operations.{operate}
 use Rattle.rules.specs.Circuit.{actOf}
 use Rattle.table.specs.Working.{Taken}
-use Rattle.circuit.specs.Working.{allDone, initial, lastFrom, given, opens, passed}
+use Rattle.circuit.specs.Working.{allDone, lastFrom, given, opens, passed}
 use Rattle.circuit.proofs.ChainLaws.{ok}
 use Rattle.rules.proofs.AnyState.{bound-node}
 

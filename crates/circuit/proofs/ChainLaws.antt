@@ -10,7 +10,7 @@ use lib.ListN.{getD}
 use borrow.Author.Tests.{eq-eqb, ne-eqb, eqb-true, eqb-false}
 use Rattle.table.specs.Pick.{pick}
 use Rattle.table.specs.Bytes.{functions, nodes, first, next}
-use Rattle.table.specs.Naming.{chain}
+use Rattle.table.specs.Naming.{chain, initial}
 use Rattle.table.specs.Working.{IsNode, Linked}
 use Rattle.table.proofs.Passed.{Passed, passed}
 use Rattle.table.proofs.Links.{link}
@@ -19,7 +19,7 @@ use mathlib.Core.Logic.{_⊎_, inl, inr}
 use Rattle.rules.specs.State.{write, opened}
 use Rattle.rules.specs.Operations.{lastValue, operate}
 use Rattle.table.specs.Working.{Taken}
-use Rattle.circuit.specs.Working.{allDone, initial, leading, lastFrom}
+use Rattle.circuit.specs.Working.{allDone, leading, lastFrom}
 use Rattle.circuit.proofs.OperationLaws.{operateBy}
 
 -- what is left of a chain

@@ -128,7 +128,7 @@ module _ (t tags : List ℕ) (ag : Agreed t tags) (s : State512) (st : Stands t 
     ends-rest d r f e = (not-done d, query-none r f e)
 
     pub ends-spent : (x ≡ 3 → ⊥) → (r : ℕ) → FoundAt t s r → (r ≡ 0 → ⊥) → EndsIn t tags s spent
-    ends-spent d r f e = (not-done d, (r, query-some d r f e))
+    ends-spent d r f e = (not-done d, (r, query-some d r f e), refl)
 
     -- how it ends is what it says
     pub says-from : (rest : Bool) (k budget : ℕ) (b : Bool) → b ≡ (not rest && (ltb k budget && not (eqb x 3))) → b ≡ false

@@ -10,7 +10,7 @@ use lib.ListN.{getD}
 use borrow.Author.Tests.{eq-eqb, ne-eqb}
 use Rattle.table.specs.Pick.{pick}
 use Rattle.table.specs.Bytes.{nodes, root, kind, extra, word, first, next}
-use Rattle.table.specs.Naming.{owner, chain, children}
+use Rattle.table.specs.Naming.{owner, chain, children, initial}
 use Rattle.rules.specs.State.{entry, register}
 use Rattle.rules.specs.Step.{Act, stuck, blocked, does, begins, turns, finishes, enters, leaves, restarts}
 use Rattle.rules.specs.Operations.{lastValue, operate}
@@ -19,7 +19,7 @@ use Rattle.table.specs.Working.{IsNode}
 use Rattle.rules.specs.Circuit.{actOf}
 use Rattle.circuit.specs.Meaning.{stateAs}
 use Rattle.circuit.proofs.OperationLaws.{operateBy}
-use Rattle.circuit.specs.Working.{allDone, initial, leading, lastFrom, given, opens, passed, goes}
+use Rattle.circuit.specs.Working.{allDone, leading, lastFrom, given, opens, passed, goes}
 use Rattle.circuit.proofs.ActBy.{open-is, busy-is, openBy, primBy, selfBy, callBy, branchBy, condBy, bindBy, busyBy}
 use Rattle.circuit.proofs.ChainLaws.{chain-end, chain-here, next-in, operate-by}
 

@@ -7,10 +7,10 @@ use native.Mathlib.Omega.{arith}
 use borrow.Author.Tests.{ne-eqb}
 use Rattle.table.specs.Syntax.{id}
 use Rattle.table.specs.Bytes.{functions, nodes, root, kind, first}
-use Rattle.table.specs.Naming.{owner, chain, children}
+use Rattle.table.specs.Naming.{owner, chain, children, initial}
 use Rattle.table.specs.Expressions.{exprAt, bodyOf}
 use Rattle.table.specs.Working.{IsNode, IsFunction}
-use Rattle.table.proofs.Accepted.{id-body}
+use Rattle.table.proofs.Bodies.{id-body}
 use Rattle.rules.specs.State.{State512, view, entry, write, opened, clear, fill}
 use Rattle.rules.specs.Step.{Act, does, Move, begins, turns, finishes, enters, leaves, restarts, mine, perform}
 use Rattle.rules.specs.Operations.{operate}
@@ -19,7 +19,7 @@ use Rattle.circuit.specs.Meaning.{stateAs}
 use Rattle.table.specs.Working.{Taken}
 use Rattle.circuit.specs.declared.changes.Effect.{Effect}
 use Rattle.circuit.specs.declared.changes.Effect.the-variants as Effect
-use Rattle.circuit.specs.Working.{initial, leading, given, opens, Took}
+use Rattle.circuit.specs.Working.{leading, given, opens, Took}
 use Rattle.rules.proofs.Demands.{lay}
 use Rattle.rules.proofs.Performed.{FairAct}
 use Rattle.rules.proofs.StepTaken.{act-fair}

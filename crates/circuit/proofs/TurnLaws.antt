@@ -16,7 +16,7 @@ use Rattle.table.specs.Naming.{owner}
 use Rattle.table.specs.Check.{accepted, checkOf}
 use Rattle.table.specs.Expressions.{bodyOf, exprAt}
 use Rattle.table.specs.Working.{IsNode}
-use Rattle.table.proofs.Accepted.{id-body}
+use Rattle.table.proofs.Bodies.{id-body}
 use Rattle.table.proofs.Passed.{passed}
 use Rattle.list.specs.Tags.{tagged, checkWith}
 use Rattle.rules.specs.State.{State512, view, entry}

@@ -7,15 +7,15 @@ use lib.Dec.{eqb}
 use lib.ListN.{getD}
 use Rattle.table.specs.Pick.{pick}
 use Rattle.table.specs.Bytes.{functions, nodes, kind, first, next}
-use Rattle.table.specs.Naming.{owner, children}
+use Rattle.table.specs.Naming.{owner, children, initial}
 use Rattle.table.specs.Check.{accepted}
 use Rattle.table.specs.Expressions.{bodyOf}
 use Rattle.table.specs.declared.Checked.{Checked}
 use Rattle.list.specs.Tags.{checkWith}
 use Rattle.rules.specs.State.{State512, entry}
 use Rattle.rules.specs.Step.{Act, stuck, blocked, does, Move, turns, finishes, enters, leaves, restarts, over, perform}
-use Rattle.rules.specs.Circuit.{actOf, Possible}
-use Rattle.rules.specs.Runs.{standing, MainDone, mainValue, Ended, gave, atRest, spent, barred, Found, FindsAfter}
+use Rattle.rules.specs.Circuit.{actOf}
+use Rattle.rules.specs.Runs.{standing, Ended, Found, FindsAfter}
 use Rattle.table.specs.Working.{IsNode, Taken, Read}
 use Rattle.table.specs.Survey.{verdictOf}
 use Rattle.circuit.specs.Meaning.{stateAs}
@@ -38,12 +38,6 @@ pub record Grouped (t heads links : List ℕ) : Type 0 where
 unfoldable pub allDone : (status : ℕ → ℕ) → List ℕ → Bool
 allDone status [] = true
 allDone status (n ∷ ns) = eqb (status n) 3 && allDone status ns
-
--- all but the last, and the last
-unfoldable pub initial : List ℕ → List ℕ
-initial [] = []
-initial (n ∷ []) = []
-initial (n ∷ (m ∷ ms)) = n ∷ initial (m ∷ ms)
 
 -- all of a chain, or of a let's the definientia
 abbrev pub leading : Bool → List ℕ → List ℕ
@@ -137,7 +131,4 @@ abbrev pub FindsIn : (t tags : List ℕ) → State512 → Found → Type 0
 FindsIn t tags s r = FindsAfter (accepted (functions t) (nodes t)) t tags s r
 
 abbrev pub EndsIn : (t tags : List ℕ) → State512 → Ended → Type 0
-EndsIn t tags s (gave v) = MainDone t s × (mainValue t s ≡ v)
-EndsIn t tags s atRest = (MainDone t s → ⊥) × ((n : ℕ) → Possible t tags s n → ⊥)
-EndsIn t tags s spent = (MainDone t s → ⊥) × ((n : ℕ) × Possible t tags s n)
-EndsIn t tags s (barred number place) = ⊥
+EndsIn t tags = Says t tags 0 0

@@ -13,12 +13,9 @@ use Rattle.list.specs.Conflict.{C, C*, PC, A, A*}
 use Rattle.table.specs.Pick.{mixed, pick, Range}
 use Rattle.list.specs.CallSets.{callee-at, sets, Listed}
 use Rattle.list.proofs.ListedCalls.{Calling, Calling*, C-all, C-all*, sets-all}
+use Rattle.list.specs.PaperList.{Decides}
 use Rattle.list.specs.Arbiters.{Test, noCalls, joined, anyUpTo, callsIn, callsIn*, meeting, parallel, conflicts, conflicts*}
 use Rattle.list.specs.Arbiters.{callsOf, listedIn}
-
--- a test that passes exactly if P holds
-abbrev pub Decides : Bool → Type 0 → Type 0
-Decides b P = (b ≡ true → P) × (P → b ≡ true)
 
 no-decides : Decides false ⊥
 no-decides = (λ e. true≢false (sym e), λ x. absurd x)

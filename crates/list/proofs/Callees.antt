@@ -9,7 +9,8 @@ use borrow.Author.Tests.{ne-eqb}
 use Rattle.table.specs.Pick.{pick}
 use Rattle.table.specs.Syntax.{Exprs, const, param, prim, call, self, bound, none, some}
 use Rattle.list.specs.CallSets.{callee, callee-at, Listed}
-use Rattle.list.proofs.ArbiterFacts.{Decides, listed-decides}
+use Rattle.list.specs.PaperList.{Decides}
+use Rattle.list.proofs.ArbiterFacts.{listed-decides}
 use Rattle.table.proofs.CallPlaces.{call-node}
 use Rattle.table.specs.Bytes.{functions, nodes, kind, extra, word, first}
 use Rattle.table.specs.Naming.{owner}

@@ -44,7 +44,8 @@ module _ (t : List ℕ) (f c : ℕ) (at : Within t f c) where
       last = u .last;
     }
 
-    pub side-all : (set′ g″ : List ℕ) → MetBy own (r .twice) g′ g″ → Adds (packed own) set set′ → Sided t f c defs r set set′ q q′ g g″
+    pub side-all : (set′ g″ : List ℕ) → MetBy own (r .once) (r .twice) g′ g″ → Adds (packed own) set set′
+        → Sided t f c defs r set set′ q q′ g g″
     side-all set′ g″ met add = record {
       walk = walk-side t (kidsAt t defs c) (r .once) (r .twice) own q q′ g g′ (λ m e. b .calls m e .0) (u .walk) (u .twice) set set′ g″
           (b .conflicts) met add;

@@ -13,7 +13,7 @@ use lib.ListN.{length, getD, replicate}
 use borrow.Author.Tests.{eq-eqb, ne-eqb}
 use Rattle.table.proofs.Tests.{and-no}
 use Rattle.list.specs.Arbiters.{Test, anyUpTo}
-use Rattle.list.specs.Working.{bitAt, packed, Bit, siteBit, Adds, unionOf, MetBy}
+use Rattle.list.specs.Working.{bitAt, packed, Bit, siteBit, Adds, unionOf, sharedOf, MetBy}
 use Rattle.list.proofs.BitLaws.{or-bit, and-bit, small-bit, high-bit}
 use Rattle.list.proofs.WordLaws.{none-packed, packed-bit, packed-row, by-words, word-of}
 use Rattle.list.proofs.Bytewise.{Upto}
@@ -154,23 +154,33 @@ module _ (rows : List ℕ) (mask : ℕ) where
             small : (x : ℕ) → x / 2 ≡ 0 → x < 2
             small x e = omega arith
 
--- a mask that names no function
-pub met-none : (set rows : List ℕ) (mask : ℕ) → length rows ≡ 520 → mask < 2 → MetBy set mask rows rows
-met-none set rows mask l e = record {
+-- where no function is called twice
+pub met-none : (set rows : List ℕ) (once twice : ℕ) → length rows ≡ 520 → twice < 2 → (once ≡ twice → ⊥) → MetBy set once twice rows rows
+met-none set rows once twice l e z = record {
   size = l;
   bits = λ m b. sym (ap (λ p. packed rows m || p) (ap (λ p. packed set m && p) (none m) ∙ and-no (packed set m)) ∙ or-no (packed rows m));
   other = λ h m i b. refl;
 }
   where
-    none : (m : ℕ) → unionOf rows mask 31 m ≡ false
-    none = unfold unionOf in (λ m. none-of 31 (λ h. bitAt mask h && packed rows (siteBit h m))
-        (λ h i. ap (λ p. p && packed rows (siteBit h m)) (small-bit mask h e i)))
+    none : (m : ℕ) → sharedOf set rows once twice m ≡ false
+    none = unfold sharedOf unionOf in (λ m. rw (ne-eqb once twice z) (none-of 31 (λ h. bitAt twice h && packed rows (siteBit h m))
+        (λ h i. ap (λ p. p && packed rows (siteBit h m)) (small-bit twice h e i))))
+
+-- where all are, and where only some are
+pub shared-all : (set rows : List ℕ) (once twice : ℕ) → once ≡ twice → (m : ℕ) → packed set m ≡ sharedOf set rows once twice m
+unfolding sharedOf
+shared-all set rows once twice e m = rw (eq-eqb once twice e)
+
+pub shared-some : (set rows : List ℕ) (once twice : ℕ) → (once ≡ twice → ⊥) → (m : ℕ)
+    → unionOf rows twice 31 m ≡ sharedOf set rows once twice m
+unfolding sharedOf
+shared-some set rows once twice e m = rw (ne-eqb once twice e)
 
 -- the words of set 0 written one after the other
-pub met-by : (set all rows rows′ : List ℕ) (mask : ℕ) → length rows′ ≡ 520
+pub met-by : (set all rows rows′ : List ℕ) (once twice : ℕ) → length rows′ ≡ 520
     → Upto (λ j. bitOr (getD rows j 0) (bitAnd (getD set j 0) (getD all j 0))) rows rows′ 8
-    → ((m : ℕ) → Bit m → packed all m ≡ unionOf rows mask 31 m) → MetBy set mask rows rows′
-met-by set all rows rows′ mask l u e = record {
+    → ((m : ℕ) → Bit m → packed all m ≡ sharedOf set rows once twice m) → MetBy set once twice rows rows′
+met-by set all rows rows′ once twice l u e = record {
   size = l;
   bits = λ m b. by-words rows′ (λ j. bitOr (getD rows j 0) (bitAnd (getD set j 0) (getD all j 0))) 8 (u .done) m (word-of m b)
       ∙ or-bit (getD rows ((m - 1) / 64) 0) (bitAnd (getD set ((m - 1) / 64) 0) (getD all ((m - 1) / 64) 0)) ((m - 1) % 64)

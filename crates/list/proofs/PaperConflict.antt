@@ -10,7 +10,8 @@ use Rattle.list.specs.Conflict.{C, C*, PC}
 use Rattle.list.specs.Paper.{setOf, paperPC}
 use Rattle.list.specs.Arbiters.{Test, noCalls, parallel}
 use Rattle.list.proofs.ListedCalls.{Calling*}
-use Rattle.list.proofs.ArbiterFacts.{Decides, first-decides}
+use Rattle.list.specs.PaperList.{Decides}
+use Rattle.list.proofs.ArbiterFacts.{first-decides}
 
 module _ (callee : ℕ → ℕ) (B : ℕ → Calls) where
   abbrev S : Exprs → ℕ → Calls

@@ -14,26 +14,18 @@ use Rattle.table.proofs.CallPlaces.{call-node}
 use Rattle.table.proofs.LaidOut.{laid}
 use Rattle.list.specs.Sets.{Calls, ∅}
 use Rattle.list.specs.Conflict.{C, C*, PC, A, A*}
-use Rattle.list.specs.Paper.{_≐_, paperPC, paperA, paperA*, PaperC, bodySets, PaperListed}
+use Rattle.list.specs.Paper.{paperPC, paperA, paperA*, PaperC, bodySets, PaperListed}
 use Rattle.list.specs.CallSets.{callee-at, Listed}
-use Rattle.list.specs.Tags.{calleeOf, listed}
+use Rattle.list.specs.Tags.{calleeOf}
 use Rattle.table.specs.Working.{Taken}
 use Rattle.list.specs.Working.{callsBy, callsAt}
 use Rattle.list.proofs.ListedCalls.{Calling, sets-all}
-use Rattle.list.proofs.ArbiterFacts.{Decides, C-decides, sets-decides}
+use Rattle.list.specs.PaperList.{Decides, PaperList}
+use Rattle.list.proofs.ArbiterFacts.{C-decides, sets-decides}
 use Rattle.list.proofs.PaperConflict.{to-paper, from-paper}
 use Rattle.list.proofs.Callees.{callee-word, listed-exactly}
 use Rattle.list.proofs.CallLaws.{body-set}
 use Rattle.table.proofs.SurveyLaws.{taken-by}
-
--- what is proved of an accepted table, by `paper-list` at the end
-pub record PaperList (t : List ℕ) : Type 1 where
-  -- "Section 4.2 with these readings": a node is listed exactly if it is in A⟦p⟧, p being the table's program
-  pub exactly : (n : ℕ) → Decides (listed t n) (PaperListed t n)
-  -- "bodies of callees included": the sets that A⟦p⟧ is made of obey the paper's equation for a call
-  pub call-equation : PaperC (bodyOf t) (exprAt t) (functions t) (bodySets t)
-  -- and no others do, so C is the paper's
-  pub unique : (B : ℕ → Calls) → PaperC (bodyOf t) (exprAt t) (functions t) B → (f : ℕ) → 1 ≤ f → f ≤ functions t → B f ≐ bodySets t f
 
 -- equivalences
 abbrev Iff : Type 0 → Type 0 → Type 0

@@ -4,6 +4,7 @@ use mathlib.Core.Path.{_≡_, refl, sym, ap, ap₂, _∙_}
 use mathlib.Core.Bool.{Bool, true, false, _&&_, _||_, not, true≢false}
 use mathlib.Core.List.{List}
 use native.Mathlib.Omega.{arith}
+use native.Mathlib.Decide.{ℕ-discrete}
 use lib.Dec.{eqb}
 use borrow.Author.Tests.{eq-eqb, eqb-true}
 use Rattle.table.specs.Pick.{pick, Range}
@@ -14,8 +15,8 @@ use Rattle.table.specs.Working.{IsNode}
 use Rattle.list.specs.Arbiters.{Test, noCalls, joined, anyUpTo, callsIn, meeting, parallel}
 use Rattle.list.specs.Tags.{isCall, calleeOf}
 use Rattle.list.specs.Working.{bitAt, Bit, Callee, callsBy, callsAt, callsAt*, parallelAt, calledIn, twiceIn}
-use Rattle.list.specs.Working.{packed, siteBit, unionOf, Met}
-use Rattle.list.proofs.Meets.{or-no, none-of}
+use Rattle.list.specs.Working.{packed, siteBit, unionOf, sharedOf, Met}
+use Rattle.list.proofs.Meets.{or-no, none-of, shared-all, shared-some}
 use Rattle.list.proofs.CallLaws.{or-left, or-right}
 use Rattle.list.proofs.ArbiterFacts.{any-out, any-in, and-both, both-and}
 
@@ -173,13 +174,15 @@ module _ (t : List ℕ) where
         none-there : (m : ℕ) → noCalls m ≡ false
         none-there = unfold noCalls in (λ m. refl)
 
-    -- what the code computes: the set against the sites of the functions called twice
-    pub meet-parallel : (es : Exprs) (own rows : List ℕ) (twice : ℕ) → Bit m
+    -- what the code computes: the set against the sites of the functions called twice, or all of it where each function called is
+    pub meet-parallel : (es : Exprs) (own rows : List ℕ) (once twice : ℕ) → Bit m
         → ((k : ℕ) → Callee k → packed rows (siteBit k m) ≡ true → h ≡ k)
         → (callsAt* t es m ≡ true → Range (nodes t) m) → (callsAt* t es m ≡ true → Met t rows m) → packed own m ≡ callsAt* t es m
-        → ((k : ℕ) → Callee k → bitAt twice k ≡ twiceIn t es k) → packed own m && unionOf rows twice 31 m ≡ parallelAt t es m
+        → ((k : ℕ) → Callee k → bitAt once k ≡ calledIn t (callsAt* t es) k) → ((k : ℕ) → Callee k → bitAt twice k ≡ twiceIn t es k)
+        → packed own m && sharedOf own rows once twice m ≡ parallelAt t es m
     unfolding unionOf
-    meet-parallel es own rows twice b sites r met e w = go (callsAt* t es m) refl ∙ sym (parallel-is es r)
+    meet-parallel es own rows once twice b sites r met e v w =
+        go (callsAt* t es m) refl (ℕ-discrete once twice) ∙ sym (parallel-is es r)
       where
         each : Test
         each k = bitAt twice k && packed rows (siteBit k m)
@@ -191,6 +194,14 @@ module _ (t : List ℕ) where
             ap (twiceIn t es) (sites (y .0) (y .1, y .2) (z .1)) ∙ sym (w (y .0) (y .1, y .2)) ∙ z .0)
             (λ x. any-in 31 each h (c .0 .0) (c .0 .1) (both-and (bitAt twice h) (packed rows (siteBit h m)) (w h (c .0) ∙ x) (c .1)))
 
-        go : (a : Bool) → callsAt* t es m ≡ a → packed own m && anyUpTo 31 each ≡ callsAt* t es m && twiceIn t es h
-        go true q = ap₂ (λ x y. x && y) e (found (met q))
-        go false q = ap (λ x. x && anyUpTo 31 each) (e ∙ q) ∙ sym (ap (λ x. x && twiceIn t es h) q)
+        all-twice : once ≡ twice → callsAt* t es m ≡ true → twiceIn t es h ≡ true
+        all-twice d q =
+            let c = met q .0 in
+            sym (w h c) ∙ ap (λ x. bitAt x h) (sym d) ∙ v h c ∙ member (callsAt* t es) m (r q) q
+
+        go : (a : Bool) → callsAt* t es m ≡ a → Dec (once ≡ twice)
+            → packed own m && sharedOf own rows once twice m ≡ callsAt* t es m && twiceIn t es h
+        go true q (yes d) =
+            ap₂ (λ x y. x && y) e (sym (shared-all own rows once twice d m) ∙ e ∙ q ∙ sym (all-twice d q))
+        go true q (no d) = ap₂ (λ x y. x && y) e (sym (shared-some own rows once twice d m) ∙ found (met q))
+        go false q d = ap (λ x. x && sharedOf own rows once twice m) (e ∙ q) ∙ sym (ap (λ x. x && twiceIn t es h) q)

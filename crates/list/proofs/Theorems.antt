@@ -13,7 +13,7 @@ use Rattle.table.proofs.DecodedLaws.{decoded-read}
 use Rattle.list.proofs.TagVerdicts.{held-read}
 use Rattle.list.specs.Tags.{Holding, bitsSet, checkWith, heldBy, isCall, listed, tagged, tagsOf, tagsRefusal}
 use Rattle.list.specs.Records.{recordsOf}
-use Rattle.list.proofs.PaperList.{PaperList}
+use Rattle.list.specs.PaperList.{PaperList}
 use Rattle.list.proofs.PaperList as Paper
 use Rattle.list.proofs.TagFacts as TagFacts
 use Rattle.list.proofs.Totals as Totals

@@ -20,7 +20,7 @@ use Rattle.list.specs.Arbiters.{Test, noCalls, joined}
 use Rattle.list.specs.Tags.{calleeOf, listed}
 use Rattle.table.specs.Working.{Taken}
 use Rattle.list.specs.Working.{bitAt, Bit, Callee, callsBy, callsAt, callsAt*, conflictsAt, conflictsAt*, parallelAt}
-use Rattle.list.specs.Working.{calledIn, twiceIn, packed, siteBit, unionOf, Seen, Adds, Kept, PutAt, MetBy, Met, Memo, Grown, Walk}
+use Rattle.list.specs.Working.{calledIn, twiceIn, packed, siteBit, sharedOf, Seen, Adds, Kept, PutAt, MetBy, Met, Memo, Grown, Walk}
 use Rattle.list.proofs.BitLaws.{or-bit, zero-bit, pow-bit}
 use Rattle.list.proofs.WordLaws.{none-packed}
 use Rattle.list.proofs.Meets.{or-no, or-swap, adds-none, adds-two, adds-same}
@@ -122,7 +122,7 @@ module _ (t : List ℕ) where
         apart m b = parallel-is t m es (ranged m) ∙ ap (λ p. p && twiceIn t es (calleeOf t m)) (none m b)
 
     -- their conflicts are found, and the set is joined
-    pub walk-side : (set set′ r″ : List ℕ) → ((m : ℕ) → parallelAt t es m ≡ true → listed t m ≡ true) → MetBy own twice r′ r″
+    pub walk-side : (set set′ r″ : List ℕ) → ((m : ℕ) → parallelAt t es m ≡ true → listed t m ≡ true) → MetBy own once twice r′ r″
         → Adds (packed own) set set′ → Walk t (callsAt* t es) (joined (parallelAt t es) (conflictsAt* t es)) once set set′ c c′ r r″
     walk-side set set′ r″ q met added = record {
       memo = record {
@@ -133,7 +133,7 @@ module _ (t : List ℕ) where
         masks = w .memo .masks;
         whole = λ g m i s b e. more m b (w .memo .whole g m i s b e);
         sound = λ m b e. ⊎-elim (λ p. w .memo .sound m b p) (λ p. q m (sym (meets m b) ∙ p))
-            (or-out (packed r′ m) (packed own m && unionOf r′ twice 31 m) (sym (met .bits m b) ∙ e));
+            (or-out (packed r′ m) (packed own m && sharedOf own r′ once twice m) (sym (met .bits m b) ∙ e));
         sites = λ h m i b e. w .memo .sites h m i b (sym (met .other (32 + h) m (omega arith) b) ∙ e);
       };
       grown = record {
@@ -144,7 +144,7 @@ module _ (t : List ℕ) where
       added = adds-same (packed own) (callsAt* t es) set set′ added (λ m b. sym (members m b));
       functions = w .functions;
       finds = λ m b e. ⊎-elim
-          (λ p. met .bits m b ∙ or-right (packed r′ m) (packed own m && unionOf r′ twice 31 m) (meets m b ∙ p))
+          (λ p. met .bits m b ∙ or-right (packed r′ m) (packed own m && sharedOf own r′ once twice m) (meets m b ∙ p))
           (λ p. more m b (w .finds m b p))
           (or-out (parallelAt t es m) (conflictsAt* t es m) (sym (joined-is (parallelAt t es) (conflictsAt* t es) m) ∙ e));
       met = λ m b e. still m b (w .met m b e);
@@ -153,11 +153,13 @@ module _ (t : List ℕ) where
         members : (m : ℕ) → Bit m → packed own m ≡ callsAt* t es m
         members m b = w .added .bits m b ∙ ap (λ p. p || callsAt* t es m) (none-packed 8 m)
 
-        meets : (m : ℕ) → Bit m → packed own m && unionOf r′ twice 31 m ≡ parallelAt t es m
-        meets m b = meet-parallel t m es own r′ twice b (λ k i e. w .memo .sites k m i b e) (ranged m) (w .met m b) (members m b) two
+        meets : (m : ℕ) → Bit m → packed own m && sharedOf own r′ once twice m ≡ parallelAt t es m
+        meets m b =
+            meet-parallel t m es own r′ once twice b (λ k i e. w .memo .sites k m i b e) (ranged m) (w .met m b) (members m b)
+            (w .functions) two
 
         more : (m : ℕ) → Bit m → packed r′ m ≡ true → packed r″ m ≡ true
-        more m b e = met .bits m b ∙ or-left (packed r′ m) (packed own m && unionOf r′ twice 31 m) e
+        more m b e = met .bits m b ∙ or-left (packed r′ m) (packed own m && sharedOf own r′ once twice m) e
 
         still : (m : ℕ) → Bit m → Met t r′ m → Met t r″ m
         still m b i = (i .0, met .other (32 + calleeOf t m) m (omega arith) b ∙ i .1)

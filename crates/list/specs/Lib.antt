@@ -4,6 +4,7 @@ pub mod Paper
 pub mod CallSets
 pub mod Arbiters
 pub mod Tags
+pub mod PaperList
 pub mod Records
 pub mod Working
 pub mod SmallDesigns

@@ -85,6 +85,11 @@ unfoldable pub unionOf : (rows : List ℕ) (mask k : ℕ) → Test
 unfolding anyUpTo
 unionOf rows mask k m = anyUpTo k (λ h. bitAt mask h && packed rows (siteBit h m))
 
+-- what holds a set's calls of the functions called twice, where a mask names the functions called in it: the set itself where all are
+-- called twice, else their sites
+unfoldable pub sharedOf : (set rows : List ℕ) (once twice : ℕ) → Test
+sharedOf set rows once twice m = pick (eqb once twice) (packed set m) (unionOf rows twice 31 m)
+
 -- a set of 8 words with the members of another added
 pub record Adds (s : Test) (set set′ : List ℕ) : Type 0 where
   pub size : length set′ ≡ 8
@@ -101,10 +106,10 @@ pub record PutAt (k n : ℕ) (rows rows′ : List ℕ) : Type 0 where
   pub size : length rows′ ≡ 520
   pub bits : (h m : ℕ) → Bit m → packed rows′ (512 * h + m) ≡ packed rows (512 * h + m) || (eqb k h && eqb n m)
 
--- rows to whose set 0 was added what a set has in common with the sites of the functions that a mask names
-pub record MetBy (set : List ℕ) (mask : ℕ) (rows rows′ : List ℕ) : Type 0 where
+-- rows to whose set 0 were added a set's calls of the functions called twice
+pub record MetBy (set : List ℕ) (once twice : ℕ) (rows rows′ : List ℕ) : Type 0 where
   pub size : length rows′ ≡ 520
-  pub bits : (m : ℕ) → Bit m → packed rows′ m ≡ packed rows m || (packed set m && unionOf rows mask 31 m)
+  pub bits : (m : ℕ) → Bit m → packed rows′ m ≡ packed rows m || (packed set m && sharedOf set rows once twice m)
   pub other : (h m : ℕ) → 1 ≤ h → Bit m → packed rows′ (512 * h + m) ≡ packed rows (512 * h + m)
 
 -- a function whose body has been walked

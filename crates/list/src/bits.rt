@@ -4,7 +4,7 @@ ghost use mathlib.Core.Path.{_≡_};
 ghost use Prim.Native.Nat.{ℕ, _+_, _-_, _*_, _%_, _^_, _≤_};
 ghost use lib.Dec.{eqb};
 ghost use lib.ListN.{length};
-ghost use Rattle.list.specs.Working.{packed, Bit, Adds, PutAt, Kept, unionOf, MetBy};
+ghost use Rattle.list.specs.Working.{packed, Bit, Adds, PutAt, Kept, unionOf, sharedOf, MetBy};
 
 pub type Set = [u64; 8];
 
@@ -100,15 +100,28 @@ fn union(rows: &Rows, mask: u32) -> Set
     all
 }
 
-// Joins to set 0 what a set has in common with the sites of the functions that a mask names.
-pub(crate) fn meet(rows: &mut Rows, set: &Set, mask: u32)
-    requires { ⌜ length (now rows) ≡ 520 ⌝ }
-    ensures { λ _. ⌜ MetBy (now (set .entry)) mask (now (rows .entry)) (now (rows .exit)) ⌝ }
+// What holds a set's calls of the functions that are called twice, all of them where each function called is.
+fn shared(rows: &Rows, set: &Set, once: u32, twice: u32) -> Set
+    requires { ⌜ length (now set) ≡ 8 ⌝ }
+    ensures { λ r. ⌜ (length r ≡ 8) × ((m : ℕ) → Bit m → packed r m ≡ sharedOf (now (set .entry)) (now (rows .entry)) once twice m) ⌝ }
 {
-    if mask < 2 {
-        return;
+    if once == twice {
+        return *set;
     }
-    let all = union(rows, mask);
+    union(rows, twice)
+}
+
+// Joins to set 0 a set's calls of the functions that are called twice.
+pub(crate) fn meet(rows: &mut Rows, set: &Set, once: u32, twice: u32)
+    requires { ⌜ (length (now rows) ≡ 520) × (length (now set) ≡ 8) ⌝ }
+    ensures { λ _. ⌜ MetBy (now (set .entry)) once twice (now (rows .entry)) (now (rows .exit)) ⌝ }
+{
+    if twice < 2 {
+        if once != twice {
+            return;
+        }
+    }
+    let all = shared(rows, set, once, twice);
     let mut i: usize = 0;
     while i < 8 {
         let x = rows[i];

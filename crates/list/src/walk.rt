@@ -181,7 +181,7 @@ fn side_walk(
     if r.once == 0 {
         return r;
     }
-    bits::meet(rows, &own, r.twice);
+    bits::meet(rows, &own, r.once, r.twice);
     bits::join(set, &own);
     r
 }

@@ -18,7 +18,7 @@ use Rattle.table.proofs.NodeCases.{NodeCase, node-case, id-at}
 use Rattle.table.proofs.NodeCases.{is-const, is-param, is-prim, is-call, is-self, is-cond, is-bind, is-bound}
 use Rattle.table.proofs.Children.{roots-kids}
 use Rattle.table.proofs.NodePlaces.{in-body, node-owner}
-use Rattle.table.proofs.Accepted.{well, part-is}
+use Rattle.table.proofs.Bodies.{well, part-is, owned-node}
 
 length-roots : (es : Exprs) → length (roots es) ≡ size es
 length-roots none = refl
@@ -53,6 +53,8 @@ module _ (t : List ℕ) (ok : Passed t) where
     placed = in-body t ok;
     number = id-at t ok;
     inside = λ f m i k. let r = node-owner t ok f m i k in (r .1, r .0 .0, r .0 .1);
+    owned = owned-node t ok;
+    part = λ f u i s. part-is t ok f i u s .0;
     narrow = λ f u i s.
         let r = part-is t ok f i u s in
         subst (λ x. arity x ≤ 8) (sym (r .0)) (narrow-at (id u) (r .1));

@@ -35,7 +35,7 @@ pub mod Scopes
 pub mod ChainLoop
 pub mod CountLaws
 pub mod RuleLaws
-pub mod Accepted
+pub mod Bodies
 pub mod LaidOut
 pub mod CheckedDesigns
 pub mod Theorems

@@ -9,18 +9,14 @@ use Rattle.table.specs.Check.{checkOf, accepted}
 use Rattle.table.specs.Decoded.{cellAt, nodeSlot, functionSlot, nodeField, functionField, decodedInto}
 use Rattle.table.specs.Expressions.{bodyOf, exprAt}
 use Rattle.table.specs.Well.{Laid}
-use Rattle.table.proofs.Accepted.{Accepted, from-check}
 use Rattle.table.proofs.LaidOut as LaidOut
 use Rattle.table.proofs.SurveyLaws.{taken-by, taken-small}
 use Rattle.table.proofs.DecodedLaws.{decoded-read}
 
--- numbers apart, one owner, every callee below its caller or a self call in tail position, bounds in scope, at most eight arguments
+-- numbers apart, one owner, every callee below its caller or a self call in tail position, bounds in scope, at most eight arguments;
+-- where each node's expression stands, and whose it is
 pub laid : (t : List ℕ) (F N : ℕ) → checkOf t ≡ accepted F N → Laid (functions t) (nodes t) (bodyOf t) (exprAt t) (owner t)
 laid = LaidOut.laid
-
--- where each node's expression stands, and whose it is
-pub of-accepted : (t : List ℕ) (F N : ℕ) → checkOf t ≡ accepted F N → Accepted t F N
-of-accepted = from-check
 
 -- what the survey puts into cells is read back, field by field
 pub nodes-decoded : (t cells : List ℕ) (F N : ℕ) → checkOf t ≡ accepted F N → length cells ≡ 3270 → (n k : ℕ) → 1 ≤ n → n ≤ nodes t → k < 8

@@ -62,3 +62,9 @@ chain t c = chainBy t (nodes t) c
 
 unfoldable pub children : List ℕ → ℕ → List ℕ
 children t n = chain t (first t n)
+
+-- all but the last: of a let's children the definientia
+unfoldable pub initial : List ℕ → List ℕ
+initial [] = []
+initial (n ∷ []) = []
+initial (n ∷ (m ∷ ms)) = n ∷ initial (m ∷ ms)

@@ -108,4 +108,6 @@ pub record Laid (F N : ℕ) (body at : ℕ → Expr) (home : ℕ → ℕ) : Type
   pub placed : (n : ℕ) → Range N n → Sub (at n) (body (home n))
   pub number : (n : ℕ) → Range N n → id (at n) ≡ n
   pub inside : (f m : ℕ) → Fn F body f → Node m (body f) → (home m ≡ f) × (1 ≤ m) × (m ≤ N)
+  pub owned : (f m : ℕ) → Range N m → home m ≡ f → Node m (body f)
+  pub part : (f : ℕ) (u : Expr) → Fn F body f → Sub u (body f) → u ≡ at (id u)
   pub narrow : (f : ℕ) (u : Expr) → Fn F body f → Sub u (body f) → arity u ≤ 8

@@ -12,24 +12,27 @@ use Rattle.list.proofs.bits.meet.Statement.{statement}
 use Rattle.list.proofs.bits.meet.Tie as tie
 
 abbrev Inv-loop : tie.InvT-loop
-Inv-loop rows₀ set mask all i₀ rows i =
+Inv-loop rows₀ set once twice all i₀ rows i =
     (i ≤ 8) × (length rows ≡ 520) × Upto (λ j. bitOr (getD rows₀ j 0) (bitAnd (getD set j 0) (getD all j 0))) rows₀ rows i
 
 abbrev μ-loop : tie.MeasureT-loop
-μ-loop rows₀ set mask all i₀ rows i = 8 - i
+μ-loop rows₀ set once twice all i₀ rows i = 8 - i
 
 returns : tie.Need-returns Inv-loop μ-loop
 returns c =
     let s : tie.Start Inv-loop μ-loop = search in
-    met-none _ _ _ (s .pre) (c .if1 .taken)
+    let few : tie.Then1 Inv-loop μ-loop = search in
+    met-none _ _ _ _ (s .pre .0) (few .if1 .taken) (c .if2 .taken)
 
-union-requires : tie.Need-union-requires Inv-loop μ-loop
-union-requires c κs = tt
+shared-requires : tie.Need-shared-requires Inv-loop μ-loop
+shared-requires c κs =
+    let s : tie.Start Inv-loop μ-loop = search in
+    s .pre .1
 
 loop-holds : tie.Need-loop-holds Inv-loop μ-loop
 loop-holds c =
     let s : tie.Start Inv-loop μ-loop = search in
-    (omega arith, s .pre, upto-none _ _)
+    (omega arith, s .pre .0, upto-none _ _)
 
 mul-x : tie.Need-mul-x Inv-loop μ-loop
 mul-x c = search needs
@@ -65,10 +68,10 @@ loop-again : tie.Need-loop-again Inv-loop μ-loop
 loop-again c =
     let l : tie.At-loop Inv-loop μ-loop = search in
     let s : tie.Start Inv-loop μ-loop = search in
-    let united : tie.After-union Inv-loop μ-loop = search in
+    let held : tie.After-shared Inv-loop μ-loop = search in
     let i = l .loop .i in
     let inv = l .loop .inv in
-    let both = bitAnd (getD (s .args .set .now) i 0) (getD (united .union .result) i 0) in (
+    let both = bitAnd (getD (s .args .set .now) i 0) (getD (held .shared .result) i 0) in (
       omega arith,
       simp length-set (inv .1),
       upto-more _ _ _ i _ (omega (arith, inv .1)) (inv .2) (ap (λ x. bitOr x both) (inv .2 .left i (omega arith))),
@@ -77,10 +80,10 @@ loop-again c =
 returns-2 : tie.Need-returns-2 Inv-loop μ-loop
 returns-2 c =
     let l : tie.At-loop Inv-loop μ-loop = search in
-    let united : tie.After-union Inv-loop μ-loop = search in
+    let held : tie.After-shared Inv-loop μ-loop = search in
     let inv = l .loop .inv in
     let e : l .loop .i ≡ 8 = omega arith in
-    met-by _ _ _ _ _ (inv .1) (subst (Upto _ _ _) e (inv .2)) (united .union .ensures .1)
+    met-by _ _ _ _ _ _ (inv .1) (subst (Upto _ _ _) e (inv .2)) (held .shared .ensures .1)
 
 pub meet-spec : {M : Type 1} → statement M
 meet-spec =
@@ -89,7 +92,7 @@ meet-spec =
     Inv-loop
     μ-loop
     returns
-    union-requires
+    shared-requires
     loop-holds
     mul-x
     element-copy-out-x

@@ -69,7 +69,8 @@ module _ (t : ℕ) where
   pub meet-requires : lts.Need-meet-requires given (measures.side-walk-at t) side-walk.Post
   meet-requires c κs =
       let after-chain-walk : After-chain-walk = search in
-      after-chain-walk .chain-walk .ensures .walk .memo .size-rows
+      let w = after-chain-walk .chain-walk .ensures .walk in
+      (w .memo .size-rows, w .added .size)
 
   pub join-requires : lts.Need-join-requires given (measures.side-walk-at t) side-walk.Post
   join-requires c κs =

@@ -7,12 +7,11 @@ use Rattle.table.specs.Syntax.{Expr, Exprs, call, id, Node, Sub}
 use Rattle.table.specs.Well.{Apart, CallIn, Well}
 use Rattle.table.proofs.SyntaxLaws.{node-id, sub-node}
 use Rattle.table.proofs.CallPlaces.{find}
-use Rattle.table.specs.Bytes.{functions, nodes, root, word}
+use Rattle.table.specs.Bytes.{functions, root, word}
 use Rattle.table.specs.Naming.{owner}
-use Rattle.table.specs.Check.{accepted, checkOf}
 use Rattle.table.specs.Working.{IsNode, IsFunction, Linked}
-use Rattle.table.proofs.Passed.{Passed, passed}
-use Rattle.table.proofs.Family.{owner-root, owner-in}
+use Rattle.table.proofs.Passed.{Passed}
+use Rattle.table.proofs.Family.{owner-root}
 use Rattle.table.specs.Expressions.{exprAt, bodyOf}
 use Rattle.table.proofs.NodeCases.{NodeCase, node-case, id-at}
 use Rattle.table.proofs.NodeCases.{is-const, is-param, is-prim, is-call, is-self, is-cond, is-bind, is-bound}
@@ -84,31 +83,3 @@ module _ (t : List ℕ) (ok : Passed t) where
   pub id-body : (f : ℕ) → IsFunction t f → id (bodyOf t f) ≡ root t f
   unfolding bodyOf
   id-body f i = id-at t ok (root t f) (lk .roots f i)
-
--- what the rest of the proof needs of an accepted table
-pub record Accepted (t : List ℕ) (F N : ℕ) : Type 0 where
-  pub passes : Passed t
-  pub well : Well F (bodyOf t)
-  pub place : (n : ℕ) → 1 ≤ n → n ≤ N → Sub (exprAt t n) (bodyOf t (owner t n))
-  pub number : (n : ℕ) → 1 ≤ n → n ≤ N → id (exprAt t n) ≡ n
-  pub ownership : (n : ℕ) → 1 ≤ n → n ≤ N → (1 ≤ owner t n) × (owner t n ≤ F)
-  pub node : (f m : ℕ) → 1 ≤ f → f ≤ F → Node m (bodyOf t f) → (1 ≤ m) × (m ≤ N) × (owner t m ≡ f)
-  pub owned : (f m : ℕ) → 1 ≤ m → m ≤ N → owner t m ≡ f → Node m (bodyOf t f)
-  pub part : (f : ℕ) → 1 ≤ f → f ≤ F → (u : Expr) → Sub u (bodyOf t f) → u ≡ exprAt t (id u)
-
-by-size : (t : List ℕ) → Passed t → Accepted t (functions t) (nodes t)
-by-size t ok = record {
-  passes = ok;
-  well = well t ok;
-  place = λ n a b. in-body t ok n (a, b);
-  number = λ n a b. id-at t ok n (a, b);
-  ownership = λ n a b. owner-in t (ok .linking) n (a, b);
-  node = λ f m a b h. let r = node-owner t ok f m (a, b) h in (r .0 .0, r .0 .1, r .1);
-  owned = λ f m a b e. owned-node t ok f m (a, b) e;
-  part = λ f a b u s. part-is t ok f (a, b) u s .0;
-}
-
-pub from-check : (t : List ℕ) (F N : ℕ) → checkOf t ≡ accepted F N → Accepted t F N
-from-check t F N e =
-    let p = passed t F N e in
-    subst (λ x. Accepted t x N) (p .1) (subst (λ x. Accepted t (functions t) x) (p .2) (by-size t (p .0)))
