@@ -96,7 +96,7 @@ pub ran-same : (r s : Ran) → ranOf r ≡ ranOf s → r ≡ s
 ran-same r s e =
     let h = halt-same (r .halt) (s .halt) (ap (λ x. x .halt) e) in
     let t = state-same (r .state) (s .state) (ap (λ x. x .state) e) in
-    (λ i. record { taken = e i .steps; halt = h i; state = t i })
+    (λ i. record { steps = e i .steps; halt = h i; state = t i })
 
 ended-back : Runs.Ended → Ended
 ended-back (gave v) = Ended.Answered v
@@ -117,7 +117,7 @@ pub driven-same : (r s : Driven) → drivenOf r ≡ drivenOf s → r ≡ s
 driven-same r s e =
     let h = ended-same (r .ended) (s .ended) (ap (λ x. x .ended) e) in
     let t = state-same (r .state) (s .state) (ap (λ x. x .state) e) in
-    (λ i. record { taken = e i .steps; ended = h i; state = t i })
+    (λ i. record { steps = e i .steps; ended = h i; state = t i })
 
 found-back : Runs.Found → Found
 found-back (names n) = Found.Possible (nodeOf n)
@@ -143,9 +143,9 @@ stepped-lent a b s t e = (answer-same a b (ap (λ x. x .answer) e), ap (λ x. x 
 pub ran-lent : (r q : RunEnd) (s t : State512) → ranAs r s ≡ ranAs q t → (r ≡ q) × (s ≡ t)
 ran-lent r q s t e =
     let h = halt-same (r .halt) (q .halt) (ap (λ x. x .halt) e) in
-    ((λ i. record { taken = e i .steps; halt = h i }), ap (λ x. x .state) e)
+    ((λ i. record { steps = e i .steps; halt = h i }), ap (λ x. x .state) e)
 
 pub driven-lent : (r q : DriveEnd) (s t : State512) → drivenAs r s ≡ drivenAs q t → (r ≡ q) × (s ≡ t)
 driven-lent r q s t e =
     let h = ended-same (r .ended) (q .ended) (ap (λ x. x .ended) e) in
-    ((λ i. record { taken = e i .steps; ended = h i }), ap (λ x. x .state) e)
+    ((λ i. record { steps = e i .steps; ended = h i }), ap (λ x. x .state) e)

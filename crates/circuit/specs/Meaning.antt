@@ -81,10 +81,10 @@ haltOf HaltCode.Whole = whole
 haltOf (HaltCode.Refused k p) = stopped k (p .0)
 
 abbrev pub ranAs : RunEnd → State512 → Ran
-ranAs r s = record { steps = r .taken; halt = haltOf (r .halt); state = s }
+ranAs r s = record { steps = r .steps; halt = haltOf (r .halt); state = s }
 
 abbrev pub ranOf : RanCode → Ran
-ranOf r = record { steps = r .taken; halt = haltOf (r .halt); state = listsOf (r .state) }
+ranOf r = record { steps = r .steps; halt = haltOf (r .halt); state = listsOf (r .state) }
 
 -- "answered .., at rest .., or spent"
 abbrev pub endedOf : EndedCode → Ended
@@ -94,10 +94,10 @@ endedOf EndedCode.Spent = spent
 endedOf (EndedCode.Refused k p) = barred k (p .0)
 
 abbrev pub drivenAs : DriveEnd → State512 → Driven
-drivenAs r s = record { steps = r .taken; ended = endedOf (r .ended); state = s }
+drivenAs r s = record { steps = r .steps; ended = endedOf (r .ended); state = s }
 
 abbrev pub drivenOf : DrivenCode → Driven
-drivenOf r = record { steps = r .taken; ended = endedOf (r .ended); state = listsOf (r .state) }
+drivenOf r = record { steps = r .steps; ended = endedOf (r .ended); state = listsOf (r .state) }
 
 -- "a possible step, any one, or none"
 abbrev pub foundOf : FoundCode → Found

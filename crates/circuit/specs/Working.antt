@@ -15,7 +15,7 @@ use Rattle.list.specs.Tags.{checkWith}
 use Rattle.rules.specs.State.{State512, entry}
 use Rattle.rules.specs.Step.{Act, stuck, blocked, does, Move, turns, finishes, enters, leaves, restarts, over, perform}
 use Rattle.rules.specs.Circuit.{actOf}
-use Rattle.rules.specs.Runs.{standing, Ended, Found, FindsAfter}
+use Rattle.rules.specs.Runs.{standing, Ended, Found, FindsAfter, Says}
 use Rattle.table.specs.Working.{IsNode, Taken, Read}
 use Rattle.table.specs.Survey.{verdictOf}
 use Rattle.circuit.specs.Meaning.{stateAs}

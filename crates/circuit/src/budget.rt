@@ -144,5 +144,8 @@ pub(crate) fn drive(
         occupant,
         top,
     );
-    DriveEnd { taken, ended }
+    DriveEnd {
+        steps: taken,
+        ended,
+    }
 }

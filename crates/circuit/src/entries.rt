@@ -105,7 +105,7 @@ pub(crate) fn run(
         match answer {
             Answer::Refused(number, place) => {
                 return RunEnd {
-                    taken: i,
+                    steps: i,
                     halt: Halt::Refused(number, place),
                 };
             }
@@ -115,7 +115,7 @@ pub(crate) fn run(
         i += 1;
     }
     RunEnd {
-        taken: i,
+        steps: i,
         halt: Halt::Whole,
     }
 }

@@ -106,7 +106,7 @@ pub fn run(
     let checked = admission::admit(table, tags, status, occupant, &mut cells);
     match checked {
         Checked::Refused(number, place) => RunEnd {
-            taken: 0,
+            steps: 0,
             halt: Halt::Refused(number, place),
         },
         Checked::Accepted(_, _) => entries::run(
@@ -174,7 +174,7 @@ pub fn drive(
     let checked = admission::admit(table, tags, status, occupant, &mut cells);
     match checked {
         Checked::Refused(number, place) => DriveEnd {
-            taken: 0,
+            steps: 0,
             ended: Ended::Refused(number, place),
         },
         Checked::Accepted(_, _) => budget::drive(

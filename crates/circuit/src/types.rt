@@ -42,12 +42,12 @@ pub enum Halt {
 
 // A run over a list on a lent state: the steps taken, and how it ends.
 pub struct RunEnd {
-    pub taken: usize,
+    pub steps: usize,
     pub halt: Halt,
 }
 
 pub struct Ran {
-    pub taken: usize,
+    pub steps: usize,
     pub halt: Halt,
     pub state: State,
 }
@@ -62,12 +62,12 @@ pub enum Ended {
 
 // A run with a budget on a lent state: the steps taken, and how it ends.
 pub struct DriveEnd {
-    pub taken: u32,
+    pub steps: u32,
     pub ended: Ended,
 }
 
 pub struct Driven {
-    pub taken: u32,
+    pub steps: u32,
     pub ended: Ended,
     pub state: State,
 }

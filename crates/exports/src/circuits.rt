@@ -95,7 +95,7 @@ pub extern "C" fn circuit_run(
         nodes,
     );
     let halt = end.halt;
-    *count = end.taken;
+    *count = end.steps;
     codes::halt(halt)
 }
 
@@ -128,7 +128,7 @@ pub extern "C" fn circuit_drive(
         budget,
     );
     let ended = end.ended;
-    *count = end.taken;
+    *count = end.steps;
     codes::ended(ended)
 }
 

@@ -186,7 +186,7 @@ fn drive(table: &[u8], tags: &[u8], s: Started) {
             let r = circuit::drive(table, tags, state, 4294967295);
             let ended = r.ended;
             output::ended(ended);
-            output::count(r.taken as u64);
+            output::count(r.steps as u64);
         }
     }
 }
