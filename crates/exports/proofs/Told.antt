@@ -24,7 +24,7 @@ pub step-told : (x : Stepped) (a : Answer) (s′ : State512) {r : ℕ} → stepp
 step-told x a s′ e k = record { code = k ∙ ap (λ z. replyCode (z .answer)) e; state = ap (λ z. z .state) e }
 
 pub run-told : (x : Ran) (y : RunEnd) (s′ : State512) {r : ℕ} → ranAs y s′ ≡ x → r ≡ haltCode (haltOf (y .halt))
-    → RunTold x r (y .taken) s′
+    → RunTold x r (y .steps) s′
 run-told x y s′ e k = record {
   code = k ∙ ap (λ z. haltCode (z .halt)) e;
   count = ap (λ z. z .steps) e;
@@ -32,7 +32,7 @@ run-told x y s′ e k = record {
 }
 
 pub drive-told : (t tags : List ℕ) (s : State512) (budget : ℕ) (y : DriveEnd) (s′ : State512) {r : ℕ}
-    → Drives t tags s budget (drivenAs y s′) → r ≡ endedCode (endedOf (y .ended)) → DriveTold t tags s budget r (y .taken) s′
+    → Drives t tags s budget (drivenAs y s′) → r ≡ endedCode (endedOf (y .ended)) → DriveTold t tags s budget r (y .steps) s′
 drive-told t tags s budget y s′ e k = record { driven = drivenAs y s′; drives = e; code = k; count = refl; state = refl }
 
 pub query-told : (t tags : List ℕ) (s : State512) (y : Found) {r : ℕ} → Finds t tags s (foundOf y) → r ≡ foundCode (foundOf y)
