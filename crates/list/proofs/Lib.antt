@@ -1,6 +1,6 @@
 pub mod BitLaws
 pub mod WordLaws
-pub mod Bytewise
+pub mod Entrywise
 pub mod Meets
 pub mod ListedCalls
 pub mod ArbiterFacts

@@ -16,7 +16,7 @@ use Rattle.list.specs.Arbiters.{Test, anyUpTo}
 use Rattle.list.specs.Working.{bitAt, packed, Bit, siteBit, Adds, unionOf, sharedOf, MetBy}
 use Rattle.list.proofs.BitLaws.{or-bit, and-bit, small-bit, high-bit}
 use Rattle.list.proofs.WordLaws.{none-packed, packed-bit, packed-row, by-words, word-of}
-use Rattle.list.proofs.Bytewise.{Upto}
+use Rattle.list.proofs.Entrywise.{Upto}
 
 pub or-no : (p : Bool) → p || false ≡ p
 or-no true = refl

@@ -14,7 +14,7 @@ use Rattle.list.specs.Arbiters.{Test}
 use Rattle.list.specs.Working.{bitAt, packed, Bit, Adds, PutAt, Kept}
 use Rattle.list.specs.Tags.{tagged}
 use Rattle.list.proofs.BitLaws.{or-bit, pow-bit, zero-bit, zeros-at, tagged-bit, byte-bit}
-use Rattle.list.proofs.Bytewise.{Part}
+use Rattle.list.proofs.Entrywise.{Part}
 
 -- a node's bit is in its word
 pub packed-bit : (l : List ℕ) (m : ℕ) → packed l m ≡ bitAt (getD l ((m - 1) / 64) 0) ((m - 1) % 64)
@@ -29,7 +29,7 @@ by-words x f w h m l = packed-bit x m ∙ ap (λ y. bitAt y ((m - 1) % 64)) (h (
 pub word-of : (m : ℕ) → Bit m → (m - 1) / 64 < 8
 word-of m b = omega arith
 
--- bit m of set g of a row
+-- bit m of set g of the rows
 pub row-word : (g m : ℕ) → 1 ≤ m → (512 * g + m - 1) / 64 ≡ 8 * g + (m - 1) / 64
 row-word g m h = omega arith
 
@@ -93,7 +93,7 @@ adds-one x n l b = record {
   bits = λ m c. one-more x n (b .0) (omega (arith, word-of n b, l)) m (c .0);
 }
 
--- one bit written in a row
+-- one bit written in a set of the rows
 pub put-row : (x : List ℕ) (g n : ℕ) → length x ≡ 520 → g ≤ 64 → Bit n
     → PutAt g n x (set x (8 * g + (n - 1) / 64) (bitOr (getD x (8 * g + (n - 1) / 64) 0) (2 ^ ((n - 1) % 64))))
 put-row x g n l k b = record { size = length-set x (8 * g + (n - 1) / 64) _ ∙ l; bits = bits }
@@ -125,7 +125,7 @@ put-row x g n l k b = record { size = length-set x (8 * g + (n - 1) / 64) _ ∙ 
         ap₂ (λ a k. packed (set x a (bitOr (getD x a 0) (2 ^ k))) (512 * h + m)) (sym (row-word g n (b .0))) (sym (row-bit g n (b .0)))
         ∙ one-more x q low inside (512 * h + m) (omega (arith, c .0)) ∙ ap (λ p. packed x (512 * h + m) || p) (apart g n h m b c)
 
--- a set that was copied into a row
+-- a set that was copied into the rows
 pub kept-by : (g : ℕ) (y x₀ x : List ℕ) → length x ≡ 520 → Part (8 * g) y x₀ x 8 → Kept g y x₀ x
 kept-by g y x₀ x l p = record {
   size = l;

@@ -4,7 +4,7 @@ use Prim.Native.Nat.{_-_, _*_, _/_, _%_, _^_, _≤_}
 use mathlib.Core.Path.{_≡_, refl}
 use native.Mathlib.Omega.{arith}
 use lib.ListN.{length, getD, length-set, replicate}
-use Rattle.list.proofs.Bytewise.{Upto, upto-none, upto-more}
+use Rattle.list.proofs.Entrywise.{Upto, upto-none, upto-more}
 use Rattle.list.proofs.WordLaws.{bytes-of}
 use Rattle.list.proofs.arbiters.bytes.Statement.{statement}
 use Rattle.list.proofs.arbiters.bytes.Tie as tie

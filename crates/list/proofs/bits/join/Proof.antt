@@ -6,7 +6,7 @@ use borrow.Author.Needs.{needs}
 use lib.ListN.{length, getD, length-set}
 use lib.Bits.{bitOr}
 use Rattle.list.proofs.WordLaws.{adds-by, packed-bit}
-use Rattle.list.proofs.Bytewise.{Upto, upto-none, upto-more}
+use Rattle.list.proofs.Entrywise.{Upto, upto-none, upto-more}
 use Rattle.list.proofs.bits.join.Statement.{statement}
 use Rattle.list.proofs.bits.join.Tie as tie
 

@@ -6,7 +6,7 @@ use native.Mathlib.Omega.{arith}
 use borrow.Author.Needs.{needs}
 use lib.ListN.{length, length-set}
 use Rattle.list.proofs.WordLaws.{kept-by}
-use Rattle.list.proofs.Bytewise.{Part, part-none, part-more}
+use Rattle.list.proofs.Entrywise.{Part, part-none, part-more}
 use Rattle.list.proofs.bits.keep.Statement.{statement}
 use Rattle.list.proofs.bits.keep.Tie as tie
 

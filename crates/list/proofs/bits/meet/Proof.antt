@@ -7,7 +7,7 @@ use borrow.Author.Needs.{needs}
 use lib.ListN.{length, getD, length-set}
 use lib.Bits.{bitOr, bitAnd}
 use Rattle.list.proofs.Meets.{met-none, met-by}
-use Rattle.list.proofs.Bytewise.{Upto, upto-none, upto-more}
+use Rattle.list.proofs.Entrywise.{Upto, upto-none, upto-more}
 use Rattle.list.proofs.bits.meet.Statement.{statement}
 use Rattle.list.proofs.bits.meet.Tie as tie
 

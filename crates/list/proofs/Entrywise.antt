@@ -1,4 +1,4 @@
--- loops that write a list byte by byte
+-- loops that write a list entry by entry: bytes of a tag list, words of a set
 use Prim.Native.Nat.{ℕ, _+_, _<_, _≤_}
 use mathlib.Core.Path.{_≡_, sym, ap, _∙_}
 use mathlib.Core.List.{List}
@@ -7,7 +7,7 @@ use native.Mathlib.Decide.{ℕ-discrete}
 use lib.ListN.{length, getD, set}
 use lib.Seq.{getD-set-same, getD-set-other}
 
--- up to i every byte is what f says, from i on it is as it was
+-- up to i every entry is what f says, from i on it is as it was
 pub record Upto (f : ℕ → ℕ) (x₀ x : List ℕ) (i : ℕ) : Type 0 where
   pub done : (j : ℕ) → j < i → getD x j 0 ≡ f j
   pub left : (j : ℕ) → i ≤ j → getD x j 0 ≡ getD x₀ j 0
@@ -25,7 +25,7 @@ upto-more f x₀ x i v l u e = record { done = λ j h. done j h (ℕ-discrete j 
     left : (j : ℕ) → i + 1 ≤ j → getD (set x i v) j 0 ≡ getD x₀ j 0
     left j h = getD-set-other x i j v 0 (λ p. omega (arith, p)) ∙ u .left j (omega arith)
 
--- i bytes from base on are those of y, the others are as they were
+-- i entries from base on are those of y, the others are as they were
 pub record Part (base : ℕ) (y x₀ x : List ℕ) (i : ℕ) : Type 0 where
   pub done : (j : ℕ) → j < i → getD x (base + j) 0 ≡ getD y j 0
   pub before : (j : ℕ) → j < base → getD x j 0 ≡ getD x₀ j 0
