@@ -11,6 +11,7 @@ pub mod TakeLaws
 pub mod StandsLaws
 pub mod TurnLaws
 pub mod EntryLaws
+pub mod LentLaws
 pub mod SearchLaws
 pub mod BeginLaws
 pub mod DriveLaws

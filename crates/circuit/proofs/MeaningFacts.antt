@@ -19,15 +19,13 @@ use Rattle.circuit.specs.declared.types.Started.{Started}
 use Rattle.circuit.specs.declared.types.Halt.{Halt}
 use Rattle.circuit.specs.declared.types.Halt.the-variants as Halt
 use Rattle.circuit.specs.declared.types.Ran.{Ran}
-use Rattle.circuit.specs.declared.types.RunEnd.{RunEnd}
-use Rattle.circuit.specs.declared.types.DriveEnd.{DriveEnd}
 use Rattle.circuit.specs.declared.types.Ended.{Ended}
 use Rattle.circuit.specs.declared.types.Ended.the-variants as Ended
 use Rattle.circuit.specs.declared.types.Driven.{Driven}
 use Rattle.circuit.specs.declared.types.Found.{Found}
 use Rattle.circuit.specs.declared.types.Found.the-variants as Found
 use Rattle.circuit.specs.Meaning.{numbers, listsOf, replyOf, steppedOf, openingOf, StartedAs, haltOf, ranOf, endedOf, drivenOf}
-use Rattle.circuit.specs.Meaning.{foundOf, OpenedAs, steppedAs, ranAs, drivenAs}
+use Rattle.circuit.specs.Meaning.{foundOf, OpenedAs, steppedAs, RanLent}
 
 -- a function that is undone by another tells its arguments apart
 apart : {A B : Type 0} (f : A → B) (back : B → A) → ((a : A) → back (f a) ≡ a) → (a b : A) → f a ≡ f b → a ≡ b
@@ -140,12 +138,7 @@ opened-lent old a b s t x p q = (opening-same a b s t (p .answer ∙ sym (q .ans
 pub stepped-lent : (a b : Answer) (s t : State512) → steppedAs a s ≡ steppedAs b t → (a ≡ b) × (s ≡ t)
 stepped-lent a b s t e = (answer-same a b (ap (λ x. x .answer) e), ap (λ x. x .state) e)
 
-pub ran-lent : (r q : RunEnd) (s t : State512) → ranAs r s ≡ ranAs q t → (r ≡ q) × (s ≡ t)
-ran-lent r q s t e =
-    let h = halt-same (r .halt) (q .halt) (ap (λ x. x .halt) e) in
-    ((λ i. record { steps = e i .steps; halt = h i }), ap (λ x. x .state) e)
-
-pub driven-lent : (r q : DriveEnd) (s t : State512) → drivenAs r s ≡ drivenAs q t → (r ≡ q) × (s ≡ t)
-driven-lent r q s t e =
-    let h = ended-same (r .ended) (q .ended) (ap (λ x. x .ended) e) in
-    ((λ i. record { steps = e i .steps; ended = h i }), ap (λ x. x .state) e)
+pub ran-lent : (t tags : List ℕ) (s : State512) (ns : List ℕ) (old : ℕ) (h g : Halt) (u w : State512) (k l : ℕ)
+    → RanLent t tags s ns old h u k → RanLent t tags s ns old g w l → (h ≡ g) × (u ≡ w) × (k ≡ l)
+ran-lent t tags s ns old h g u w k l p q =
+    (halt-same h g (p .halt ∙ sym (q .halt)), p .state ∙ sym (q .state), p .count ∙ sym (q .count))

@@ -3,11 +3,13 @@ use Prim.Native.Nat.{ℕ}
 use mathlib.Core.Path.{_≡_}
 use mathlib.Core.Bool.{Bool}
 use mathlib.Core.List.{List, map}
+use Rattle.table.specs.Check.{ifAccepted}
 use Rattle.table.specs.declared.Node.{Node}
 use Rattle.rules.specs.State.{State512}
 use Rattle.rules.specs.Step.{Reply, taken, answered, denied, Stepped}
 use Rattle.rules.specs.Circuit.{Started, started, turned, stateOf}
 use Rattle.rules.specs.Runs.{Halt, whole, stopped, Ran, Ended, gave, atRest, spent, barred, Driven, Found, names, nothing, unasked}
+use Rattle.rules.specs.Runs.{standing, runOf, Drives}
 use Rattle.circuit.specs.declared.types.State.{State}
 use Rattle.circuit.specs.declared.types.Answer.{Answer}
 use Rattle.circuit.specs.declared.types.Answer.the-variants as Answer
@@ -18,11 +20,9 @@ use Rattle.circuit.specs.declared.types.Started.{Started as StartedCode}
 use Rattle.circuit.specs.declared.types.Halt.{Halt as HaltCode}
 use Rattle.circuit.specs.declared.types.Halt.the-variants as HaltCode
 use Rattle.circuit.specs.declared.types.Ran.{Ran as RanCode}
-use Rattle.circuit.specs.declared.types.RunEnd.{RunEnd}
 use Rattle.circuit.specs.declared.types.Ended.{Ended as EndedCode}
 use Rattle.circuit.specs.declared.types.Ended.the-variants as EndedCode
 use Rattle.circuit.specs.declared.types.Driven.{Driven as DrivenCode}
-use Rattle.circuit.specs.declared.types.DriveEnd.{DriveEnd}
 use Rattle.circuit.specs.declared.types.Found.{Found as FoundCode}
 use Rattle.circuit.specs.declared.types.Found.the-variants as FoundCode
 
@@ -80,11 +80,15 @@ abbrev pub haltOf : HaltCode → Halt
 haltOf HaltCode.Whole = whole
 haltOf (HaltCode.Refused k p) = stopped k (p .0)
 
-abbrev pub ranAs : RunEnd → State512 → Ran
-ranAs r s = record { steps = r .steps; halt = haltOf (r .halt); state = s }
-
 abbrev pub ranOf : RanCode → Ran
 ranOf r = record { steps = r .steps; halt = haltOf (r .halt); state = listsOf (r .state) }
+
+-- what a run over a list answers and leaves where state s and a count `old` were lent: the state s′ and the count k. Where table, tags or
+-- 24 refuse, the count is kept, as the state is
+pub record RanLent (t tags : List ℕ) (s : State512) (ns : List ℕ) (old : ℕ) (h : HaltCode) (s′ : State512) (k : ℕ) : Type 0 where
+  pub halt : haltOf h ≡ runOf t tags s ns .halt
+  pub state : s′ ≡ runOf t tags s ns .state
+  pub count : k ≡ ifAccepted (standing t tags s) (runOf t tags s ns .steps) old
 
 -- "answered .., at rest .., or spent"
 abbrev pub endedOf : EndedCode → Ended
@@ -93,11 +97,14 @@ endedOf EndedCode.AtRest = atRest
 endedOf EndedCode.Spent = spent
 endedOf (EndedCode.Refused k p) = barred k (p .0)
 
-abbrev pub drivenAs : DriveEnd → State512 → Driven
-drivenAs r s = record { steps = r .steps; ended = endedOf (r .ended); state = s }
-
 abbrev pub drivenOf : DrivenCode → Driven
 drivenOf r = record { steps = r .steps; ended = endedOf (r .ended); state = listsOf (r .state) }
+
+-- the same of a run with a budget, which takes so many `steps`
+pub record DrivenLent (t tags : List ℕ) (s : State512) (budget old : ℕ) (e : EndedCode) (s′ : State512) (k : ℕ) : Type 0 where
+  pub steps : ℕ
+  pub drives : Drives t tags s budget (record { steps = steps; ended = endedOf e; state = s′ })
+  pub count : k ≡ ifAccepted (standing t tags s) steps old
 
 -- "a possible step, any one, or none"
 abbrev pub foundOf : FoundCode → Found

@@ -15,10 +15,12 @@ use Rattle.list.specs.Tags.{checkWith}
 use Rattle.rules.specs.State.{State512, entry}
 use Rattle.rules.specs.Step.{Act, stuck, blocked, does, Move, turns, finishes, enters, leaves, restarts, over, perform}
 use Rattle.rules.specs.Circuit.{actOf}
-use Rattle.rules.specs.Runs.{standing, Ended, Found, FindsAfter, Says}
+use Rattle.rules.specs.Runs.{standing, Ended, Found, FindsAfter, Says, Ran, Driven}
 use Rattle.table.specs.Working.{IsNode, Taken, Read}
 use Rattle.table.specs.Survey.{verdictOf}
-use Rattle.circuit.specs.Meaning.{stateAs}
+use Rattle.circuit.specs.Meaning.{stateAs, haltOf, endedOf}
+use Rattle.circuit.specs.declared.entries.RunEnd.{RunEnd}
+use Rattle.circuit.specs.declared.budget.DriveEnd.{DriveEnd}
 use Rattle.circuit.specs.declared.changes.Effect.{Effect}
 use Rattle.circuit.specs.declared.changes.Effect.the-variants as Effect
 use Rattle.circuit.specs.declared.plan.Plan.{Plan}
@@ -47,6 +49,7 @@ leading defs l = pick defs (initial l) l
 abbrev pub following : List ℕ → ℕ → ℕ
 following t n = pick (eqb n 0) 0 (next t n)
 
+-- the last of these nodes, d of none
 unfoldable pub lastFrom : ℕ → List ℕ → ℕ
 lastFrom d [] = d
 lastFrom d (n ∷ ns) = lastFrom n ns
@@ -132,3 +135,10 @@ FindsIn t tags s r = FindsAfter (accepted (functions t) (nodes t)) t tags s r
 
 abbrev pub EndsIn : (t tags : List ℕ) → State512 → Ended → Type 0
 EndsIn t tags = Says t tags 0 0
+
+-- a run's end beside the state that it leaves in the lent arrays
+abbrev pub ranAs : RunEnd → State512 → Ran
+ranAs r s = record { steps = r .steps; halt = haltOf (r .halt); state = s }
+
+abbrev pub drivenAs : DriveEnd → State512 → Driven
+drivenAs r s = record { steps = r .steps; ended = endedOf (r .ended); state = s }

@@ -4,7 +4,6 @@ use crate::groups;
 use crate::search;
 use crate::store;
 use crate::turn;
-use crate::types::DriveEnd;
 use crate::types::Ended;
 use crate::types::Found;
 use table::Node;
@@ -13,9 +12,15 @@ ghost use mathlib.Core.Path.{_≡_};
 ghost use Prim.Native.Nat.{_≤_};
 ghost use Rattle.table.specs.Bytes.{functions, root};
 ghost use Rattle.rules.specs.Runs.{Picks};
-ghost use Rattle.circuit.specs.Meaning.{drivenAs, foundOf, endedOf, stateAs};
-ghost use Rattle.circuit.specs.Working.{Agreed, Stands, FindsIn, EndsIn};
+ghost use Rattle.circuit.specs.Meaning.{foundOf, endedOf, stateAs};
+ghost use Rattle.circuit.specs.Working.{Agreed, Stands, FindsIn, EndsIn, drivenAs};
 ghost use Rattle.table.specs.Working.{Read};
+
+// How a run with a budget ended, and after how many steps.
+pub struct DriveEnd {
+    pub steps: u32,
+    pub ended: Ended,
+}
 
 // None once main's root is done, else the first node that has a move.
 pub(crate) fn query(

@@ -4,16 +4,21 @@ use crate::standing;
 use crate::turn;
 use crate::types::Answer;
 use crate::types::Halt;
-use crate::types::RunEnd;
 use table::Node;
 use table::decoded;
 use table::decoded::Cells;
 ghost use mathlib.Core.Path.{_≡_};
 ghost use Rattle.rules.specs.Circuit.{circuitOf};
 ghost use Rattle.rules.specs.Runs.{runFrom};
-ghost use Rattle.circuit.specs.Meaning.{stateAs, steppedAs, ranAs};
-ghost use Rattle.circuit.specs.Working.{Stands, Agreed};
+ghost use Rattle.circuit.specs.Meaning.{stateAs, steppedAs};
+ghost use Rattle.circuit.specs.Working.{Stands, Agreed, ranAs};
 ghost use Rattle.table.specs.Working.{Read};
+
+// How a run over a list ended, and after how many steps.
+pub struct RunEnd {
+    pub steps: usize,
+    pub halt: Halt,
+}
 
 // 12, 24, then the rest.
 pub(crate) fn step(

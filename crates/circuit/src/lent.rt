@@ -1,21 +1,20 @@
-// The circuit's entries on a state that is lent as its five arrays: a step is made in place, and a refusal leaves them as they are.
+// The circuit's entries on a state that is lent as its five arrays, the runs with a lent count beside it: a step is made in place, and a
+// refusal leaves what is lent as it is.
 use crate::admission;
 use crate::begin;
 use crate::budget;
 use crate::entries;
 use crate::types::Answer;
-use crate::types::DriveEnd;
 use crate::types::Ended;
 use crate::types::Found;
 use crate::types::Halt;
 use crate::types::Opening;
-use crate::types::RunEnd;
 use table::Checked;
 use table::Node;
 ghost use mathlib.Core.Path.{_≡_};
 ghost use Rattle.rules.specs.Circuit.{startOf, stepOf};
-ghost use Rattle.rules.specs.Runs.{runOf, Finds, Drives};
-ghost use Rattle.circuit.specs.Meaning.{OpenedAs, stateAs, steppedAs, ranAs, foundOf, drivenAs};
+ghost use Rattle.rules.specs.Runs.{Finds};
+ghost use Rattle.circuit.specs.Meaning.{OpenedAs, stateAs, steppedAs, RanLent, foundOf, DrivenLent};
 
 // The circuit's start: the table, its tags, 11; then main's registers hold the arguments and its root is open, all else is zero.
 pub fn start(
@@ -85,7 +84,8 @@ pub fn step(
     }
 }
 
-// Steps asked at a list of nodes, up to the first refusal; the table, its tags and 24 are checked before the first of them.
+// Steps asked at a list of nodes, up to the first refusal; the table, its tags and 24 are checked before the first of them. `count` gets
+// the steps taken, and keeps its content where one of these three refuses.
 pub fn run(
     table: &[u8],
     tags: &[u8],
@@ -95,31 +95,33 @@ pub fn run(
     registers: &mut [u32; 256],
     occupant: &mut [u16; 32],
     nodes: &[u16],
-) -> RunEnd
-    ensures { λ r. ⌜ ranAs r
-        (stateAs (now (status .exit)) (now (second .exit)) (now (value .exit)) (now (registers .exit)) (now (occupant .exit)))
-        ≡ runOf (now (table .entry)) (now (tags .entry))
+    count: &mut usize,
+) -> Halt
+    ensures { λ r. ⌜ RanLent (now (table .entry)) (now (tags .entry))
         (stateAs (now (status .entry)) (now (second .entry)) (now (value .entry)) (now (registers .entry)) (now (occupant .entry)))
-        (now (nodes .entry)) ⌝ }
+        (now (nodes .entry)) (now (count .entry)) r
+        (stateAs (now (status .exit)) (now (second .exit)) (now (value .exit)) (now (registers .exit)) (now (occupant .exit)))
+        (now (count .exit)) ⌝ }
 {
     let mut cells = [0u16; 3270];
     let checked = admission::admit(table, tags, status, occupant, &mut cells);
     match checked {
-        Checked::Refused(number, place) => RunEnd {
-            steps: 0,
-            halt: Halt::Refused(number, place),
-        },
-        Checked::Accepted(_, _) => entries::run(
-            table,
-            &cells,
-            tags,
-            status,
-            second,
-            value,
-            registers,
-            occupant,
-            nodes,
-        ),
+        Checked::Refused(number, place) => Halt::Refused(number, place),
+        Checked::Accepted(_, _) => {
+            let end = entries::run(
+                table,
+                &cells,
+                tags,
+                status,
+                second,
+                value,
+                registers,
+                occupant,
+                nodes,
+            );
+            *count = end.steps;
+            end.halt
+        }
     }
 }
 
@@ -154,7 +156,7 @@ pub fn query(
     }
 }
 
-// Possible steps up to a budget: the table, its tags and 24 are checked before the first of them.
+// Possible steps up to a budget: the table, its tags and 24 are checked before the first of them. `count` as in a run over a list.
 pub fn drive(
     table: &[u8],
     tags: &[u8],
@@ -164,29 +166,32 @@ pub fn drive(
     registers: &mut [u32; 256],
     occupant: &mut [u16; 32],
     budget: u32,
-) -> DriveEnd
-    ensures { λ r. ⌜ Drives (now (table .entry)) (now (tags .entry))
+    count: &mut u32,
+) -> Ended
+    ensures { λ r. ⌜ DrivenLent (now (table .entry)) (now (tags .entry))
         (stateAs (now (status .entry)) (now (second .entry)) (now (value .entry)) (now (registers .entry)) (now (occupant .entry))) budget
-        (drivenAs r
-        (stateAs (now (status .exit)) (now (second .exit)) (now (value .exit)) (now (registers .exit)) (now (occupant .exit)))) ⌝ }
+        (now (count .entry)) r
+        (stateAs (now (status .exit)) (now (second .exit)) (now (value .exit)) (now (registers .exit)) (now (occupant .exit)))
+        (now (count .exit)) ⌝ }
 {
     let mut cells = [0u16; 3270];
     let checked = admission::admit(table, tags, status, occupant, &mut cells);
     match checked {
-        Checked::Refused(number, place) => DriveEnd {
-            steps: 0,
-            ended: Ended::Refused(number, place),
-        },
-        Checked::Accepted(_, _) => budget::drive(
-            table,
-            &cells,
-            tags,
-            status,
-            second,
-            value,
-            registers,
-            occupant,
-            budget,
-        ),
+        Checked::Refused(number, place) => Ended::Refused(number, place),
+        Checked::Accepted(_, _) => {
+            let end = budget::drive(
+                table,
+                &cells,
+                tags,
+                status,
+                second,
+                value,
+                registers,
+                occupant,
+                budget,
+            );
+            *count = end.steps;
+            end.ended
+        }
     }
 }

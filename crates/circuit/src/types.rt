@@ -40,12 +40,6 @@ pub enum Halt {
     Refused(u8, Node),
 }
 
-// A run over a list on a lent state: the steps taken, and how it ends.
-pub struct RunEnd {
-    pub steps: usize,
-    pub halt: Halt,
-}
-
 pub struct Ran {
     pub steps: usize,
     pub halt: Halt,
@@ -58,12 +52,6 @@ pub enum Ended {
     AtRest,
     Spent,
     Refused(u8, Node),
-}
-
-// A run with a budget on a lent state: the steps taken, and how it ends.
-pub struct DriveEnd {
-    pub steps: u32,
-    pub ended: Ended,
 }
 
 pub struct Driven {

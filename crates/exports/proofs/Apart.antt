@@ -4,7 +4,8 @@ use mathlib.Core.Path.{_≡_, refl, ap₂, ap}
 use native.Mathlib.Omega.{arith}
 use Rattle.rules.specs.Step.{Reply, taken, answered, denied}
 use Rattle.rules.specs.Runs.{Halt, whole, stopped, Ended, gave, atRest, spent, barred, Found, names, nothing, unasked}
-use Rattle.exports.specs.Answers.{refusalCode, replyCode, foundCode, haltCode, endedCode}
+use Rattle.exports.specs.Codes.{refusalCode}
+use Rattle.exports.specs.Answers.{replyCode, foundCode, haltCode, endedCode}
 use Rattle.exports.specs.Answers.{Refusable, FitsReply, FitsFound, FitsHalt, FitsEnded}
 
 same-refusal : {A : Type 0} (f : ℕ → ℕ → A) (k p k′ p′ : ℕ) → Refusable k p → Refusable k′ p′ → refusalCode k p ≡ refusalCode k′ p′

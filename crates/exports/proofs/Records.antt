@@ -1,14 +1,17 @@
--- a record read off the list by value
+-- a record read off the list by value, and what its number says
 use Prim.Native.Nat.{ℕ, _-_, _≤_, _<_}
-use mathlib.Core.Path.{_≡_, ap, sym, _∙_}
+use mathlib.Core.Bool.{Bool}
+use mathlib.Core.Path.{_≡_, refl, ap, sym, _∙_}
 use mathlib.Core.List.{List}
 use native.Mathlib.Omega.{arith}
+use lib.Dec.{ltb}
 use lib.ListN.{length, getD, replicate, length-append, List·getD-append}
 use borrow.Author.Tests.{lt-ltb, le-ltb}
 use Rattle.table.specs.Pick.{pick}
+use Rattle.table.specs.Check.{accepted, refused, checkOf}
 use Rattle.list.specs.declared.Listing.{Listing}
-use Rattle.list.specs.Records.{noRecord, padded, arranged, Arranged}
-use Rattle.exports.specs.Codes.{packedOf, packedAt}
+use Rattle.list.specs.Records.{noRecord, padded, recordsOf, arranged, Arranged}
+use Rattle.exports.specs.Codes.{valueCode, refusalCode, recordCode, item, past, itemAfter, itemOf, itemCode}
 
 module _ (t : List ℕ) (l : Listing) (h : Arranged t l) (size : length (l .items) ≡ 512) where
   -- there is room for every record
@@ -20,14 +23,30 @@ module _ (t : List ℕ) (l : Listing) (h : Arranged t l) (size : length (l .item
       let b = length-append r (replicate (512 - length r) noRecord) in
       omega (arith, a, b, h .counted, size)
 
-  pub record-at : (i k : ℕ) → k ≡ packedOf (getD (l .items) i noRecord) → i < l .count → k ≡ packedAt (arranged t) i
-  unfolding padded
-  record-at i k e b =
-      let q : i < length (arranged t) = omega (arith, h .counted) in
-      e ∙ ap (λ x. packedOf (getD x i noRecord)) (h .ordered)
-      ∙ ap packedOf (List·getD-append (arranged t) (replicate (512 - length (arranged t)) noRecord) noRecord i q)
-      ∙ sym (ap (λ x. pick x (packedOf (getD (arranged t) i noRecord)) 0) (lt-ltb i (length (arranged t)) q))
+  pub item-unlisted : (k p i : ℕ) → checkOf t ≡ refused k p → refusalCode k p ≡ itemCode (itemOf t i)
+  item-unlisted k p i e = sym (ap (λ v. itemCode (itemAfter v (recordsOf t) i)) e)
 
-  pub record-past : (i : ℕ) → l .count ≤ i → 0 ≡ packedAt (arranged t) i
-  record-past i b = sym (ap (λ x. pick x (packedOf (getD (arranged t) i noRecord)) 0)
-      (le-ltb i (length (arranged t)) (omega (arith, h .counted))))
+  module _ (F N : ℕ) (e : checkOf t ≡ accepted F N) (i : ℕ) where
+    all-records : arranged t ≡ recordsOf t
+    unfolding arranged
+    all-records = rw e refl
+
+    -- by whether there is a record at i
+    chosen : (b : Bool) → ltb i (length (arranged t)) ≡ b
+        → itemCode (pick b (item (getD (arranged t) i noRecord)) past) ≡ itemCode (itemOf t i)
+    chosen b q =
+        ap (λ x. itemCode (pick x (item (getD (arranged t) i noRecord)) past)) (sym q)
+        ∙ ap (λ r. itemCode (pick (ltb i (length r)) (item (getD r i noRecord)) past)) all-records
+        ∙ sym (ap (λ v. itemCode (itemAfter v (recordsOf t) i)) e)
+
+    pub item-at : (k : ℕ) → k ≡ valueCode (recordCode (getD (l .items) i noRecord)) → i < l .count → k ≡ itemCode (itemOf t i)
+    unfolding padded
+    item-at k c b =
+        let q : i < length (arranged t) = omega (arith, h .counted) in
+        c ∙ ap (λ x. valueCode (recordCode (getD x i noRecord))) (h .ordered)
+        ∙ ap (λ r. valueCode (recordCode r))
+        (List·getD-append (arranged t) (replicate (512 - length (arranged t)) noRecord) noRecord i q)
+        ∙ chosen _ (lt-ltb i (length (arranged t)) q)
+
+    pub item-past : l .count ≤ i → 0 ≡ itemCode (itemOf t i)
+    item-past b = chosen _ (le-ltb i (length (arranged t)) (omega (arith, h .counted)))

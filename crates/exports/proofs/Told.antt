@@ -5,13 +5,13 @@ use mathlib.Core.List.{List}
 use Rattle.rules.specs.State.{State512}
 use Rattle.rules.specs.Step.{Stepped}
 use Rattle.rules.specs.Circuit.{Started}
-use Rattle.rules.specs.Runs.{Ran, Drives, Finds}
+use Rattle.rules.specs.Runs.{Finds}
 use Rattle.circuit.specs.declared.types.Opening.{Opening}
 use Rattle.circuit.specs.declared.types.Answer.{Answer}
-use Rattle.circuit.specs.declared.types.RunEnd.{RunEnd}
-use Rattle.circuit.specs.declared.types.DriveEnd.{DriveEnd}
+use Rattle.circuit.specs.declared.types.Halt.{Halt}
+use Rattle.circuit.specs.declared.types.Ended.{Ended}
 use Rattle.circuit.specs.declared.types.Found.{Found}
-use Rattle.circuit.specs.Meaning.{openingOf, OpenedAs, replyOf, steppedAs, haltOf, ranAs, endedOf, drivenAs, foundOf}
+use Rattle.circuit.specs.Meaning.{openingOf, OpenedAs, replyOf, steppedAs, haltOf, RanLent, endedOf, DrivenLent, foundOf}
 use Rattle.exports.specs.Answers.{startCode, replyCode, haltCode, endedCode, foundCode}
 use Rattle.exports.specs.Answers.{StartTold, StepTold, QueryTold, RunTold, DriveTold}
 
@@ -23,17 +23,19 @@ start-told x s a s′ e k = record { code = k ∙ ap startCode (e .answer); stat
 pub step-told : (x : Stepped) (a : Answer) (s′ : State512) {r : ℕ} → steppedAs a s′ ≡ x → r ≡ replyCode (replyOf a) → StepTold x r s′
 step-told x a s′ e k = record { code = k ∙ ap (λ z. replyCode (z .answer)) e; state = ap (λ z. z .state) e }
 
-pub run-told : (x : Ran) (y : RunEnd) (s′ : State512) {r : ℕ} → ranAs y s′ ≡ x → r ≡ haltCode (haltOf (y .halt))
-    → RunTold x r (y .steps) s′
-run-told x y s′ e k = record {
-  code = k ∙ ap (λ z. haltCode (z .halt)) e;
-  count = ap (λ z. z .steps) e;
-  state = ap (λ z. z .state) e;
-}
+pub run-told : (t tags : List ℕ) (s : State512) (ns : List ℕ) (old : ℕ) (h : Halt) (s′ : State512) {r k : ℕ}
+    → RanLent t tags s ns old h s′ k → r ≡ haltCode (haltOf h) → RunTold t tags s ns old r k s′
+run-told t tags s ns old h s′ e c = record { code = c ∙ ap haltCode (e .halt); count = e .count; state = e .state }
 
-pub drive-told : (t tags : List ℕ) (s : State512) (budget : ℕ) (y : DriveEnd) (s′ : State512) {r : ℕ}
-    → Drives t tags s budget (drivenAs y s′) → r ≡ endedCode (endedOf (y .ended)) → DriveTold t tags s budget r (y .steps) s′
-drive-told t tags s budget y s′ e k = record { driven = drivenAs y s′; drives = e; code = k; count = refl; state = refl }
+pub drive-told : (t tags : List ℕ) (s : State512) (budget old : ℕ) (h : Ended) (s′ : State512) {r k : ℕ}
+    → DrivenLent t tags s budget old h s′ k → r ≡ endedCode (endedOf h) → DriveTold t tags s budget old r k s′
+drive-told t tags s budget old h s′ e c = record {
+  driven = record { steps = e .steps; ended = endedOf h; state = s′ };
+  drives = e .drives;
+  code = c;
+  count = e .count;
+  state = refl;
+}
 
 pub query-told : (t tags : List ℕ) (s : State512) (y : Found) {r : ℕ} → Finds t tags s (foundOf y) → r ≡ foundCode (foundOf y)
     → QueryTold t tags s r

@@ -1,24 +1,18 @@
--- the circuit's answers as one number: what it is * 2^32 + the value, node or refusal that goes with it
-use Prim.Native.Nat.{ℕ, _+_, _*_, _<_}
+-- the circuit's answers as one number, and what each of its C functions returns and leaves
+use Prim.Native.Nat.{ℕ, _<_}
 use mathlib.Core.Path.{_≡_}
 use mathlib.Core.List.{List}
 use Rattle.rules.specs.State.{State512}
 use Rattle.rules.specs.Step.{Reply, taken, answered, denied, Stepped}
 use Rattle.rules.specs.Circuit.{Started, started, turned, stateOf}
-use Rattle.rules.specs.Runs.{Halt, whole, stopped, Ran, Ended, gave, atRest, spent, barred, Driven, Drives}
+use Rattle.rules.specs.Runs.{Halt, whole, stopped, standing, runOf, Ended, gave, atRest, spent, barred, Driven, Drives}
 use Rattle.rules.specs.Runs.{Found, names, nothing, unasked, Finds}
+use Rattle.table.specs.Check.{ifAccepted}
+use Rattle.exports.specs.Codes.{refusalCode, valueCode}
 
--- the number of a refusal, then its place
-abbrev pub refusalCode : (number place : ℕ) → ℕ
-refusalCode number place = 8589934592 + (number * 65536 + place)
-
-abbrev pub valueCode : ℕ → ℕ
-valueCode v = 4294967296 + v
-
--- a start has no values: 0 if it opened, else the refusal as the check of a table says it
 abbrev pub startCode : Started → ℕ
 startCode (started s) = 0
-startCode (turned number place) = number * 65536 + place
+startCode (turned number place) = refusalCode number place
 
 abbrev pub replyCode : Reply → ℕ
 replyCode taken = 0
@@ -83,16 +77,16 @@ pub record QueryTold (t tags : List ℕ) (s : State512) (r : ℕ) : Type 0 where
   pub finds : Finds t tags s found
   pub code : r ≡ foundCode found
 
--- of a run x over a list
-pub record RunTold (x : Ran) (r k : ℕ) (s′ : State512) : Type 0 where
-  pub code : r ≡ haltCode (x .halt)
-  pub count : k ≡ x .steps
-  pub state : s′ ≡ x .state
+-- of a run over the list ns from state s: the count that was lent is `old` before and k after; where table, tags or 24 refuse it is kept
+pub record RunTold (t tags : List ℕ) (s : State512) (ns : List ℕ) (old r k : ℕ) (s′ : State512) : Type 0 where
+  pub code : r ≡ haltCode (runOf t tags s ns .halt)
+  pub count : k ≡ ifAccepted (standing t tags s) (runOf t tags s ns .steps) old
+  pub state : s′ ≡ runOf t tags s ns .state
 
--- of a run with a budget from state s
-pub record DriveTold (t tags : List ℕ) (s : State512) (budget r k : ℕ) (s′ : State512) : Type 0 where
+-- of a run with a budget from state s, the count likewise
+pub record DriveTold (t tags : List ℕ) (s : State512) (budget old r k : ℕ) (s′ : State512) : Type 0 where
   pub driven : Driven
   pub drives : Drives t tags s budget driven
   pub code : r ≡ endedCode (driven .ended)
-  pub count : k ≡ driven .steps
+  pub count : k ≡ ifAccepted (standing t tags s) (driven .steps) old
   pub state : s′ ≡ driven .state

@@ -1,21 +1,43 @@
--- an answer as one number: 0 for accepted, else the refusal's number * 65536 + its place
+-- an answer as one number: of a check 0 for accepted, else the refusal's number * 65536 + its place; of what has more answers than these
+-- two, which of them it is * 2^32 + the value, node, record or refusal that goes with it
 use Prim.Native.Nat.{ℕ, _+_, _*_}
 use mathlib.Core.List.{List}
 use lib.Dec.{ltb}
 use lib.ListN.{length, getD}
 use Rattle.table.specs.Pick.{pick}
 use Rattle.list.specs.declared.Record.{Record}
-use Rattle.list.specs.Records.{noRecord}
-use Rattle.table.specs.Check.{Verdict, accepted, refused}
+use Rattle.list.specs.Records.{noRecord, recordsOf}
+use Rattle.table.specs.Check.{Verdict, accepted, refused, checkOf}
 
 abbrev pub codeOf : Verdict → ℕ
 codeOf (accepted F N) = 0
 codeOf (refused number place) = number * 65536 + place
 
--- a record as one number
-abbrev pub packedOf : Record → ℕ
-packedOf r = r .callee .0 * 4294967296 + r .caller .0 * 65536 + r .node .0
+abbrev pub valueCode : ℕ → ℕ
+valueCode v = 4294967296 + v
 
--- the record at i, 0 past the last
-abbrev pub packedAt : List Record → ℕ → ℕ
-packedAt l i = pick (ltb i (length l)) (packedOf (getD l i noRecord)) 0
+abbrev pub refusalCode : (number place : ℕ) → ℕ
+refusalCode number place = 8589934592 + codeOf (refused number place)
+
+-- what stands at a place of the list: a record, nothing past the last; or the table is refused
+pub data Item : Type 0 where
+  item : Record → Item
+  past : Item
+  unlisted : (number place : ℕ) → Item
+
+abbrev pub itemAfter : Verdict → List Record → ℕ → Item
+itemAfter (accepted F N) l i = pick (ltb i (length l)) (item (getD l i noRecord)) past
+itemAfter (refused number place) l i = unlisted number place
+
+-- the record at i, from 0
+abbrev pub itemOf : List ℕ → ℕ → Item
+itemOf t i = itemAfter (checkOf t) (recordsOf t) i
+
+-- callee and caller in a byte each, and the node
+abbrev pub recordCode : Record → ℕ
+recordCode r = r .callee .0 * 16777216 + (r .caller .0 * 65536 + r .node .0)
+
+abbrev pub itemCode : Item → ℕ
+itemCode (item r) = valueCode (recordCode r)
+itemCode past = 0
+itemCode (unlisted number place) = refusalCode number place

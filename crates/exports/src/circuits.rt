@@ -3,7 +3,6 @@ use crate::codes;
 use circuit::lent;
 use table::Node;
 ghost use Rattle.rules.specs.Circuit.{startOf, stepOf};
-ghost use Rattle.rules.specs.Runs.{runOf};
 ghost use Rattle.circuit.specs.Meaning.{stateAs};
 ghost use Rattle.exports.specs.Answers.{StartTold, StepTold, QueryTold, RunTold, DriveTold};
 
@@ -65,7 +64,7 @@ pub extern "C" fn circuit_step(
     codes::answer(answer)
 }
 
-// Steps asked at a list of nodes up to the first refusal; their number goes to `count`.
+// Steps asked at a list of nodes up to the first refusal; their number goes to `count`, unless table, tags or 24 refuse.
 #[no_mangle]
 pub extern "C" fn circuit_run(
     table: &[u8],
@@ -78,13 +77,12 @@ pub extern "C" fn circuit_run(
     nodes: &[u16],
     count: &mut usize,
 ) -> u64
-    ensures { λ r. ⌜ RunTold (runOf (now (table .entry)) (now (tags .entry))
+    ensures { λ r. ⌜ RunTold (now (table .entry)) (now (tags .entry))
         (stateAs (now (status .entry)) (now (second .entry)) (now (value .entry)) (now (registers .entry)) (now (occupant .entry)))
-        (now (nodes .entry)))
-        r (now (count .exit))
+        (now (nodes .entry)) (now (count .entry)) r (now (count .exit))
         (stateAs (now (status .exit)) (now (second .exit)) (now (value .exit)) (now (registers .exit)) (now (occupant .exit))) ⌝ }
 {
-    let end = lent::run(
+    let halt = lent::run(
         table,
         tags,
         status,
@@ -93,13 +91,12 @@ pub extern "C" fn circuit_run(
         registers,
         occupant,
         nodes,
+        count,
     );
-    let halt = end.halt;
-    *count = end.steps;
     codes::halt(halt)
 }
 
-// Possible steps up to a budget; their number goes to `count`.
+// Possible steps up to a budget; their number goes to `count`, unless table, tags or 24 refuse.
 #[no_mangle]
 pub extern "C" fn circuit_drive(
     table: &[u8],
@@ -114,10 +111,10 @@ pub extern "C" fn circuit_drive(
 ) -> u64
     ensures { λ r. ⌜ DriveTold (now (table .entry)) (now (tags .entry))
         (stateAs (now (status .entry)) (now (second .entry)) (now (value .entry)) (now (registers .entry)) (now (occupant .entry))) budget
-        r (now (count .exit))
+        (now (count .entry)) r (now (count .exit))
         (stateAs (now (status .exit)) (now (second .exit)) (now (value .exit)) (now (registers .exit)) (now (occupant .exit))) ⌝ }
 {
-    let end = lent::drive(
+    let ended = lent::drive(
         table,
         tags,
         status,
@@ -126,9 +123,8 @@ pub extern "C" fn circuit_drive(
         registers,
         occupant,
         budget,
+        count,
     );
-    let ended = end.ended;
-    *count = end.steps;
     codes::ended(ended)
 }
 

@@ -8,9 +8,10 @@ use table::Node;
 ghost use mathlib.Core.Path.{_≡_};
 ghost use Rattle.rules.specs.State.{State512};
 ghost use Rattle.circuit.specs.Meaning.{openingOf, replyOf, foundOf, haltOf, endedOf};
-ghost use Rattle.exports.specs.Answers.{refusalCode, valueCode, startCode, replyCode, foundCode, haltCode, endedCode};
+ghost use Rattle.exports.specs.Codes.{refusalCode, valueCode};
+ghost use Rattle.exports.specs.Answers.{startCode, replyCode, foundCode, haltCode, endedCode};
 
-fn refusal(number: u8, place: Node) -> u64
+pub(crate) fn refusal(number: u8, place: Node) -> u64
     ensures { λ r. ⌜ r ≡ refusalCode number (place .0) ⌝ }
 {
     8589934592 + ((number as u64) * 65536 + (place.0 as u64))
@@ -27,7 +28,7 @@ pub(crate) fn opening(a: Opening) -> u64
 {
     match a {
         Opening::Opened => 0,
-        Opening::Refused(number, place) => (number as u64) * 65536 + (place.0 as u64),
+        Opening::Refused(number, place) => refusal(number, place),
     }
 }
 

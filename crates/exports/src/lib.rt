@@ -10,8 +10,8 @@ ghost use Rattle.table.specs.Survey.{verdictOf};
 ghost use Prim.Native.Nat.{_%_, _^_, _<_};
 ghost use lib.ListN.{length, getD};
 ghost use Rattle.list.specs.Tags.{checkWith, fillVerdict, filledTags, bitsSet};
-ghost use Rattle.exports.specs.Codes.{codeOf, packedOf, packedAt};
-ghost use Rattle.list.specs.Records.{noRecord, arranged};
+ghost use Rattle.exports.specs.Codes.{codeOf, valueCode, recordCode, itemOf, itemCode};
+ghost use Rattle.list.specs.Records.{noRecord};
 
 // 0 for accepted, else the refusal's number * 65536 + its place.
 fn code(c: Checked) -> u32
@@ -56,22 +56,26 @@ pub extern "C" fn list_total(tags: &[u8]) -> u64
     list::total(tags)
 }
 
-// Record i of the arbiter list, from 0, as callee * 2^32 + caller's function * 2^16 + node; 0 past the last, and for a refused table.
+// Record i of the arbiter list, from 0; 0 past the last.
 #[no_mangle]
 pub extern "C" fn list_record(bytes: &[u8], index: usize) -> u64
-    ensures { λ r. ⌜ r ≡ packedAt (arranged (now (bytes .entry))) index ⌝ }
+    ensures { λ r. ⌜ r ≡ itemCode (itemOf (now (bytes .entry)) index) ⌝ }
 {
     let l = list::list_records(bytes);
-    if index < l.count { packed(l, index) } else { 0 }
+    let checked = l.checked;
+    match checked {
+        Checked::Refused(number, place) => codes::refusal(number, place),
+        Checked::Accepted(_, _) => { if index < l.count { packed(l, index) } else { 0 } }
+    }
 }
 
 fn packed(l: Listing, index: usize) -> u64
     requires { ⌜ index < 512 ⌝ }
-    ensures { λ r. ⌜ r ≡ packedOf (getD (l .items) index noRecord) ⌝ }
+    ensures { λ r. ⌜ r ≡ valueCode (recordCode (getD (l .items) index noRecord)) ⌝ }
 {
     let r = l.items[index];
     let callee = r.callee;
     let caller = r.caller;
     let node = r.node;
-    (callee.0 as u64) * 4294967296 + (caller.0 as u64) * 65536 + (node.0 as u64)
+    4294967296 + ((callee.0 as u64) * 16777216 + ((caller.0 as u64) * 65536 + (node.0 as u64)))
 }

@@ -1,8 +1,9 @@
 -- `run` meets its contract: the state is taken apart, run and put together.
-use mathlib.Core.Path.{_≡_}
-use Rattle.rules.specs.Runs.{runOf}
-use Rattle.circuit.specs.Meaning.{ranAs}
+use Prim.Native.Nat.{ℕ}
+use Rattle.rules.specs.State.{State512}
+use Rattle.circuit.specs.Meaning.{RanLent}
 use Rattle.circuit.proofs.EntryLaws.{by-value}
+use Rattle.circuit.proofs.LentLaws.{ran-by-value}
 use borrow.Author.Needs.{needs}
 use Rattle.circuit.proofs.run.Statement.{statement}
 use Rattle.circuit.proofs.run.Tie as tie
@@ -21,9 +22,11 @@ returns c =
     let ran : tie.After-run = search in
     let p : tie.After-plain = search in
     let s : tie.Start = search in
-    by-value _ _ _ _ (s .args .s .occupant) _ (p .plain .ensures) _ _ _ _ (c .named .result) _ (c .named .ensures)
-    (λ x y. ranAs (ran .run .result) y ≡ runOf (s .args .table .now) (s .args .tags .now) x (s .args .nodes .now))
-    (ran .run .ensures)
+    let P : ℕ → State512 → State512 → Type 0 = λ k x y.
+    RanLent (s .args .table .now) (s .args .tags .now) x (s .args .nodes .now) 0 (ran .run .result) y k in
+    ran-by-value _ _ _ (s .args .nodes .now) (ran .run .result) _ _
+    (by-value _ _ _ _ (s .args .s .occupant) _ (p .plain .ensures) _ _ _ _ (c .named .result) _ (c .named .ensures) (P _)
+    (ran .run .ensures))
 
 pub run-spec : {M : Type 1} → statement M
 run-spec = tie.close (tie.spec plain-requires run-requires named-requires returns)

@@ -4,7 +4,7 @@ use Rattle.table.specs.Survey.{verdictOf}
 use Rattle.rules.specs.State.{State512}
 use Rattle.circuit.specs.Meaning.{stateAs}
 use Rattle.circuit.proofs.EntryLaws.{admitted-from, stand-standing}
-use Rattle.circuit.proofs.DriveLaws.{drives-refused, drives-on}
+use Rattle.circuit.proofs.LentLaws.{driven-kept, driven-counted}
 use borrow.Author.Needs.{needs}
 use Rattle.circuit.proofs.lent.drive.Statement.{statement}
 use Rattle.circuit.proofs.lent.drive.Tie as tie
@@ -36,8 +36,8 @@ returns c =
     let is : tie.After-checked = search in
     let found : tie.After-admit = search in
     let s : tie.Start = search in
-    drives-refused _ _ (state s) (s .args .budget) _ _ _ (sym (found .admit .ensures .told _ _ _) ∙ ap verdictOf (is .checked .given .1))
-    refl
+    driven-kept _ _ (state s) (s .args .budget) _ _ _ _
+    (sym (found .admit .ensures .told _ _ _) ∙ ap verdictOf (is .checked .given .1)) refl
 
 returns-2 : tie.Need-returns-2
 returns-2 c =
@@ -45,7 +45,7 @@ returns-2 c =
     let found : tie.After-admit = search in
     let s : tie.Start = search in
     let a = admitted-from _ _ (state s) _ _ (sym (found .admit .ensures .told _ _ _) ∙ ap verdictOf (is .enum-told .given .1)) in
-    drives-on _ _ (state s) _ _ (stand-standing _ _ (a .0) (state s) (a .1)) (c .drive .ensures)
+    driven-counted _ _ (state s) _ _ (c .drive .result) _ (stand-standing _ _ (a .0) (state s) (a .1)) (c .drive .ensures)
 
 pub drive-spec : {M : Type 1} → statement M
 drive-spec =

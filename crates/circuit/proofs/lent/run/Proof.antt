@@ -1,9 +1,10 @@
 -- `lent::run` meets its contract: what is checked before the first step, then the steps.
-use mathlib.Core.Path.{sym, ap, _∙_}
+use mathlib.Core.Path.{refl, sym, ap, _∙_}
 use Rattle.table.specs.Survey.{verdictOf}
 use Rattle.rules.specs.State.{State512}
 use Rattle.circuit.specs.Meaning.{stateAs}
-use Rattle.circuit.proofs.EntryLaws.{admitted-from, run-turned, run-goes}
+use Rattle.circuit.proofs.EntryLaws.{admitted-from}
+use Rattle.circuit.proofs.LentLaws.{ran-kept, ran-counted}
 use borrow.Author.Needs.{needs}
 use Rattle.circuit.proofs.lent.run.Statement.{statement}
 use Rattle.circuit.proofs.lent.run.Tie as tie
@@ -35,15 +36,16 @@ returns c =
     let is : tie.After-checked = search in
     let found : tie.After-admit = search in
     let s : tie.Start = search in
-    run-turned _ _ (state s) (s .args .nodes .now) _ _ (sym (found .admit .ensures .told _ _ _) ∙ ap verdictOf (is .checked .given .1))
+    ran-kept _ _ (state s) (s .args .nodes .now) _ _ _ _
+    (sym (found .admit .ensures .told _ _ _) ∙ ap verdictOf (is .checked .given .1)) refl
 
 returns-2 : tie.Need-returns-2
 returns-2 c =
     let is : tie.After-enum-told = search in
     let found : tie.After-admit = search in
     let s : tie.Start = search in
-    c .run .ensures ∙ run-goes _ _ (state s) (s .args .nodes .now) _ _ (sym (found .admit .ensures .told _ _ _)
-    ∙ ap verdictOf (is .enum-told .given .1))
+    ran-counted _ _ (state s) (s .args .nodes .now) _ _ _ (c .run .result) _ (sym (found .admit .ensures .told _ _ _)
+    ∙ ap verdictOf (is .enum-told .given .1)) (c .run .ensures)
 
 pub run-spec : {M : Type 1} → statement M
 run-spec =

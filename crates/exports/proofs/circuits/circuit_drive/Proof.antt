@@ -13,7 +13,7 @@ ended-requires c κs = search needs
 returns : tie.Need-returns
 returns c =
     let called : tie.After-drive = search in
-    drive-told _ _ _ _ (called .drive .result) _ (called .drive .ensures) (c .ended .ensures)
+    drive-told _ _ _ _ _ (called .drive .result) _ (called .drive .ensures) (c .ended .ensures)
 
 pub circuit-drive-spec : {M : Type 1} → statement M
 circuit-drive-spec = tie.close (tie.spec drive-requires ended-requires returns)

@@ -13,7 +13,7 @@ halt-requires c κs = search needs
 returns : tie.Need-returns
 returns c =
     let called : tie.After-run = search in
-    run-told _ (called .run .result) _ (called .run .ensures) (c .halt .ensures)
+    run-told _ _ _ _ _ (called .run .result) _ (called .run .ensures) (c .halt .ensures)
 
 pub circuit-run-spec : {M : Type 1} → statement M
 circuit-run-spec = tie.close (tie.spec run-requires halt-requires returns)

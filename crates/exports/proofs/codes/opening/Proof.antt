@@ -1,5 +1,5 @@
 -- `codes::opening` meets its contract: by whether the circuit opened.
-use mathlib.Core.Path.{ap, sym}
+use mathlib.Core.Path.{ap, sym, _∙_}
 use Rattle.circuit.specs.Meaning.{openingOf}
 use Rattle.exports.specs.Answers.{startCode}
 use borrow.Author.Needs.{needs}
@@ -12,17 +12,8 @@ enum-told c = search needs
 enum-known-a : tie.Need-enum-known-a
 enum-known-a c = search needs
 
-cast-result : tie.Need-cast-result
-cast-result c = search needs
-
-mul-result : tie.Need-mul-result
-mul-result c = search needs
-
-cast-result-2 : tie.Need-cast-result-2
-cast-result-2 c = search needs
-
-add-result : tie.Need-add-result
-add-result c = search needs
+refusal-requires : tie.Need-refusal-requires
+refusal-requires c κs = search needs
 
 returns : tie.Need-returns
 returns c = λ s. sym (ap (λ x. startCode (openingOf x s)) (c .enum-told .given .1))
@@ -30,17 +21,7 @@ returns c = λ s. sym (ap (λ x. startCode (openingOf x s)) (c .enum-told .given
 returns-2 : tie.Need-returns-2
 returns-2 c =
     let after-a : tie.After-a = search in
-    λ s. sym (ap (λ x. startCode (openingOf x s)) (after-a .a .given .1))
+    λ s. c .refusal .ensures ∙ sym (ap (λ x. startCode (openingOf x s)) (after-a .a .given .1))
 
 pub opening-spec : {M : Type 1} → statement M
-opening-spec =
-    tie.close
-    (tie.spec
-    enum-told
-    enum-known-a
-    cast-result
-    mul-result
-    cast-result-2
-    add-result
-    returns
-    returns-2)
+opening-spec = tie.close (tie.spec enum-told enum-known-a refusal-requires returns returns-2)
