@@ -1,4 +1,5 @@
 // The list program: reads a design table from standard input and prints its arbiter list, or what it is refused for.
+use libc::STDERR_FILENO;
 use libc::STDIN_FILENO;
 use libc::STDOUT_FILENO;
 use list::Listing;
@@ -9,6 +10,10 @@ ghost use Prim.Native.Nat.{_≤_};
 
 fn text(s: &[u8]) {
     io::write_all(STDOUT_FILENO, s);
+}
+
+fn complain(s: &[u8]) {
+    io::write_all(STDERR_FILENO, s);
 }
 
 fn number(n: u16) {
@@ -74,8 +79,21 @@ fn show(table: &[u8]) {
 }
 
 // The longest table has 5252 bytes: one byte more tells that the input is longer than any.
-fn main() {
+fn list() {
     let mut input = [0u8; 5253];
-    let n = io::read_full(STDIN_FILENO, &mut input);
+    let got = intake::whole(STDIN_FILENO, &mut input);
+    if got.failed {
+        complain(b"arbiters: standard input can't be read\n");
+        return;
+    }
+    let n = got.count;
     show(&input[..n]);
+}
+
+fn main() {
+    if 1 < os::arg_count() {
+        complain(b"usage: arbiters < FILE.table\n");
+    } else {
+        list();
+    }
 }

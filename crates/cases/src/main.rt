@@ -1,4 +1,5 @@
 // The designs of document 01 that are run and not proved: what the check says at the limits.
+use libc::STDERR_FILENO;
 use libc::STDOUT_FILENO;
 use table::Checked;
 
@@ -125,6 +126,10 @@ fn parameters() {
 }
 
 fn main() {
-    limits();
-    parameters();
+    if 1 < os::arg_count() {
+        io::write_all(STDERR_FILENO, b"usage: cases\n");
+    } else {
+        limits();
+        parameters();
+    }
 }

@@ -1,7 +1,9 @@
 // What the program is given: its arguments and the table file.
+use intake::Intake;
 ghost use mathlib.Core.Path.{_≡_};
 ghost use Prim.Native.Nat.{_≤_};
 ghost use lib.ListN.{length};
+ghost use Rattle.io.specs.Counts.{Counts};
 
 // Main's arguments; a count of 10 says that one of them is no number, and 9 stands for any count above 8.
 pub struct Numbers {
@@ -42,23 +44,47 @@ fn is_run(n: usize, word: [u8; 5]) -> bool {
     word[4] == b'n'
 }
 
-// The file that argument i names, open; -1 where it can't be read. A directory opens, and its first read fails.
-pub(crate) fn opened(i: usize) -> i32 {
+// Whether argument i is there and is no option. Its first two bytes are looked at, which stand in the word also where it is longer.
+pub(crate) fn names_file(i: usize) -> bool {
+    if os::arg_count() <= i {
+        return false;
+    }
+    let mut word = [0u8; 2];
+    os::arg(i, &mut word);
+    !is_option(word)
+}
+
+fn is_option(word: [u8; 2]) -> bool {
+    if word[0] != b'-' {
+        return false;
+    }
+    word[1] == b'-'
+}
+
+// The file that argument i names. What does not open is as unreadable as what opens and can't be read, a directory.
+pub(crate) fn table(i: usize, room: &mut [u8]) -> Intake
+    ensures { λ r. ⌜ Counts (r .count) (now (room .exit)) ⌝ }
+{
+    let fd = opened(i);
+    if fd < 0 {
+        return Intake {
+            count: 0,
+            failed: true,
+        };
+    }
+    let got = intake::whole(fd, room);
+    libc::close(fd);
+    got
+}
+
+// The file that argument i names, open; -1 where it does not open.
+fn opened(i: usize) -> i32 {
     let mut path = io::buffer();
     let n = os::arg(i, &mut path);
     if os::errno() != 0 {
         return -1;
     }
-    let fd = os::open_read(&path[..n]);
-    if fd < 0 {
-        return -1;
-    }
-    let mut none = [0u8; 0];
-    if libc::read(fd, &mut none) < 0 {
-        libc::close(fd);
-        return -1;
-    }
-    fd
+    os::open_read(&path[..n])
 }
 
 // Room for a log and one byte more.

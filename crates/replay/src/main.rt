@@ -23,14 +23,17 @@ fn main() {
 fn prepare(first: usize, running: bool)
     requires { ⌜ first ≤ 2 ⌝ }
 {
-    let fd = input::opened(first);
-    if fd < 0 {
-        output::fail(b"replay: the table file can't be read\n");
+    if !input::names_file(first) {
+        output::fail(b"usage: replay [--run] FILE.table ARGUMENTS..\n");
         return;
     }
     let mut file = [0u8; 5253];
-    let size = io::read_full(fd, &mut file);
-    libc::close(fd);
+    let got = input::table(first, &mut file);
+    if got.failed {
+        output::fail(b"replay: the table file can't be read\n");
+        return;
+    }
+    let size = got.count;
     let n = input::arguments(first + 1);
     let count = n.count;
     let values = n.values;
@@ -77,7 +80,12 @@ fn blank() -> State {
 // The log whole, before anything is printed.
 fn log(table: &[u8], tags: &[u8], s: Started) {
     let mut asked = input::room();
-    let size = io::read_full(libc::STDIN_FILENO, &mut asked);
+    let got = intake::whole(libc::STDIN_FILENO, &mut asked);
+    if got.failed {
+        output::fail(b"replay: the log on standard input can't be read\n");
+        return;
+    }
+    let size = got.count;
     if 1048576 < size {
         output::fail(b"replay: the log is longer than 1048576 bytes\n");
         return;
