@@ -17,7 +17,8 @@ use Rattle.table.specs.Expressions.{bodyOf}
 use Rattle.table.specs.Working.{IsFunction}
 use Rattle.table.proofs.Passed.{passed}
 use Rattle.list.specs.Arbiters.{Test, listedIn}
-use Rattle.list.specs.Tags.{tagged, listed, bitsFrom, bytesFrom, tagLength, tagsOf}
+use Rattle.list.specs.Tags.{tagged, listed, bitsFrom, bytesFrom, tagLength, tagsOf, bitsSet}
+use Rattle.list.specs.Records.{recordsOf}
 use Rattle.table.specs.Working.{Taken}
 use Rattle.list.specs.Working.{bitAt, packed, siteBit, Bit, callsBy, conflictsAt, Seen, Memo}
 use Rattle.list.proofs.BitLaws.{tagged-bit, zeros-at}
@@ -25,6 +26,7 @@ use Rattle.list.proofs.WordLaws.{none-packed}
 use Rattle.list.proofs.ArbiterFacts.{any-out}
 use Rattle.list.proofs.ParallelLaws.{by-true}
 use Rattle.list.proofs.TagFacts.{byte-is, bytes-length, listed-call}
+use Rattle.list.proofs.Totals.{total-whole}
 
 module _ (t : List ℕ) where
   -- before the first walk
@@ -94,6 +96,11 @@ number-is s (suc k) n x h f =
     moved : (n j : ℕ) → n + suc j ≡ suc n + j
     moved n j = omega arith
 
+-- they are among the 64 of a set
+pub tags-short : (t : List ℕ) → Taken t → tagLength t ≤ 64
+unfolding tagLength
+tags-short t ok = omega (arith, passed t (functions t) (nodes t) ok .0 .N-high)
+
 -- the first bytes of the set are the tag bytes
 module _ (t : List ℕ) (ok : Taken t) (found : List ℕ) (size : length found ≡ 64) (fits : (i : ℕ) → i < tagLength t → getD found i 0 < 256)
     (is : (m : ℕ) → Bit m → tagged found m ≡ listed t m) where
@@ -104,8 +111,7 @@ module _ (t : List ℕ) (ok : Taken t) (found : List ℕ) (size : length found �
   few-nodes = passed t (functions t) (nodes t) ok .0 .N-high
 
   short : tagLength t ≤ 64
-  unfolding tagLength
-  short = omega (arith, few-nodes)
+  short = tags-short t ok
 
   within : (n : ℕ) → listed t n ≡ s n
   unfolding s
@@ -137,3 +143,8 @@ module _ (t : List ℕ) (ok : Taken t) (found : List ℕ) (size : length found �
     where
       cut : length (take (tagLength t) found) ≡ tagLength t
       cut = length-take-le (tagLength t) found (omega (arith, size, short))
+
+  -- the number of bits set in them is the number of records
+  pub total-set : (k : ℕ) → k ≡ nodes t → bitsSet (take ((k + 7) / 8) found) % 2 ^ 64 ≡ length (recordsOf t)
+  unfolding tagLength
+  total-set k e = ap (λ n. bitsSet (take ((n + 7) / 8) found) % 2 ^ 64) e ∙ ap (λ l. bitsSet l % 2 ^ 64) tags-are ∙ total-whole t ok

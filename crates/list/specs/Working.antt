@@ -2,22 +2,23 @@
 use Prim.Native.Nat.{ℕ, _+_, _-_, _*_, _/_, _%_, _^_, _≤_}
 use mathlib.Core.Bool.{Bool, true, false, _&&_, _||_}
 use mathlib.Core.Path.{_≡_}
-use mathlib.Core.List.{List, []}
+use mathlib.Core.List.{List, [], _++_}
 use lib.Dec.{eqb}
-use lib.ListN.{length, getD, take, drop, replicate}
+use lib.ListN.{length, getD}
 use Rattle.table.specs.Pick.{pick, Range}
 use Rattle.table.specs.Syntax.{Expr, Exprs, none, some}
 use Rattle.table.specs.Bytes.{functions, nodes, kind, first}
 use Rattle.table.specs.Naming.{owner}
 use Rattle.table.specs.Check.{accepted, ifAccepted}
 use Rattle.table.specs.Expressions.{exprsAt, exprAt, bodyOf, defsAt, finalAt}
-use Rattle.table.specs.Working.{IsNode, IsFunction, Taken}
+use Rattle.table.specs.Working.{IsNode, IsFunction, Taken, Read}
 use Rattle.table.specs.Survey.{verdictOf}
-use Rattle.list.specs.declared.Listing.{Listing}
+use Rattle.list.specs.declared.Record.{Record}
+use Rattle.list.specs.declared.records.Marked.{Marked}
 use Rattle.list.specs.declared.walk.Siblings.{Siblings}
 use Rattle.list.specs.Arbiters.{Test, noCalls, joined, anyUpTo, callsIn, callsIn*, parallel, conflicts, conflicts*, callsOf}
-use Rattle.list.specs.Tags.{calleeOf, listed}
-use Rattle.list.specs.Records.{noRecord, recordsOf, recordsVerdict}
+use Rattle.list.specs.Tags.{tagged, calleeOf, listed}
+use Rattle.list.specs.Records.{callsFrom, recordsFrom, recordsOf, recordsVerdict}
 
 -- bit k of a number
 abbrev pub bitAt : ℕ → ℕ → Bool
@@ -195,18 +196,29 @@ pub record Sided (t : List ℕ) (f n : ℕ) (defs : Bool) (r : Siblings) (set se
   pub last : defs ≡ true → IsNode t (r .last .0) × (owner t (r .last .0) ≡ f) × (first t n ≤ r .last .0)
       × (finalAt t (first t n) ≡ exprAt t (r .last .0))
 
--- the records of an accepted table, or none, beside what the lent list of len records is told
-pub record Offers (t : List ℕ) (len : ℕ) (r : Listing) : Type 0 where
-  pub told : verdictOf (r .checked) ≡ recordsVerdict t len
-  pub size : length (r .items) ≡ 512
-  pub fits : r .count ≤ len
-  pub few : r .count ≤ 512
-  pub records : take (r .count) (r .items) ≡ ifAccepted (recordsVerdict t len) (recordsOf t) []
+-- the records past a place in their order, function f and node n: those of f past n, then those of the functions past f
+unfoldable pub restAt : List ℕ → (f n : ℕ) → List Record
+restAt t f n = callsFrom t f (nodes t - n) (n + 1) ++ recordsFrom t (functions t - f) (f + 1)
 
--- the whole list, whatever is lent
-pub record Lists (t : List ℕ) (r : Listing) : Type 0 where
-  pub told : verdictOf (r .checked) ≡ accepted (functions t) (nodes t)
-  pub size : length (r .items) ≡ 512
-  pub few : r .count ≤ 512
-  pub records : take (r .count) (r .items) ≡ recordsOf t
-  pub past : drop (r .count) (r .items) ≡ replicate (512 - r .count) noRecord
+-- the records after r are l
+pub record Follow (t : List ℕ) (r : Record) (l : List Record) : Type 0 where
+  pub within : r .callee .0 ≤ functions t
+  pub rest : restAt t (r .callee .0) (r .node .0) ≡ l
+
+-- the place before the first record
+abbrev pub beforeAll : Record
+beforeAll = record { callee = record { 0 = 1 }; caller = record { 0 = 0 }; node = record { 0 = 0 } }
+
+-- the list's tag bits, beside the decoded table
+pub record Tagging (t cells set : List ℕ) : Type 0 where
+  pub read : Read t cells
+  pub bits : (m : ℕ) → Bit m → tagged set m ≡ listed t m
+
+-- the records that a lent list of len records gets: none on a refusal
+abbrev pub offered : List ℕ → ℕ → List Record
+offered t len = ifAccepted (recordsVerdict t len) (recordsOf t) []
+
+pub record Marks (t : List ℕ) (len : ℕ) (m : Marked) : Type 0 where
+  pub told : verdictOf (m .checked) ≡ recordsVerdict t len
+  pub many : m .count ≡ length (offered t len)
+  pub tagging : (F N : ℕ) → recordsVerdict t len ≡ accepted F N → Tagging t (m .cells) (m .set)

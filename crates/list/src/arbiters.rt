@@ -5,15 +5,16 @@ use table::Function;
 use table::decoded;
 use table::decoded::Cells;
 ghost use mathlib.Core.Path.{_≡_};
-ghost use Prim.Native.Nat.{ℕ};
-ghost use lib.ListN.{length};
+ghost use Prim.Native.Nat.{ℕ, _<_};
+ghost use lib.ListN.{length, getD};
 ghost use Rattle.table.specs.Working.{Read};
 ghost use Rattle.list.specs.Tags.{tagged, listed};
 ghost use Rattle.list.specs.Working.{packed, Bit};
 
 // Set 0 of the rows as bytes.
 fn bytes(rows: &Rows) -> [u8; 64]
-    ensures { λ r. ⌜ (length r ≡ 64) × ((m : ℕ) → Bit m → tagged r m ≡ packed (now (rows .entry)) m) ⌝ }
+    ensures { λ r. ⌜ (length r ≡ 64) × ((i : ℕ) → i < 64 → getD r i 0 < 256)
+        × ((m : ℕ) → Bit m → tagged r m ≡ packed (now (rows .entry)) m) ⌝ }
 {
     let mut set = [0u8; 64];
     let mut i: usize = 0;
@@ -30,7 +31,8 @@ fn bytes(rows: &Rows) -> [u8; 64]
 // The calls that are in conflict in one of the bodies.
 pub(crate) fn arbiters(table: &[u8], cells: &Cells) -> [u8; 64]
     requires { ⌜ Read (now table) (now cells) ⌝ }
-    ensures { λ r. ⌜ (length r ≡ 64) × ((m : ℕ) → Bit m → tagged r m ≡ listed (now (table .entry)) m) ⌝ }
+    ensures { λ r. ⌜ (length r ≡ 64) × ((i : ℕ) → i < 64 → getD r i 0 < 256)
+        × ((m : ℕ) → Bit m → tagged r m ≡ listed (now (table .entry)) m) ⌝ }
 {
     let mut rows = [0u64; 520];
     let mut called = [0u32; 33];

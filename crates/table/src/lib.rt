@@ -23,9 +23,11 @@ ghost use mathlib.Core.Path.{_≡_};
 ghost use lib.ListN.{replicate};
 
 // A function's number, 1 to F; 0 is none.
+#[repr(C)]
 pub struct Function(pub u16);
 
 // A node's number, 1 to N; 0 is none.
+#[repr(C)]
 pub struct Node(pub u16);
 
 // What the check of a table says: main and the last node, or a refusal's number and place.

@@ -73,7 +73,7 @@ returns-3 c =
     let k = taken (search) in
     let is = set .arbiters .ensures in
     let r = fill-right _ (k .0 .taken) _ _ (set .arbiters .result) _ _ _ (k .2) (k .1) (k .2) (long .if1 .left) (is .0)
-    (λ i. c .slice-known2 .given i .fits) (is .1) (copied .copy .ensures) in
+    (λ i. c .slice-known2 .given i .fits) (is .2) (copied .copy .ensures) in
     (r .verdict, r .tags)
 
 pub fill-tags-spec : {M : Type 1} → statement M

@@ -57,7 +57,7 @@ returns c =
     let l : tie.At-loop Inv-loop μ-loop = search in
     let inv = l .loop .inv in
     let r = c .bytes .ensures in
-    (r .0, λ m b. r .1 m b ∙ found-list _ _ _ (inv .1) (λ g i. inv .2 g (omega (arith, i .0)) (i .1)) m b)
+    (r .0, r .1, λ m b. r .2 m b ∙ found-list _ _ _ (inv .1) (λ g i. inv .2 g (omega (arith, i .0)) (i .1)) m b)
 
 pub arbiters-spec : {M : Type 1} → statement M
 arbiters-spec =

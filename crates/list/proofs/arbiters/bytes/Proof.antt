@@ -59,7 +59,7 @@ returns : tie.Need-returns Inv-loop μ-loop
 returns c =
     let l : tie.At-loop Inv-loop μ-loop = search in
     let inv = l .loop .inv in
-    (inv .1, bytes-of _ _ (λ j h. inv .2 .done j (omega arith)))
+    (inv .1, λ j h. omega (arith, inv .2 .done j (omega arith)), bytes-of _ _ (λ j h. inv .2 .done j (omega arith)))
 
 pub bytes-spec : {M : Type 1} → statement M
 bytes-spec =
