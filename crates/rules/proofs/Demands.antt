@@ -14,8 +14,8 @@ use Rattle.rules.specs.Operations.{operate}
 use Rattle.rules.specs.Circuit.{started, checkStart, startAfter, startOf, circuitOf, stepAfter, stepOf, playsOf, playOf, entriesOf}
 use Rattle.rules.specs.Circuit.{leavingsOf, Possible}
 use Rattle.rules.specs.Demand.{Answers, DemandThree, ThirdDemand}
-use Rattle.rules.specs.Companions.{UnderAnyTags}
-use Rattle.rules.specs.Reading.{ReadsTo}
+use Rattle.rules.specs.Companions.{UnderAnyTags, ReadingUnique, ReadingFixed}
+use Rattle.rules.specs.Reading.{readingsOf, ReadsTo}
 use Rattle.rules.specs.Runs.{standing}
 use Rattle.table.specs.Bytes.{functions, nodes, params}
 use Rattle.table.specs.Naming.{owner}
@@ -26,6 +26,7 @@ use Rattle.table.proofs.Passed.{passes, passed, goes-on, params-small}
 use Rattle.table.proofs.LaidOut.{laid}
 use Rattle.list.specs.Tags.{tagged, after, tagLength, nonePast, tagsRefusal, checkWith, Holding}
 use Rattle.list.proofs.Callees.{listed-exactly}
+use Rattle.rules.proofs.Levels.{fixed, into}
 use Rattle.rules.proofs.Unique.{readings-unique}
 use Rattle.rules.proofs.Logs.{begin, logged, more, plays, plays-alike}
 use Rattle.rules.proofs.Kept.{Kept, refused-kept, start-kept, kept-alike, kept-right, kept-balance, kept-one, kept-over}
@@ -221,5 +222,18 @@ under-any-tags t tags args s e asked =
     subst (λ r. UnderAnyTags t args r asked) (sym (p .state)) (any-tags t (functions t) (nodes t) (p .check) args (p .count) asked)
 
 -- the reading has one value and one count
-pub reading-unique : (t args : List ℕ) (v w k l : ℕ) → ReadsTo t args v k → ReadsTo t args w l → (v ≡ w) × (k ≡ l)
+pub reading-unique : ReadingUnique
 reading-unique t args v w k l x y = readings-unique operate (bodyOf t) (functions t) (functions t) args v w k l x y
+
+-- it is its body's, the callees read alike
+pub reading-fixed : (t : List ℕ) (F N : ℕ) → checkOf t ≡ accepted F N → ReadingFixed t
+reading-fixed t F N check =
+    let well = lay t F N check .well in
+    let own = fixed operate (bodyOf t) (functions t) well in
+    record {
+      fixed = own;
+      only = λ K x f r vs v k. (
+        into operate (bodyOf t) (functions t) well K (readingsOf t) x own f f (omega arith) r vs v k,
+        into operate (bodyOf t) (functions t) well (readingsOf t) K own x f f (omega arith) r vs v k,
+      );
+    }

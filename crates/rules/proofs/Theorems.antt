@@ -2,11 +2,13 @@
 use mathlib.Core.Path.{_≡_}
 use mathlib.Core.List.{List}
 use Prim.Native.Nat.{ℕ}
+use Rattle.table.specs.Check.{accepted, checkOf}
 use Rattle.rules.specs.State.{State512}
 use Rattle.rules.specs.Play.{Ask}
 use Rattle.rules.specs.Circuit.{started, startOf}
 use Rattle.rules.specs.Demand.{ThirdDemand}
-use Rattle.rules.specs.Companions.{UnderAnyTags, OwnStart, OwnList, ReadingUnique, ReadingWord, FitsFromStart, InAnyState, AfterSteps}
+use Rattle.rules.specs.Companions.{UnderAnyTags, OwnStart, OwnList, ReadingUnique, ReadingFixed, ReadingWord, FitsFromStart}
+use Rattle.rules.specs.Companions.{InAnyState, AfterSteps}
 use Rattle.rules.proofs.Demands as Demands
 use Rattle.rules.proofs.OwnList as OwnLists
 use Rattle.rules.proofs.AnyState as AnyState
@@ -26,7 +28,10 @@ own-start = OwnLists.own-start
 pub own-list : OwnList
 own-list = OwnLists.own-list
 
--- the plain reading
+-- the plain reading: each function's is its body's, it has one value and one count, and the value is a word
+pub reading-fixed : (t : List ℕ) (F N : ℕ) → checkOf t ≡ accepted F N → ReadingFixed t
+reading-fixed = Demands.reading-fixed
+
 pub reading-unique : ReadingUnique
 reading-unique = Demands.reading-unique
 
