@@ -13,8 +13,8 @@ use Rattle.rules.specs.Play.{Ask, asks, Log, IsTaken, played, count}
 use Rattle.rules.specs.Operations.{operate}
 use Rattle.rules.specs.Circuit.{started, checkStart, startAfter, startOf, circuitOf, stepAfter, stepOf, playsOf, playOf, entriesOf}
 use Rattle.rules.specs.Circuit.{leavingsOf, Possible}
-use Rattle.rules.specs.Demand.{Answers, DemandThree, ThirdDemand}
-use Rattle.rules.specs.Companions.{UnderAnyTags, ReadingUnique, ReadingFixed}
+use Rattle.rules.specs.Demand.{Answers, DemandThree, ThirdDemand, ReadingUnique}
+use Rattle.rules.specs.Companions.{UnderAnyTags, ReadingFixed}
 use Rattle.rules.specs.Reading.{readingsOf, ReadsTo}
 use Rattle.rules.specs.Runs.{standing}
 use Rattle.table.specs.Bytes.{functions, nodes, params}

@@ -6,9 +6,8 @@ use Rattle.table.specs.Check.{accepted, checkOf}
 use Rattle.rules.specs.State.{State512}
 use Rattle.rules.specs.Play.{Ask}
 use Rattle.rules.specs.Circuit.{started, startOf}
-use Rattle.rules.specs.Demand.{ThirdDemand}
-use Rattle.rules.specs.Companions.{UnderAnyTags, OwnStart, OwnList, ReadingUnique, ReadingFixed, ReadingWord, FitsFromStart}
-use Rattle.rules.specs.Companions.{InAnyState, AfterSteps}
+use Rattle.rules.specs.Demand.{ThirdDemand, ReadingUnique}
+use Rattle.rules.specs.Companions.{UnderAnyTags, OwnStart, OwnList, ReadingFixed, ReadingWord, FitsFromStart, InAnyState, AfterSteps}
 use Rattle.rules.proofs.Demands as Demands
 use Rattle.rules.proofs.OwnList as OwnLists
 use Rattle.rules.proofs.AnyState as AnyState
@@ -21,6 +20,10 @@ use Rattle.rules.proofs.ReadingFits as ReadingFits
 pub demand : ThirdDemand
 demand = Demands.demand
 
+-- the reading that it names is one value and one count
+pub reading-unique : ReadingUnique
+reading-unique = Demands.reading-unique
+
 -- the table's own list starts it, and the demand holds with no premise on the list
 pub own-start : OwnStart
 own-start = OwnLists.own-start
@@ -28,12 +31,9 @@ own-start = OwnLists.own-start
 pub own-list : OwnList
 own-list = OwnLists.own-list
 
--- the plain reading: each function's is its body's, it has one value and one count, and the value is a word
+-- the plain reading: each function's is its body's, and its value is a word
 pub reading-fixed : (t : List ℕ) (F N : ℕ) → checkOf t ≡ accepted F N → ReadingFixed t
 reading-fixed = Demands.reading-fixed
-
-pub reading-unique : ReadingUnique
-reading-unique = Demands.reading-unique
 
 pub reading-word : ReadingWord
 reading-word = ReadingFits.reading-word

@@ -131,11 +131,7 @@ pub record ReadingFixed (t : List ℕ) : Type 1 where
   pub only : (K : Readings) → ByBodies t K → (f : ℕ) → Range (functions t) f → (vs : List ℕ) (v k : ℕ)
       → K f vs v k ↔ readingsOf t f vs v k
 
--- the plain reading has one value and one count ..
-abbrev pub ReadingUnique : Type 0
-ReadingUnique = (t args : List ℕ) (v w k l : ℕ) → ReadsTo t args v k → ReadsTo t args w l → (v ≡ w) × (k ≡ l)
-
--- .. and its value is a word, where table and arguments are
+-- the reading's value is a word, where table and arguments are
 abbrev pub ReadingWord : Type 0
 ReadingWord = (t args : List ℕ) (F N : ℕ) → checkOf t ≡ accepted F N → Bytes t → Words args → (v k : ℕ) → ReadsTo t args v k → Word v
 
