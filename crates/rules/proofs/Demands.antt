@@ -25,7 +25,9 @@ use Rattle.table.specs.Well.{Laid}
 use Rattle.table.proofs.Passed.{passes, passed, goes-on, params-small}
 use Rattle.table.proofs.LaidOut.{laid}
 use Rattle.list.specs.Tags.{tagged, after, tagLength, nonePast, tagsRefusal, checkWith, Holding}
+use Rattle.list.specs.CallSets.{Listed}
 use Rattle.list.proofs.Callees.{listed-exactly}
+use Rattle.list.proofs.TagFacts.{listed-call}
 use Rattle.rules.proofs.Levels.{fixed, into}
 use Rattle.rules.proofs.Unique.{readings-unique}
 use Rattle.rules.proofs.Logs.{begin, logged, more, plays, plays-alike}
@@ -174,8 +176,11 @@ module _ (t : List ℕ) (F N : ℕ) (check : checkOf t ≡ accepted F N) where
       -- where the tags hold the list, a step after any list of steps is not refused 23
       silent : Holding t tags → (l : Log) → KeptFrom l → (n p : ℕ) → denied 23 p ≡ stepOf t tags (l .state) n .answer → ⊥
       silent holds l k n p e =
-          kept-silent operate lay (tagged tags) (λ n x. holds n (listed-exactly t F N check n .1 x)) (view s₀) l k n p
+          kept-silent operate lay (tagged tags) held (view s₀) l k n p
           (e ∙ ap (λ r. r .answer) (step-same tags F′ N′ taken (l .state) n))
+        where
+          held : (n : ℕ) → Listed (bodyOf t) (exprAt t) (functions t) n → tagged tags n ≡ true
+          held n x = let e = listed-exactly t F N check n .1 x in holds n (listed-call t F N check n e .0) e
 
       plays-silent : Holding t tags → (l : Log) → KeptFrom l → ((p : ℕ) → In (denied 23 p) (l .answers) → ⊥) → (ns : List ℕ)
           → (p : ℕ) → In (denied 23 p) (plays (stepOf t) l (asks tags ns) .answers) → ⊥
