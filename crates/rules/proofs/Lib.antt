@@ -44,6 +44,7 @@ pub mod Shape
 pub mod Branches
 pub mod Frame
 pub mod Within
+pub mod Sees
 pub mod Left
 pub mod LeftFacts
 pub mod Moves
