@@ -10,6 +10,7 @@ pub mod AnyState
 pub mod RunFacts
 pub mod TakenSteps
 pub mod Fits
+pub mod EveryState
 pub mod ReadingFits
 -- the step on lists: what a write reads as, what a move changes, the cases of a step, when it is refused, what it keeps
 pub mod StateLaws

@@ -15,7 +15,7 @@ use Rattle.rules.specs.Reading.{ReadsTo}
 use Rattle.rules.specs.Runs.{RunPlays, andThen, standing, runFrom, runAfter, runOf, MainDone, mainValue, Ended, gave, atRest}
 use Rattle.rules.specs.Runs.{barred, Driven, Says, Picks, DrivesAfter, Drives, Found, names, nothing, unasked, FindsAfter, Finds}
 use Rattle.rules.specs.Demand.{Answers}
-use Rattle.rules.specs.Companions.{UnderAnyTags, RunDemand, DriveDemand}
+use Rattle.rules.specs.Companions.{UnderAnyTags, RunDemand, DriveDemand, AfterSteps}
 use Rattle.rules.proofs.Logs.{played-state, played-nodes, asks-join}
 use Rattle.rules.proofs.Demands.{Passes, start-passes, under-any-tags}
 use Rattle.rules.proofs.AnyState.{refused-unchanged, done-none}
@@ -200,3 +200,12 @@ module _ (t tags args : List ℕ) (s : State512) (start : startOf t tags args �
       never-rests = λ e. rests (by-end atRest e);
       never-barred = λ k p e. by-end (barred k p) e;
     }
+
+-- query and runs after any list of steps from a start
+pub after-steps : (t tags args : List ℕ) (s : State512) → startOf t tags args ≡ started s → (ns : List ℕ) → AfterSteps t tags args s ns
+after-steps t tags args s start ns = record {
+  start-run = start-run t tags args s start ns;
+  run-demand = run-demand t tags args s start ns;
+  start-query = start-query t tags args s start ns;
+  drive-demand = drive-demand t tags args s start ns;
+}

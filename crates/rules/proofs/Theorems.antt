@@ -10,7 +10,7 @@ use Rattle.rules.specs.Demand.{ThirdDemand, ReadingUnique}
 use Rattle.rules.specs.Companions.{UnderAnyTags, OwnStart, OwnList, ReadingFixed, ReadingWord, FitsFromStart, InAnyState, AfterSteps}
 use Rattle.rules.proofs.Demands as Demands
 use Rattle.rules.proofs.OwnList as OwnLists
-use Rattle.rules.proofs.AnyState as AnyState
+use Rattle.rules.proofs.EveryState as EveryState
 use Rattle.rules.proofs.RunFacts as RunFacts
 use Rattle.rules.proofs.Fits as FitsProof
 use Rattle.rules.proofs.ReadingFits as ReadingFits
@@ -48,20 +48,8 @@ fits = FitsProof.fits-from-start
 
 -- of every state, also one that no start leads to
 pub in-any-state : (t tags : List ℕ) → InAnyState t tags
-in-any-state t tags = record {
-  step-ignores = AnyState.step-ignores t tags;
-  step-keeps = AnyState.step-keeps t tags;
-  refused-unchanged = AnyState.refused-unchanged t tags;
-  step-fits = FitsProof.step-fits t tags;
-  query-over = RunFacts.query-over t tags;
-  run-plays = RunFacts.run-plays t tags;
-}
+in-any-state = EveryState.in-any-state
 
 -- query and runs, "The steps of a run are such steps"
 pub after-steps : (t tags args : List ℕ) (s : State512) → startOf t tags args ≡ started s → (ns : List ℕ) → AfterSteps t tags args s ns
-after-steps t tags args s start ns = record {
-  start-run = RunFacts.start-run t tags args s start ns;
-  run-demand = RunFacts.run-demand t tags args s start ns;
-  start-query = RunFacts.start-query t tags args s start ns;
-  drive-demand = RunFacts.drive-demand t tags args s start ns;
-}
+after-steps = RunFacts.after-steps
