@@ -16,4 +16,5 @@ pub mod SearchLaws
 pub mod BeginLaws
 pub mod DriveLaws
 pub mod EntryDemand
+pub mod ReachedDemand
 pub mod Theorems

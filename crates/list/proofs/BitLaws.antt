@@ -99,9 +99,13 @@ high-bit x h k l q =
     there h k q = omega arith
 
 -- a node's bit is in its byte
-pub tagged-bit : (l : List ℕ) (m : ℕ) → tagged l m ≡ bitAt (getD l ((m - 1) / 8) 0) ((m - 1) % 8)
+pub tagged-bit : (l : List ℕ) (m : ℕ) → 1 ≤ m → tagged l m ≡ bitAt (getD l ((m - 1) / 8) 0) ((m - 1) % 8)
 unfolding tagged
-tagged-bit l m = refl
+tagged-bit l zero h = absurd (omega arith)
+tagged-bit l (suc m) h = ap (λ k. bitAt (getD l (k / 8) 0) (k % 8)) (back m)
+  where
+    back : (m : ℕ) → m ≡ suc m - 1
+    back m = omega arith
 
 -- zeros
 pub zeros-at : (n i : ℕ) → _≡_ {A = ℕ} (getD (replicate n 0) i 0) 0

@@ -123,7 +123,7 @@ module _ (t : List ℕ) (ok : Taken t) (found : List ℕ) (size : length found �
 
   bits-at : (i j : ℕ) → i < 64 → j < 8 → bitAt (getD found i 0) j ≡ s (1 + 8 * i + j)
   bits-at i j p q =
-      ap₂ (λ a b. bitAt (getD found a 0) b) (byte i j q) (bit i j q) ∙ sym (tagged-bit found (1 + 8 * i + j))
+      ap₂ (λ a b. bitAt (getD found a 0) b) (byte i j q) (bit i j q) ∙ sym (tagged-bit found (1 + 8 * i + j) (omega arith))
       ∙ is (1 + 8 * i + j) (omega arith, omega arith) ∙ within (1 + 8 * i + j)
     where
       byte : (i j : ℕ) → j < 8 → i ≡ (1 + 8 * i + j - 1) / 8

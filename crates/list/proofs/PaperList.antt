@@ -89,29 +89,13 @@ module _ (callee : ℕ → ℕ) (B B′ : ℕ → Calls) (m : ℕ) where
     C-by* none f = same
     C-by* (some e es) f = either (C-by e (λ c h i. f c h (inl i))) (C-by* es (λ c h i. f c h (inr i)))
 
--- the equation for a call says that B f is C of the body of f
-module _ (body at : ℕ → Expr) (F : ℕ) (B : ℕ → Calls) where
-  abbrev Bodies : Type 0
-  Bodies = (f m : ℕ) → 1 ≤ f → f ≤ F → Iff (B f m) (C (callee-at at) B (body f) m)
-
-  of-bodies : Bodies → PaperC body at F B
-  of-bodies x α f es a b m = either same (either same (x f m a b))
-
-  of-calls : PaperC body at F B → Bodies
-  of-calls x f m a b = let y = x (suc m) f none a b m in (λ h. last (y .0 (inr (inr h))), λ h. last (y .1 (inr (inr h))))
-    where
-      last : {P : Type 0} → ⊥ ⊎ ((suc m ≡ m) ⊎ P) → P
-      last (inl h) = absurd h
-      last (inr (inl h)) = absurd (omega arith)
-      last (inr (inr h)) = h
-
--- callees are lower, so one family of sets obeys it
-module _ (body at : ℕ → Expr) (F : ℕ) (below : (f c g : ℕ) → 1 ≤ f → f ≤ F → CallIn c g (body f) → (1 ≤ g) × (g < f))
-    (B B′ : ℕ → Calls) (x : Bodies body at F B) (y : Bodies body at F B′) where
-  agree : (k f m : ℕ) → f ≤ k → 1 ≤ f → f ≤ F → Iff (B f m) (B′ f m)
-  agree zero f m l a b = absurd (omega arith)
-  agree (suc k) f m l a b = through (x f m a b) (through (C-by (callee-at at) B B′ m (body f)
-      (λ c g i. let r = below f c g a b i in agree k g m (omega (arith, r .1)) (r .0) (omega (arith, r .1)))) (back (y f m a b)))
+-- callees are lower, so one family of sets obeys the equations
+module _ (body at : ℕ → Expr) (F : ℕ) (below : (f c g : ℕ) → Range F f → CallIn c g (body f) → (1 ≤ g) × (g < f))
+    (B B′ : ℕ → Calls) (x : PaperC body at F B) (y : PaperC body at F B′) where
+  agree : (k f m : ℕ) → f ≤ k → Range F f → Iff (B f m) (B′ f m)
+  agree zero f m l r = absurd (omega (arith, r .0))
+  agree (suc k) f m l r = through (x f r m) (through (C-by (callee-at at) B B′ m (body f)
+      (λ c g i. let b = below f c g r i in agree k g m (omega (arith, b .1)) (b .0, omega (arith, b .1, r .1)))) (back (y f r m)))
 
 module _ (t : List ℕ) (ok : Taken t) where
   calls : (f : ℕ) → 1 ≤ f → f ≤ functions t → Calling (Range (nodes t)) (bodyOf t f)
@@ -126,9 +110,9 @@ module _ (t : List ℕ) (ok : Taken t) where
   decided-in = C-decides (nodes t) (calleeOf t) (callee-at (exprAt t)) (callee-word t) (callsBy t) (bodySets t) decided
       (sets-all (Range (nodes t)) (functions t) (bodyOf t) (exprAt t) calls (functions t) (omega arith))
 
-  own-sets : Bodies (bodyOf t) (exprAt t) (functions t) (bodySets t)
-  own-sets f m a b =
-      let e = body-set t ok f m (a, b) in
+  own-sets : PaperC (bodyOf t) (exprAt t) (functions t) (bodySets t)
+  own-sets f r m =
+      let e = body-set t ok f m r in
       let x = decided f m in
       let y = decided-in (bodyOf t f) m in
       (λ h. y .0 (sym e ∙ x .1 h), λ h. x .0 (e ∙ y .1 h))
@@ -142,10 +126,10 @@ module _ (t : List ℕ) (ok : Taken t) where
   of-taken : PaperList t
   of-taken = record {
     exactly = λ n. through (listed-exactly t (functions t) (nodes t) ok n) (whole n);
-    call-equation = of-bodies (bodyOf t) (exprAt t) (functions t) (bodySets t) own-sets;
-    unique = λ B x f a b m.
-        agree (bodyOf t) (exprAt t) (functions t) (λ f c g a b. laid t (functions t) (nodes t) ok .well .below f c g (a, b)) B (bodySets t)
-        (of-calls (bodyOf t) (exprAt t) (functions t) B x) own-sets f f m (omega arith) a b;
+    bodies = own-sets;
+    unique = λ B x f r m.
+        agree (bodyOf t) (exprAt t) (functions t) (laid t (functions t) (nodes t) ok .well .below) B (bodySets t) x own-sets f f m
+        (omega arith) r;
   }
 
 -- the list of an accepted table is the paper's

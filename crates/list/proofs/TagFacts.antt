@@ -21,6 +21,7 @@ use Rattle.table.specs.Check.{accepted, checkOf}
 use Rattle.table.specs.Expressions.{exprAt, bodyOf}
 use Rattle.table.proofs.FindLaws.{pair, same, passes-all, passes-lowest}
 use Rattle.table.proofs.Passed.{goes-on}
+use Rattle.list.proofs.BitLaws.{tagged-bit}
 use Rattle.list.proofs.Callees.{callee-word, listed-exactly}
 use Rattle.list.specs.Tags.{Holding, tagged, isCall, calleeOf, listed, bitsFrom, bytesFrom, tagLength, tagsOf, nonePast, tagFits}
 use Rattle.list.specs.Tags.{tagsRefusal, after, checkWith}
@@ -73,9 +74,9 @@ one-is false = refl
 
 -- the bytes of a set mark exactly the set
 pub tagged-is : (s : Test) (k m : ℕ) → 1 ≤ m → m ≤ 8 * k → tagged (bytesFrom s k 1) m ≡ s m
-unfolding tagged
 tagged-is s k m a b =
-    ap (λ x. eqb (x / 2 ^ ((m - 1) % 8) % 2) 1) (byte-is s k 1 ((m - 1) / 8) (byte-in m k a b))
+    tagged-bit (bytesFrom s k 1) m a
+    ∙ ap (λ x. eqb (x / 2 ^ ((m - 1) % 8) % 2) 1) (byte-is s k 1 ((m - 1) / 8) (byte-in m k a b))
     ∙ ap (λ x. eqb x 1) (bit-is s 8 (1 + 8 * ((m - 1) / 8)) ((m - 1) % 8) (bit-in m))
     ∙ one-is (s (1 + 8 * ((m - 1) / 8) + (m - 1) % 8)) ∙ ap s (whole m a)
   where
@@ -121,7 +122,7 @@ module _ (t : List ℕ) (F N : ℕ) (check : checkOf t ≡ accepted F N) where
   tags-mark n a b = masked n a (tag-in n b) ∙ ap (λ x. x && listed t n) (T-true (leb n (nodes t)) (le→leb n (nodes t) b))
 
   pub tags-hold : Holding t (tagsOf t)
-  tags-hold n e = let r = listed-call n e .0 in tags-mark n (r .0) (r .1) ∙ e
+  tags-hold n r e = tags-mark n (r .0) (r .1) ∙ e
 
   pub tags-length : length (tagsOf t) ≡ tagLength t
   unfolding tagsOf

@@ -1,6 +1,6 @@
 -- the loops over a tag list: whether a bit past the last node is set, the lowest node whose tag does not fit, a copy, and the total
 use Prim.Native.Nat.{ℕ, zero, suc, _+_, _-_, _/_, _%_, _^_, _<_}
-use mathlib.Core.Path.{_≡_, refl, ap, _∙_}
+use mathlib.Core.Path.{_≡_, refl, sym, ap, _∙_}
 use mathlib.Core.Bool.{Bool, true}
 use mathlib.Core.List.{List, [], _∷_, _++_, append-nil}
 use native.Mathlib.Omega.{arith}
@@ -13,6 +13,7 @@ use Rattle.table.proofs.Copied as copied
 use Rattle.table.specs.Find.{lowest, all}
 use Rattle.list.specs.Arbiters.{Test}
 use Rattle.list.specs.Tags.{tagged, bitsSet}
+use Rattle.list.proofs.BitLaws.{tagged-bit}
 
 -- none of 0 fails
 pub all-none : (p : Test) → all p 0 ≡ true
@@ -62,5 +63,4 @@ wrap-more a b m = mod-add-mod a m b
 -- bit n + i - 1 is the tag of node n + i
 pub bit-is : (tags : List ℕ) (n i : ℕ) (b : Bool)
     → b ≡ eqb (getD tags ((n + (i + 1) - 1) / 8) 0 / 2 ^ ((n + (i + 1) - 1) % 8) % 2) 1 → b ≡ tagged tags (n + (i + 1))
-unfolding tagged
-bit-is tags n i b e = e
+bit-is tags n i b e = e ∙ sym (tagged-bit tags (n + (i + 1)) (omega arith))

@@ -18,7 +18,7 @@ use Rattle.list.proofs.PaperList as Paper
 use Rattle.list.proofs.TagFacts as TagFacts
 use Rattle.list.proofs.Totals as Totals
 
--- the list is the A of section 4.2, by its PC and by the one solution of its equation for C
+-- the list is the A of section 4.2, by its PC and by the one solution of its equations for C, body by body
 pub paper-list : (t : List ℕ) (F N : ℕ) → checkOf t ≡ accepted F N → PaperList t
 paper-list = Paper.paper-list
 

@@ -142,7 +142,7 @@ kept-by g y x₀ x l p = record {
 pub bytes-of : (words x : List ℕ) → ((j : ℕ) → j < 64 → getD x j 0 ≡ getD words (j / 8) 0 / 2 ^ (8 * (j % 8)) % 256) → (m : ℕ) → Bit m
     → tagged x m ≡ packed words m
 bytes-of words x h m b =
-    tagged-bit x m ∙ ap (λ y. bitAt y ((m - 1) % 8)) (h ((m - 1) / 8) (omega arith))
+    tagged-bit x m (b .0) ∙ ap (λ y. bitAt y ((m - 1) % 8)) (h ((m - 1) / 8) (omega arith))
     ∙ byte-bit (getD words ((m - 1) / 8 / 8) 0) (8 * ((m - 1) / 8 % 8)) ((m - 1) % 8) (omega arith)
     ∙ ap₂ (λ a k. bitAt (getD words a 0) k) (word m) (bit m) ∙ sym (packed-bit words m)
   where

@@ -3,10 +3,11 @@ use Prim.Native.Nat.{ℕ, zero, suc, _≤_}
 use mathlib.Core.Path.{_≡_}
 use mathlib.Core.List.{List}
 use Rattle.table.specs.Syntax.{Expr, Exprs, const, param, prim, call, self, cond, bind, bound, none, some}
+use Rattle.table.specs.Pick.{Range}
 use Rattle.table.specs.Bytes.{functions}
 use Rattle.table.specs.Expressions.{exprAt, bodyOf}
-use Rattle.list.specs.Sets.{Calls, ∅, only, _∪_, shared}
-use Rattle.list.specs.Conflict.{C, C*}
+use Rattle.list.specs.Sets.{Calls, ∅, _∪_, shared}
+use Rattle.list.specs.Conflict.{C}
 use Rattle.list.specs.CallSets.{callee-at, sets}
 
 -- the same calls
@@ -46,11 +47,10 @@ module _ (callee : ℕ → ℕ) (B : ℕ → Calls) where
     paperA* (some e es) = paperA e ∪ paperA* es
 
 module _ (body at : ℕ → Expr) (F : ℕ) (B : ℕ → Calls) where
-  -- the paper's equation for a call: C⟦f^α(e_1, .., e_k)⟧ is the union of the C⟦e_i⟧, {f^α} and C⟦e_f⟧, e_f being the body of f
-  -- (at a self call the union of the C⟦e_i⟧ alone: that one and the equations of the other forms are those of C, in specs/Conflict)
+  -- the equations for C, function by function: B f is C⟦e_f⟧, e_f being the body of f. They are those of C in specs/Conflict, form by form;
+  -- at a call C⟦g^α(e_1, .., e_k)⟧ is the union of the C⟦e_i⟧, {g^α} and B g, for C⟦e_g⟧; at a self call the union of the C⟦e_i⟧ alone
   abbrev pub PaperC : Type 0
-  PaperC = (α f : ℕ) (es : Exprs) → 1 ≤ f → f ≤ F
-      → C (callee-at at) B (call α f es) ≐ C* (callee-at at) B es ∪ only α ∪ C (callee-at at) B (body f)
+  PaperC = (f : ℕ) → Range F f → B f ≐ C (callee-at at) B (body f)
 
   -- A⟦p⟧ is the union of the A⟦e_f⟧: all F bodies count
   abbrev pub programA : Calls

@@ -1,8 +1,9 @@
 -- what is claimed of the list: section 4.2 of the paper decides it
-use Prim.Native.Nat.{ℕ, _≤_}
+use Prim.Native.Nat.{ℕ}
 use mathlib.Core.Path.{_≡_}
 use mathlib.Core.Bool.{Bool, true}
 use mathlib.Core.List.{List}
+use Rattle.table.specs.Pick.{Range}
 use Rattle.table.specs.Bytes.{functions}
 use Rattle.table.specs.Expressions.{exprAt, bodyOf}
 use Rattle.list.specs.Sets.{Calls}
@@ -17,7 +18,7 @@ Decides b P = (b ≡ true → P) × (P → b ≡ true)
 pub record PaperList (t : List ℕ) : Type 1 where
   -- a node is listed exactly if it is in A⟦p⟧, p being the table's program
   pub exactly : (n : ℕ) → Decides (listed t n) (PaperListed t n)
-  -- the sets that A⟦p⟧ is made of obey the paper's equation for a call
-  pub call-equation : PaperC (bodyOf t) (exprAt t) (functions t) (bodySets t)
-  -- and no others do, so C is the paper's
-  pub unique : (B : ℕ → Calls) → PaperC (bodyOf t) (exprAt t) (functions t) B → (f : ℕ) → 1 ≤ f → f ≤ functions t → B f ≐ bodySets t f
+  -- the sets that A⟦p⟧ is made of are the paper's C of the bodies: they obey its equations
+  pub bodies : PaperC (bodyOf t) (exprAt t) (functions t) (bodySets t)
+  -- and no others do
+  pub unique : (B : ℕ → Calls) → PaperC (bodyOf t) (exprAt t) (functions t) B → (f : ℕ) → Range (functions t) f → B f ≐ bodySets t f

@@ -1,12 +1,12 @@
 -- tag lists (document 01, "The arbiter list"): the bits of a tag list, a table's arbiter list and its tag bytes, refusal 10
 use Prim.Native.Nat.{ℕ, zero, suc, _+_, _-_, _*_, _/_, _%_, _^_}
-use mathlib.Core.Bool.{Bool, _&&_, _||_, not, true}
+use mathlib.Core.Bool.{Bool, _&&_, _||_, not, true, false}
 use mathlib.Core.List.{List, [], _∷_}
 use lib.Dec.{eqb, leb}
 use lib.Count.{ones}
 use lib.ListN.{length, getD}
 use mathlib.Core.Path.{_≡_}
-use Rattle.table.specs.Pick.{pick}
+use Rattle.table.specs.Pick.{pick, Range}
 use Rattle.list.specs.Arbiters.{Test, listedIn}
 use Rattle.table.specs.Bytes.{functions, nodes, kind, word}
 use Rattle.table.specs.Find.{one, lowest, all}
@@ -15,9 +15,10 @@ use Rattle.table.specs.Check.{Verdict, accepted, refused, stage, ifAccepted, ch
 use Rattle.table.specs.Decoded.{cellAt, nodeSlot, tableSlot}
 use Rattle.table.specs.Expressions.{bodyOf}
 
--- node n is bit (n - 1) mod 8 of byte (n - 1) / 8; past the end every byte reads 0
+-- nodes are counted from 1: node n + 1 is bit n mod 8 of byte n / 8, and 0 has none; past the end every byte reads 0
 unfoldable pub tagged : List ℕ → Test
-tagged tags n = eqb (getD tags ((n - 1) / 8) 0 / 2 ^ ((n - 1) % 8) % 2) 1
+tagged tags zero = false
+tagged tags (suc n) = eqb (getD tags (n / 8) 0 / 2 ^ (n % 8) % 2) 1
 
 -- a call that is no self call, and its callee
 unfoldable pub isCall : List ℕ → Test
@@ -94,6 +95,6 @@ unfoldable pub bitsSet : List ℕ → ℕ
 bitsSet [] = 0
 bitsSet (x ∷ s) = ones x + bitsSet s
 
--- the tags hold the list
+-- the tags hold the list: of the nodes 1 to N, each that is listed is tagged
 abbrev pub Holding : (t tags : List ℕ) → Type 0
-Holding t tags = (n : ℕ) → listed t n ≡ true → tagged tags n ≡ true
+Holding t tags = (n : ℕ) → Range (nodes t) n → listed t n ≡ true → tagged tags n ≡ true

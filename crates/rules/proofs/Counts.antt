@@ -13,7 +13,7 @@ use Rattle.rules.proofs.Shape.{Live}
 use Rattle.rules.proofs.Frame.{Same}
 use Rattle.table.specs.Environment.{extend, values}
 use Rattle.rules.proofs.Left.{Going, Left, Left*, Over}
-use Rattle.table.specs.Well.{Sees}
+use Rattle.rules.proofs.Sees.{Sees}
 use Rattle.rules.proofs.Moves.{Finished*, Becomes, Opens, Opens*, Inner, every-id}
 
 module _ (apply : ℕ → List ℕ → ℕ) (K : Readings) (s : View) (W : ℕ → ℕ) (args : ℕ → ℕ) where

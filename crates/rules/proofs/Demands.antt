@@ -13,9 +13,9 @@ use Rattle.rules.specs.Play.{Ask, asks, Log, IsTaken, played, count}
 use Rattle.rules.specs.Operations.{operate}
 use Rattle.rules.specs.Circuit.{started, checkStart, startAfter, startOf, circuitOf, stepAfter, stepOf, playsOf, playOf, entriesOf}
 use Rattle.rules.specs.Circuit.{leavingsOf, Possible}
-use Rattle.rules.specs.Demand.{Answers, DemandThree, ThirdDemand}
-use Rattle.rules.specs.Companions.{UnderAnyTags}
-use Rattle.rules.specs.Reading.{ReadsTo}
+use Rattle.rules.specs.Demand.{Answers, DemandThree, ThirdDemand, ReadingUnique}
+use Rattle.rules.specs.Companions.{UnderAnyTags, ReadingFixed}
+use Rattle.rules.specs.Reading.{readingsOf, ReadsTo}
 use Rattle.rules.specs.Runs.{standing}
 use Rattle.table.specs.Bytes.{functions, nodes, params}
 use Rattle.table.specs.Naming.{owner}
@@ -25,7 +25,10 @@ use Rattle.table.specs.Well.{Laid}
 use Rattle.table.proofs.Passed.{passes, passed, goes-on, params-small}
 use Rattle.table.proofs.LaidOut.{laid}
 use Rattle.list.specs.Tags.{tagged, after, tagLength, nonePast, tagsRefusal, checkWith, Holding}
+use Rattle.list.specs.CallSets.{Listed}
 use Rattle.list.proofs.Callees.{listed-exactly}
+use Rattle.list.proofs.TagFacts.{listed-call}
+use Rattle.rules.proofs.Levels.{fixed, into}
 use Rattle.rules.proofs.Unique.{readings-unique}
 use Rattle.rules.proofs.Logs.{begin, logged, more, plays, plays-alike}
 use Rattle.rules.proofs.Kept.{Kept, refused-kept, start-kept, kept-alike, kept-right, kept-balance, kept-one, kept-over}
@@ -173,8 +176,11 @@ module _ (t : List ℕ) (F N : ℕ) (check : checkOf t ≡ accepted F N) where
       -- where the tags hold the list, a step after any list of steps is not refused 23
       silent : Holding t tags → (l : Log) → KeptFrom l → (n p : ℕ) → denied 23 p ≡ stepOf t tags (l .state) n .answer → ⊥
       silent holds l k n p e =
-          kept-silent operate lay (tagged tags) (λ n x. holds n (listed-exactly t F N check n .1 x)) (view s₀) l k n p
+          kept-silent operate lay (tagged tags) held (view s₀) l k n p
           (e ∙ ap (λ r. r .answer) (step-same tags F′ N′ taken (l .state) n))
+        where
+          held : (n : ℕ) → Listed (bodyOf t) (exprAt t) (functions t) n → tagged tags n ≡ true
+          held n x = let e = listed-exactly t F N check n .1 x in holds n (listed-call t F N check n e .0) e
 
       plays-silent : Holding t tags → (l : Log) → KeptFrom l → ((p : ℕ) → In (denied 23 p) (l .answers) → ⊥) → (ns : List ℕ)
           → (p : ℕ) → In (denied 23 p) (plays (stepOf t) l (asks tags ns) .answers) → ⊥
@@ -221,5 +227,18 @@ under-any-tags t tags args s e asked =
     subst (λ r. UnderAnyTags t args r asked) (sym (p .state)) (any-tags t (functions t) (nodes t) (p .check) args (p .count) asked)
 
 -- the reading has one value and one count
-pub reading-unique : (t args : List ℕ) (v w k l : ℕ) → ReadsTo t args v k → ReadsTo t args w l → (v ≡ w) × (k ≡ l)
+pub reading-unique : ReadingUnique
 reading-unique t args v w k l x y = readings-unique operate (bodyOf t) (functions t) (functions t) args v w k l x y
+
+-- it is its body's, the callees read alike
+pub reading-fixed : (t : List ℕ) (F N : ℕ) → checkOf t ≡ accepted F N → ReadingFixed t
+reading-fixed t F N check =
+    let well = lay t F N check .well in
+    let own = fixed operate (bodyOf t) (functions t) well in
+    record {
+      fixed = own;
+      only = λ K x f r vs v k. (
+        into operate (bodyOf t) (functions t) well K (readingsOf t) x own f f (omega arith) r vs v k,
+        into operate (bodyOf t) (functions t) well (readingsOf t) K own x f f (omega arith) r vs v k,
+      );
+    }

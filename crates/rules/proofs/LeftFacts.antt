@@ -12,7 +12,8 @@ use Rattle.table.specs.Environment.{values, extend}
 use Rattle.rules.proofs.Shape.{Still, Live, Opened*, Opened}
 use Rattle.rules.specs.Reading.{Outcome, val, Readings}
 use Rattle.rules.proofs.Branches.{chosen-map, chosen-both}
-use Rattle.table.specs.Well.{Apart, Apart*, Sees, Sees*}
+use Rattle.table.specs.Well.{Apart, Apart*}
+use Rattle.rules.proofs.Sees.{Sees, Sees*}
 use Rattle.rules.proofs.Frame.{Same, Avoids, Avoids*}
 use Rattle.table.proofs.SyntaxLaws.{node-id, sub-node, sub-node*}
 use Rattle.rules.proofs.Within.{idle-not, idle-not*, done-not, done-not*}

@@ -1,7 +1,7 @@
--- the readings, function by function, are what the proof about the circuit asks for
+-- the readings, function by function, are what the proof about the circuit asks for, and what each body says of its callees
 use Prim.Native.Nat.{ℕ, zero, suc, _+_, _≤_}
 use mathlib.Core.Path.{_≡_, refl, subst, sym}
-use mathlib.Core.Logic.{inl, inr}
+use mathlib.Core.Logic.{_↔_, inl, inr}
 use mathlib.Core.List.{List}
 use native.Mathlib.Omega.{arith}
 use native.Mathlib.Decide.{ℕ-discrete}
@@ -11,7 +11,7 @@ use Rattle.rules.specs.Reading.{Outcome, val, again, Readings, Reads, Re
 use Rattle.rules.proofs.Branches.{chosen-map}
 use Rattle.table.specs.Environment.{extend}
 use Rattle.table.specs.Pick.{mixed}
-use Rattle.table.specs.Well.{CallIn, CallIn*, Well}
+use Rattle.table.specs.Well.{CallIn, CallIn*, Fn, Well}
 use Rattle.rules.proofs.Remaining.{Ends, Closes}
 
 -- a change of what calls read to, for the calls of e
@@ -69,6 +69,14 @@ module _ (apply : ℕ → List ℕ → ℕ) (K K′ : Readings) (args : ℕ → 
       h .7,
     )
 
+-- and of a body, over its self calls
+module _ (apply : ℕ → List ℕ → ℕ) (K K′ : Readings) (e : Expr)
+    (f : (g v k : ℕ) (vs : List ℕ) → ((c : ℕ) × CallIn c g e) → K g vs v k → K′ g vs v k) where
+  pub round-over : (vs : List ℕ) (v k : ℕ) → Round apply K e vs v k → Round apply K′ e vs v k
+  round-over vs v k (stops x) = stops (reads-over apply K K′ (λ z. getD vs z 0) e f (λ d. 0) (val v) k x)
+  round-over vs v k (goes ws j i x r q) =
+      goes ws j i (reads-over apply K K′ (λ z. getD vs z 0) e f (λ d. 0) (again ws) j x) (round-over ws v i r) q
+
 module _ (apply : ℕ → List ℕ → ℕ) (body : ℕ → Expr) where
   -- function suc f, at its own level
   abbrev Own : ℕ → List ℕ → ℕ → ℕ → Type 0
@@ -115,3 +123,28 @@ module _ (apply : ℕ → List ℕ → ℕ) (body : ℕ → Expr) where
       round (val w) e z = subst (Own t vs v) (sums (e .1))
           (stops (subst (λ n. Reads apply (readings apply body t) (λ x. getD vs x 0) (body (suc t)) (λ d. 0) (val n) j) (sym (e .0)) z))
       round (again ws) e z = goes ws j i z (level-out F t v i ws (r .1) e) refl
+
+  -- under K each function's reading is its body's, with K's readings of its callees
+  abbrev Fixed : ℕ → Readings → Type 0
+  Fixed F K = (f : ℕ) → Fn F body f → (vs : List ℕ) (v k : ℕ) → K f vs v k ↔ Round apply K (body f) vs v k
+
+  -- the readings of all functions do that ..
+  module _ (F : ℕ) (well : Well F body) where
+    pub fixed : Fixed F (readings apply body F)
+    fixed zero r vs v k = absurd (omega (arith, r .0))
+    fixed (suc t) r vs v k = (
+      λ y. round-over apply (readings apply body t) (readings apply body F) (body (suc t))
+          (λ g v k ws p q. let c = well .below (suc t) (p .0) g r (p .1) in
+          level-to t F g v k ws (c .0) (omega (arith, c .1)) (omega (arith, c .1, r .1)) q) vs v k (level-out F t v k vs (r .1) y),
+      λ y. level-in F t v k vs (r .1) (round-over apply (readings apply body F) (readings apply body t) (body (suc t))
+          (λ g v k ws p q. let c = well .below (suc t) (p .0) g r (p .1) in
+          level-to F t g v k ws (c .0) (omega (arith, c .1, r .1)) (omega (arith, c .1)) q) vs v k y),
+    )
+
+    -- .. and no other readings do
+    module _ (K K′ : Readings) (x : Fixed F K) (y : Fixed F K′) where
+      pub into : (m f : ℕ) → f ≤ m → Fn F body f → (vs : List ℕ) (v k : ℕ) → K f vs v k → K′ f vs v k
+      into zero f l r vs v k h = absurd (omega (arith, r .0))
+      into (suc m) f l r vs v k h = y f r vs v k .1 (round-over apply K K′ (body f)
+          (λ g v k ws p q. let c = well .below f (p .0) g r (p .1) in
+          into m g (omega (arith, c .1)) (c .0, omega (arith, c .1, r .1)) ws v k q) vs v k (x f r vs v k .0 h))

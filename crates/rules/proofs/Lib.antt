@@ -8,7 +8,9 @@ pub mod Demands
 pub mod OwnList
 pub mod AnyState
 pub mod RunFacts
+pub mod TakenSteps
 pub mod Fits
+pub mod EveryState
 pub mod ReadingFits
 -- the step on lists: what a write reads as, what a move changes, the cases of a step, when it is refused, what it keeps
 pub mod StateLaws
@@ -43,6 +45,7 @@ pub mod Shape
 pub mod Branches
 pub mod Frame
 pub mod Within
+pub mod Sees
 pub mod Left
 pub mod LeftFacts
 pub mod Moves

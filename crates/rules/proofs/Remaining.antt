@@ -6,7 +6,8 @@ use native.Mathlib.Omega.{arith}
 use native.Mathlib.Decide.{ℕ-discrete}
 use lib.ListN.{getD}
 use Rattle.table.specs.Syntax.{Expr, Node}
-use Rattle.table.specs.Well.{Fn, Sees}
+use Rattle.table.specs.Well.{Fn}
+use Rattle.rules.proofs.Sees.{Sees, sees-body}
 use Rattle.table.specs.Environment.{put}
 use Rattle.table.specs.Find.{total}
 use Rattle.rules.specs.State.{View}
@@ -66,7 +67,7 @@ module _ (apply : ℕ → List ℕ → ℕ) (body : ℕ → Expr) (K : Readings)
         d + y .1,
         y .2,
         left-within apply K s s′ W W′ (s .register h) u d keeps expects (x .moving) local (body h) (apart x) (x .place) nowhere (y .0)
-            (y .1) (live x) (x .well .sees h (s .value) (x .fn))
+            (y .1) (live x) (sees-body (s .value) (body h) (x .well .scoped h (x .fn)))
             (subst (λ r. Left apply K s′ W′ r (body h) nowhere (y .0) (y .1)) (fun-ext (g .1)) (y .3)),
         subst (λ v. Ends K h (y .0) v (y .2)) (ap W′ (g .0) ∙ e) (y .4),
         omega (arith, y .5),

@@ -1,7 +1,7 @@
 -- the steps of a run are steps of the third demand
 use Prim.Native.Nat.{ℕ, suc, _+_}
 use mathlib.Core.Path.{_≡_, refl, subst, sym, ap, _∙_}
-use mathlib.Core.Logic.{⊎-elim}
+use mathlib.Core.Logic.{_↔_, ⊎-elim}
 use mathlib.Core.List.{List, [], _∷_, _++_}
 use native.Mathlib.Omega.{arith}
 use lib.ListN.{length, take, length-append}
@@ -15,23 +15,23 @@ use Rattle.rules.specs.Reading.{ReadsTo}
 use Rattle.rules.specs.Runs.{RunPlays, andThen, standing, runFrom, runAfter, runOf, MainDone, mainValue, Ended, gave, atRest}
 use Rattle.rules.specs.Runs.{barred, Driven, Says, Picks, DrivesAfter, Drives, Found, names, nothing, unasked, FindsAfter, Finds}
 use Rattle.rules.specs.Demand.{Answers}
-use Rattle.rules.specs.Companions.{UnderAnyTags, RunDemand, DriveDemand}
+use Rattle.rules.specs.Companions.{UnderAnyTags, RunDemand, DriveDemand, AfterSteps}
 use Rattle.rules.proofs.Logs.{played-state, played-nodes, asks-join}
 use Rattle.rules.proofs.Demands.{Passes, start-passes, under-any-tags}
 use Rattle.rules.proofs.AnyState.{refused-unchanged, done-none}
 
 module _ (t tags : List ℕ) where
   -- a play of one more number
-  play-more : (s : State512) (n : ℕ) (ns : List ℕ) → playOf t tags s (n ∷ ns) .nodes
+  pub play-more : (s : State512) (n : ℕ) (ns : List ℕ) → playOf t tags s (n ∷ ns) .nodes
       ≡ noted (stepOf t tags s n .answer) n (playOf t tags (stepOf t tags s n .state) ns .nodes)
   unfolding playOf
   play-more s n ns = refl
 
-  play-on : (s : State512) (n : ℕ) (ns : List ℕ) → playOf t tags s (n ∷ ns) .state ≡ playOf t tags (stepOf t tags s n .state) ns .state
+  pub play-on : (s : State512) (n : ℕ) (ns : List ℕ) → playOf t tags s (n ∷ ns) .state ≡ playOf t tags (stepOf t tags s n .state) ns .state
   unfolding playOf
   play-on s n ns = refl
 
-  from-nothing : (s : State512) (ns : List ℕ) → (playOf t tags s [] .nodes ≡ []) × (playOf t tags s [] .state ≡ s)
+  pub from-nothing : (s : State512) (ns : List ℕ) → (playOf t tags s [] .nodes ≡ []) × (playOf t tags s [] .state ≡ s)
   unfolding playOf
   from-nothing s ns = (refl, refl)
 
@@ -114,9 +114,15 @@ module _ (t tags args : List ℕ) (s : State512) (start : startOf t tags args �
   plays : (ns : List ℕ) → UnderAnyTags t args s (asks tags ns)
   plays ns = under-any-tags t tags args s start (asks tags ns)
 
-  same-play : (ns : List ℕ) → playsOf t s (asks tags ns) ≡ playOf t tags s ns
+  pub same-play : (ns : List ℕ) → playsOf t s (asks tags ns) ≡ playOf t tags s ns
   unfolding playsOf playOf
   same-play ns = refl
+
+  -- main has answered v exactly if its root is done with v
+  pub main-said : (ns : List ℕ) (v : ℕ)
+      → Answers (playOf t tags s ns) v ↔ (MainDone t (playOf t tags s ns .state) × (mainValue t (playOf t tags s ns .state) ≡ v))
+  main-said ns v = subst (λ l. Answers l v ↔ (MainDone t (l .state) × (mainValue t (l .state) ≡ v))) (same-play ns)
+      (plays ns .answered-done v, λ x. subst (Answers (playsOf t s (asks tags ns))) (x .1) (plays ns .done-answered (x .0)))
 
   -- from a start a run is never refused before its first step
   pub start-stands : (ns : List ℕ) → standing t tags (playOf t tags s ns .state) ≡ accepted (functions t) (nodes t)
@@ -194,3 +200,12 @@ module _ (t tags args : List ℕ) (s : State512) (start : startOf t tags args �
       never-rests = λ e. rests (by-end atRest e);
       never-barred = λ k p e. by-end (barred k p) e;
     }
+
+-- query and runs after any list of steps from a start
+pub after-steps : (t tags args : List ℕ) (s : State512) → startOf t tags args ≡ started s → (ns : List ℕ) → AfterSteps t tags args s ns
+after-steps t tags args s start ns = record {
+  start-run = start-run t tags args s start ns;
+  run-demand = run-demand t tags args s start ns;
+  start-query = start-query t tags args s start ns;
+  drive-demand = drive-demand t tags args s start ns;
+}

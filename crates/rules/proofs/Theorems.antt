@@ -2,14 +2,15 @@
 use mathlib.Core.Path.{_≡_}
 use mathlib.Core.List.{List}
 use Prim.Native.Nat.{ℕ}
+use Rattle.table.specs.Check.{accepted, checkOf}
 use Rattle.rules.specs.State.{State512}
 use Rattle.rules.specs.Play.{Ask}
 use Rattle.rules.specs.Circuit.{started, startOf}
-use Rattle.rules.specs.Demand.{ThirdDemand}
-use Rattle.rules.specs.Companions.{UnderAnyTags, OwnStart, OwnList, ReadingUnique, ReadingWord, FitsFromStart, InAnyState, AfterSteps}
+use Rattle.rules.specs.Demand.{ThirdDemand, ReadingUnique}
+use Rattle.rules.specs.Companions.{UnderAnyTags, OwnStart, OwnList, ReadingFixed, ReadingWord, FitsFromStart, InAnyState, AfterSteps}
 use Rattle.rules.proofs.Demands as Demands
 use Rattle.rules.proofs.OwnList as OwnLists
-use Rattle.rules.proofs.AnyState as AnyState
+use Rattle.rules.proofs.EveryState as EveryState
 use Rattle.rules.proofs.RunFacts as RunFacts
 use Rattle.rules.proofs.Fits as FitsProof
 use Rattle.rules.proofs.ReadingFits as ReadingFits
@@ -19,6 +20,10 @@ use Rattle.rules.proofs.ReadingFits as ReadingFits
 pub demand : ThirdDemand
 demand = Demands.demand
 
+-- the reading that it names is one value and one count
+pub reading-unique : ReadingUnique
+reading-unique = Demands.reading-unique
+
 -- the table's own list starts it, and the demand holds with no premise on the list
 pub own-start : OwnStart
 own-start = OwnLists.own-start
@@ -26,9 +31,9 @@ own-start = OwnLists.own-start
 pub own-list : OwnList
 own-list = OwnLists.own-list
 
--- the plain reading
-pub reading-unique : ReadingUnique
-reading-unique = Demands.reading-unique
+-- the plain reading: each function's is its body's, and its value is a word
+pub reading-fixed : (t : List ℕ) (F N : ℕ) → checkOf t ≡ accepted F N → ReadingFixed t
+reading-fixed = Demands.reading-fixed
 
 pub reading-word : ReadingWord
 reading-word = ReadingFits.reading-word
@@ -43,20 +48,8 @@ fits = FitsProof.fits-from-start
 
 -- of every state, also one that no start leads to
 pub in-any-state : (t tags : List ℕ) → InAnyState t tags
-in-any-state t tags = record {
-  step-ignores = AnyState.step-ignores t tags;
-  step-keeps = AnyState.step-keeps t tags;
-  refused-unchanged = AnyState.refused-unchanged t tags;
-  step-fits = FitsProof.step-fits t tags;
-  query-over = RunFacts.query-over t tags;
-  run-plays = RunFacts.run-plays t tags;
-}
+in-any-state = EveryState.in-any-state
 
 -- query and runs, "The steps of a run are such steps"
 pub after-steps : (t tags args : List ℕ) (s : State512) → startOf t tags args ≡ started s → (ns : List ℕ) → AfterSteps t tags args s ns
-after-steps t tags args s start ns = record {
-  start-run = RunFacts.start-run t tags args s start ns;
-  run-demand = RunFacts.run-demand t tags args s start ns;
-  start-query = RunFacts.start-query t tags args s start ns;
-  drive-demand = RunFacts.drive-demand t tags args s start ns;
-}
+after-steps = RunFacts.after-steps

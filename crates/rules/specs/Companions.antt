@@ -2,17 +2,18 @@
 -- table's own list, of the reading
 use Prim.Native.Nat.{ℕ, _+_, _%_, _^_, _≤_, _<_}
 use mathlib.Core.Path.{_≡_}
-use mathlib.Core.Logic.{_⊎_}
+use mathlib.Core.Logic.{_⊎_, _↔_}
 use mathlib.Core.Bool.{true}
 use mathlib.Core.List.{List, _++_}
 use lib.Dec.{eqb}
 use lib.ListN.{length, getD, take}
-use Rattle.table.specs.Pick.{pick}
+use Rattle.table.specs.Pick.{pick, Range}
 use Rattle.table.specs.Bytes.{functions, nodes, params}
 use Rattle.table.specs.Check.{accepted, checkOf}
 use Rattle.table.specs.Expressions.{exprAt, bodyOf}
 use Rattle.list.specs.Tags.{checkWith, tagsOf}
-use Rattle.rules.specs.Reading.{ReadsTo}
+use Rattle.rules.specs.Operations.{operate}
+use Rattle.rules.specs.Reading.{Readings, Round, readingsOf, ReadsTo}
 use Rattle.rules.specs.State.{State512, Sized, View, entry, view, circuitStart}
 use Rattle.rules.specs.Step.{Act, denied, does, enters, leaves, refusal}
 use Rattle.rules.specs.Play.{Ask, count, calls}
@@ -120,11 +121,17 @@ OwnStart = (t args : List ℕ) (F N : ℕ) → checkOf t ≡ accepted F N → le
 abbrev pub OwnList : Type 0
 OwnList = (t args : List ℕ) (s : State512) → startOf t (tagsOf t) args ≡ started s → (ns : List ℕ) → DemandThree t (tagsOf t) args s ns
 
--- the plain reading has one value and one count ..
-abbrev pub ReadingUnique : Type 0
-ReadingUnique = (t args : List ℕ) (v w k l : ℕ) → ReadsTo t args v k → ReadsTo t args w l → (v ≡ w) × (k ≡ l)
+-- under K, the reading of each function is its body's, read with what K says of the callees, whichever they are
+abbrev pub ByBodies : (t : List ℕ) → Readings → Type 0
+ByBodies t K = (f : ℕ) → Range (functions t) f → (vs : List ℕ) (v k : ℕ) → K f vs v k ↔ Round operate K (bodyOf t f) vs v k
 
--- .. and its value is a word, where table and arguments are
+-- the readings, defined callees first, are what the rules say of each function's body, and nothing else is
+pub record ReadingFixed (t : List ℕ) : Type 1 where
+  pub fixed : ByBodies t (readingsOf t)
+  pub only : (K : Readings) → ByBodies t K → (f : ℕ) → Range (functions t) f → (vs : List ℕ) (v k : ℕ)
+      → K f vs v k ↔ readingsOf t f vs v k
+
+-- the reading's value is a word, where table and arguments are
 abbrev pub ReadingWord : Type 0
 ReadingWord = (t args : List ℕ) (F N : ℕ) → checkOf t ≡ accepted F N → Bytes t → Words args → (v k : ℕ) → ReadsTo t args v k → Word v
 

@@ -1,4 +1,4 @@
--- the third demand over bytes (document 01, "What the third demand speaks of")
+-- the third demand over bytes (document 01, "What the third demand speaks of"); the reading that it names is unique
 use Prim.Native.Nat.{ℕ, _+_, _≤_}
 use mathlib.Core.Path.{_≡_}
 use mathlib.Core.Logic.{_⊎_}
@@ -34,3 +34,7 @@ abbrev pub ThirdDemand : Type 0
 ThirdDemand = (t tags args : List ℕ) (s : State512) → startOf t tags args ≡ started s
     → Holding t tags
     → (ns : List ℕ) → DemandThree t tags args s ns
+
+-- what `right` names is one value and one count: a table and its arguments have no other reading
+abbrev pub ReadingUnique : Type 0
+ReadingUnique = (t args : List ℕ) (v w k l : ℕ) → ReadsTo t args v k → ReadsTo t args w l → (v ≡ w) × (k ≡ l)

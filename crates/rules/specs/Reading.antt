@@ -66,6 +66,10 @@ module _ (apply : ℕ → List ℕ → ℕ) (body : ℕ → Expr) where
   readings zero g vs v k = ⊥
   readings (suc t) g vs v k = mixed (ℕ-discrete g (suc t)) (Round apply (readings t) (body g) vs v k) (readings t g vs v k)
 
+-- of a table: the readings of all its functions
+abbrev pub readingsOf : (t : List ℕ) → Readings
+readingsOf t = readings operate (bodyOf t) (functions t)
+
 -- "Main's root is read with the arguments of the start; nothing is taken from the circuit": it ends with value v, counting k
 abbrev pub ReadsTo : (t args : List ℕ) → (v k : ℕ) → Type 0
-ReadsTo t args v k = readings operate (bodyOf t) (functions t) (functions t) args v k
+ReadsTo t args v k = readingsOf t (functions t) args v k

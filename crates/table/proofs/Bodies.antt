@@ -18,7 +18,7 @@ use Rattle.table.proofs.NodeCases.{is-const, is-param, is-prim, is-call
 use Rattle.table.proofs.NodePlaces.{rise-node, sub-at, in-body, node-owner}
 use Rattle.table.proofs.NumbersApart.{apart-at}
 use Rattle.table.proofs.Tails.{tail-body}
-use Rattle.table.proofs.Scopes.{sees-body}
+use Rattle.table.proofs.Scopes.{scoped-body}
 
 module _ (t : List ℕ) (ok : Passed t) where
   abbrev lk : Linked t
@@ -60,7 +60,7 @@ module _ (t : List ℕ) (ok : Passed t) where
     nonzero = λ f m i p z. omega (arith, z, node-owner t ok f m i p .0 .0);
     below = calls-below;
     tail = tail-body t ok;
-    sees = λ f s i. sees-body t ok s f i;
+    scoped = scoped-body t ok;
   }
 
   -- a part of a body is the expression of its own number

@@ -1,4 +1,4 @@
--- a bound node of an accepted table reads what the circuit holds at its definiens
+-- the bounds of an accepted table name definientia of lets in whose bodies they stand
 use Prim.Native.Nat.{ℕ, zero, suc, _≤_, _<_}
 use mathlib.Core.Bool.{false, _&&_, _||_, not}
 use mathlib.Core.Path.{_≡_, refl, subst, sym, ap, _∙_}
@@ -7,19 +7,16 @@ use mathlib.Core.List.{List}
 use native.Mathlib.Omega.{arith}
 use native.Mathlib.Decide.{ℕ-discrete}
 use lib.Dec.{T, eqb, eqb→eq}
-use borrow.Author.Tests.{eq-eqb, ne-eqb}
-use Rattle.table.specs.Syntax.{Expr, Exprs, const, none, some, id}
-use Rattle.table.specs.Pick.{pick}
-use Rattle.table.specs.Environment.{extend, values}
-use Rattle.table.specs.Well.{Sees, Sees*}
-use Rattle.table.specs.Bytes.{nodes, root, kind, word, first, next}
+use Rattle.table.specs.Syntax.{Expr, Exprs, const, param, prim, call, self, cond, bind, bound, none, some}
+use Rattle.table.specs.Well.{Defines, Scoped, Scoped*}
+use Rattle.table.specs.Bytes.{nodes, root, kind, first, next}
 use Rattle.table.specs.Find.{backBy, back}
 use Rattle.table.proofs.FindLaws.{both, pair, either, same, isnt, back-step}
 use Rattle.table.specs.Naming.{namer, parent, underLast, definiens, inScope}
 use Rattle.table.specs.Working.{IsNode, IsFunction, Linked}
 use Rattle.table.proofs.Passed.{Passed}
 use Rattle.table.proofs.Links.{namer-names, link, named, backwards}
-use Rattle.table.proofs.Family.{pick-true, pick-false, next-node, parent-root, parent-first, parent-next, parent-lower}
+use Rattle.table.proofs.Family.{next-node, parent-root, parent-first, parent-next, parent-lower}
 use Rattle.table.proofs.Family.{parent-zero, parent-top}
 use Rattle.table.specs.Expressions.{exprsAt, exprAt, bodyOf, defsAt, thenAt, elseAt}
 use Rattle.table.proofs.Tree.{defs-some, kids, defs-along}
@@ -27,36 +24,24 @@ use Rattle.table.proofs.Children.{Final, final}
 use Rattle.table.proofs.NodeCases.{NodeCase, node-case, id-at}
 use Rattle.table.proofs.NodeCases.{is-const, is-param, is-prim, is-call, is-self, is-cond, is-bind, is-bound}
 
--- what the environment of a let'value body holds: the state'value values of the definientia
-abbrev pub Defines : ℕ → Exprs → Type 0
-Defines d none = ⊥
-Defines d (some e es) = (id e ≡ d) ⊎ Defines d es
+-- a larger scope
+mutual
+  scoped-more : (e : Expr) (S S′ : ℕ → Type 0) → ((d : ℕ) → S d → S′ d) → Scoped e S → Scoped e S′
+  scoped-more (const n v) S S′ f x = tt
+  scoped-more (param n i) S S′ f x = tt
+  scoped-more (prim n op es) S S′ f x = scoped-more* es S S′ f x
+  scoped-more (call n g es) S S′ f x = scoped-more* es S S′ f x
+  scoped-more (self n es) S S′ f x = scoped-more* es S S′ f x
+  scoped-more (cond n a b c) S S′ f x = (scoped-more a S S′ f (x .0), scoped-more b S S′ f (x .1), scoped-more c S S′ f (x .2))
+  scoped-more (bind n ds b) S S′ f x = (
+    scoped-more* ds S S′ f (x .0),
+    scoped-more b (λ d. Defines d ds ⊎ S d) (λ d. Defines d ds ⊎ S′ d) (λ d. ⊎-elim (λ y. inl y) (λ y. inr (f d y))) (x .1),
+  )
+  scoped-more (bound n d) S S′ f x = f d x
 
-module _ (value : ℕ → ℕ) (ρ : ℕ → ℕ) (d : ℕ) where
-  put-one : (e : Expr) (x : ℕ) → (id e ≡ d → ⊥) ⊎ (id e ≡ d) → ((id e ≡ d → ⊥) → x ≡ value d)
-      → pick (eqb (id e) d) (value (id e)) x ≡ value d
-  put-one e x (inl n) f = pick-false (eqb (id e) d) (value (id e)) x (ne-eqb (id e) d n) ∙ f n
-  put-one e x (inr p) f = pick-true (eqb (id e) d) (value (id e)) x (eq-eqb (id e) d p) ∙ ap value p
-
-  decide : (e : Expr) → (id e ≡ d → ⊥) ⊎ (id e ≡ d)
-  decide e = go (ℕ-discrete (id e) d)
-    where
-      go : Dec (id e ≡ d) → (id e ≡ d → ⊥) ⊎ (id e ≡ d)
-      go (yes p) = inr p
-      go (no n) = inl n
-
-  pub extend-new : (ds : Exprs) → Defines d ds → extend ds (values value ds) ρ d ≡ value d
-  extend-new none p = absurd p
-  extend-new (some e es) p = put-one e (extend es (values value es) ρ d) (decide e) (λ n. other p n (λ q. extend-new es q))
-    where
-      other : (id e ≡ d) ⊎ Defines d es → (id e ≡ d → ⊥) → (Defines d es → extend es (values value es) ρ d ≡ value d)
-          → extend es (values value es) ρ d ≡ value d
-      other (inl q) n f = absurd (n q)
-      other (inr q) n f = f q
-
-  pub extend-old : (ds : Exprs) → ρ d ≡ value d → extend ds (values value ds) ρ d ≡ value d
-  extend-old none p = p
-  extend-old (some e es) p = let r = extend-old es p in put-one e (extend es (values value es) ρ d) (decide e) (λ n. r)
+  scoped-more* : (es : Exprs) (S S′ : ℕ → Type 0) → ((d : ℕ) → S d → S′ d) → Scoped* es S → Scoped* es S′
+  scoped-more* none S S′ f x = tt
+  scoped-more* (some e es) S S′ f x = (scoped-more e S S′ f (x .0), scoped-more* es S S′ f (x .1))
 
 module _ (t : List ℕ) where
   pub under-step : (p n : ℕ) → 1 ≤ n → underLast t p n ≡ ((eqb (parent t n) p && eqb (next t n) 0) || underLast t p (parent t n))
@@ -86,7 +71,7 @@ module _ (t : List ℕ) where
         not-last = λ e. isnt (eqb (next t d) 0) (a .1) (same (next t d) 0 e);
       }
 
-  -- in scope at a child: a sibling'value definiens at the body, or in scope at the parent
+  -- in scope at a child: a sibling's definiens at the body, or in scope at the parent
   scope-down : (d n c : ℕ) → 1 ≤ c → parent t c ≡ n → T (inScope t d c)
       → (Definiens d × (parent t d ≡ n) × (next t c ≡ 0)) ⊎ T (inScope t d n)
   unfolding inScope
@@ -126,7 +111,7 @@ module _ (t : List ℕ) (ok : Passed t) where
           next-in : IsNode t (namer t (suc d)) → next t (namer t (suc d)) ≡ suc d → suc d ≤ nodes t
           next-in i e = omega (arith, e, link t lk (namer t (suc d)) i .next-on (λ y. omega (arith, y, e)) .1)
 
-  -- a definiens is among its let'value
+  -- a definiens is among its let's
   in-defs : (x n : ℕ) → IsNode t n → (parent t n ≡ 0 → ⊥) → Defines x (defsAt t n) → Defines x (defsAt t (first t (parent t n)))
   in-defs x = named t lk (λ n. (parent t n ≡ 0 → ⊥) → Defines x (defsAt t n) → Defines x (defsAt t (first t (parent t n))))
       (λ f i z value. absurd (z (parent-root t lk f i)))
@@ -139,85 +124,87 @@ module _ (t : List ℕ) (ok : Passed t) where
       let i = child-node d (h .held) in
       in-defs d d i (h .held) (subst (Defines d) (sym (defs-some t lk d (next-node t lk d i (h .not-last)))) (inl (id-at t ok d i)))
 
-  module _ (value : ℕ → ℕ) where
-    -- the environment holds the state'value values of what is in scope at n
-    abbrev pub Holds : ℕ → (ℕ → ℕ) → Type 0
-    Holds n ρ = (d : ℕ) → T (inScope t d n) → ρ d ≡ value d
+  -- what the check calls in scope at n
+  abbrev InScope : ℕ → ℕ → Type 0
+  InScope n d = T (inScope t d n)
 
-    abbrev pub Seeing : ℕ → Type 0
-    Seeing n = (ρ : ℕ → ℕ) → Holds n ρ → Sees value (exprAt t n) ρ
+  -- the expression at n has its bounds in it
+  abbrev ScopedAt : ℕ → Type 0
+  ScopedAt n = Scoped (exprAt t n) (InScope n)
 
-    step : (n : ℕ) → IsNode t n → ((m : ℕ) → n < m → m ≤ nodes t → Seeing m) → Seeing n
-    step n i f ρ h = go (node-case t ok n i)
-      where
-        at : (c : ℕ) → IsNode t c → parent t c ≡ n → Seeing c
-        at c j e = f c (omega (arith, parent-lower t c (j .0), e)) (j .1)
+  step : (n : ℕ) → IsNode t n → ((m : ℕ) → n < m → m ≤ nodes t → ScopedAt m) → ScopedAt n
+  step n i f = go (node-case t ok n i)
+    where
+      at : (c : ℕ) → IsNode t c → parent t c ≡ n → ScopedAt c
+      at c j e = f c (omega (arith, parent-lower t c (j .0), e)) (j .1)
 
-        -- a child that is no let'value body sees what its parent sees
-        same-scope : (c : ℕ) → IsNode t c → parent t c ≡ n → ((kind t n ≡ 6) → next t c ≡ 0 → ⊥) → Sees value (exprAt t c) ρ
-        same-scope c j e q =
-            at c j e ρ (λ d x. ⊎-elim (λ p. absurd (q (sym (ap (kind t) (p .1)) ∙ p .0 .of-let) (p .2))) (λ y. h d y)
-            (scope-down t d n c (j .0) e x))
+      -- a child that is no let's body has its parent's scope
+      same-scope : (c : ℕ) → IsNode t c → parent t c ≡ n → ((kind t n ≡ 6) → next t c ≡ 0 → ⊥) → Scoped (exprAt t c) (InScope n)
+      same-scope c j e q = scoped-more (exprAt t c) (InScope c) (InScope n)
+          (λ d x. ⊎-elim (λ p. absurd (q (sym (ap (kind t) (p .1)) ∙ p .0 .of-let) (p .2))) (λ y. y) (scope-down t d n c (j .0) e x))
+          (at c j e)
 
-        all : (kind t n ≡ 6 → ⊥) → Sees* value (exprsAt t (first t n)) ρ
-        all q = kids t lk n (λ c es. Sees* value es ρ) tt (λ c j e g. (same-scope c j e (λ x y. q x), g)) n i refl
+      all : (kind t n ≡ 6 → ⊥) → Scoped* (exprsAt t (first t n)) (InScope n)
+      all q = kids t lk n (λ c es. Scoped* es (InScope n)) tt (λ c j e g. (same-scope c j e (λ x y. q x), g)) n i refl
 
-        fit : (e : Expr) → exprAt t n ≡ e → Sees value e ρ → Sees value (exprAt t n) ρ
-        fit e p x = subst (λ y. Sees value y ρ) (sym p) x
+      fit : (e : Expr) → exprAt t n ≡ e → Scoped e (InScope n) → ScopedAt n
+      fit e p x = subst (λ y. Scoped y (InScope n)) (sym p) x
 
-        go : NodeCase t n → Sees value (exprAt t n) ρ
-        go (is-const k z e) = fit (const n (word t n)) e tt
-        go (is-param k z l e) = subst (λ y. Sees value y ρ) (sym e) tt
-        go (is-prim k c e) = subst (λ y. Sees value y ρ) (sym e) (all (λ x. omega (arith, x, k)))
-        go (is-call k l q c e) = subst (λ y. Sees value y ρ) (sym e) (all (λ x. omega (arith, x, k)))
-        go (is-self k w l c e) = subst (λ y. Sees value y ρ) (sym e) (all (λ x. omega (arith, x, k)))
-        go (is-cond k a b c z e) = subst (λ y. Sees value y ρ) (sym e) (
-          same-scope (first t n) a pa (λ x y. omega (arith, x, k)),
-          same-scope (thenAt t n) b pb (λ x y. omega (arith, x, k)),
-          same-scope (elseAt t n) c pc (λ x y. omega (arith, x, k)),
-        )
-          where
-            pa : parent t (first t n) ≡ n
-            pa = parent-first t lk n i (λ z. omega (arith, z, a .0))
+      go : NodeCase t n → ScopedAt n
+      go (is-const k z e) = fit _ e tt
+      go (is-param k z l e) = fit _ e tt
+      go (is-prim k c e) = fit _ e (all (λ x. omega (arith, x, k)))
+      go (is-call k l q c e) = fit _ e (all (λ x. omega (arith, x, k)))
+      go (is-self k w l c e) = fit _ e (all (λ x. omega (arith, x, k)))
+      go (is-cond k a b c z e) = fit _ e (
+        same-scope (first t n) a pa (λ x y. omega (arith, x, k)),
+        same-scope (thenAt t n) b pb (λ x y. omega (arith, x, k)),
+        same-scope (elseAt t n) c pc (λ x y. omega (arith, x, k)),
+      )
+        where
+          pa : parent t (first t n) ≡ n
+          pa = parent-first t lk n i (λ z. omega (arith, z, a .0))
 
-            pb : parent t (thenAt t n) ≡ n
-            pb = parent-next t lk (first t n) a (λ z. omega (arith, z, b .0)) ∙ pa
+          pb : parent t (thenAt t n) ≡ n
+          pb = parent-next t lk (first t n) a (λ z. omega (arith, z, b .0)) ∙ pa
 
-            pc : parent t (elseAt t n) ≡ n
-            pc = parent-next t lk (thenAt t n) b (λ z. omega (arith, z, c .0)) ∙ pb
-        go (is-bind k a b c e) = subst (λ y. Sees value y ρ) (sym e)
-            (defs, subst (λ y. Sees value y ρ′) (sym (fin .is)) (at (fin .at) (fin .node) pf ρ′ held))
-          where
-            ds : Exprs
-            ds = defsAt t (first t n)
+          pc : parent t (elseAt t n) ≡ n
+          pc = parent-next t lk (thenAt t n) b (λ z. omega (arith, z, c .0)) ∙ pb
+      go (is-bind k a b c e) = fit _ e (defs, subst (λ y. Scoped y Body) (sym (fin .is)) body)
+        where
+          ds : Exprs
+          ds = defsAt t (first t n)
 
-            ρ′ : ℕ → ℕ
-            ρ′ = extend ds (values value ds) ρ
+          -- what the let's body sees
+          Body : ℕ → Type 0
+          Body d = Defines d ds ⊎ InScope n d
 
-            pa : parent t (first t n) ≡ n
-            pa = parent-first t lk n i (λ z. omega (arith, z, a .0))
+          pa : parent t (first t n) ≡ n
+          pa = parent-first t lk n i (λ z. omega (arith, z, a .0))
 
-            fin : Final t ok (first t n)
-            fin = final t ok (first t n) a
+          fin : Final t ok (first t n)
+          fin = final t ok (first t n) a
 
-            pf : parent t (fin .at) ≡ n
-            pf = fin .sibling ∙ pa
+          pf : parent t (fin .at) ≡ n
+          pf = fin .sibling ∙ pa
 
-            defs : Sees* value ds ρ
-            defs = defs-along t lk n (λ es. Sees* value es ρ) tt (λ c j e z g. (same-scope c j e (λ x y. z y), g)) (first t n) a pa
+          defs : Scoped* ds (InScope n)
+          defs = defs-along t lk n (λ es. Scoped* es (InScope n)) tt (λ c j e z g. (same-scope c j e (λ x y. z y), g)) (first t n) a pa
 
-            held : Holds (fin .at) ρ′
-            held d x = ⊎-elim
-                (λ p. extend-new value ρ d ds (subst (λ m. Defines d (defsAt t (first t m))) (p .1) (defined d (p .0))))
-                (λ y. extend-old value ρ d ds (h d y))
-                (scope-down t d n (fin .at) (fin .node .0) pf x)
-        go (is-bound k z l e) = subst (λ y. Sees value y ρ) (sym e) (h (word t n) l)
+          down : (d : ℕ) → InScope (fin .at) d → Body d
+          down d x = ⊎-elim (λ p. inl (subst (λ m. Defines d (defsAt t (first t m))) (p .1) (defined d (p .0)))) (λ y. inr y)
+              (scope-down t d n (fin .at) (fin .node .0) pf x)
 
-    pub fitting : (n : ℕ) → IsNode t n → Seeing n
-    fitting = backwards t lk Seeing step
+          body : Scoped (exprAt t (fin .at)) Body
+          body = scoped-more (exprAt t (fin .at)) (InScope (fin .at)) Body down (at (fin .at) (fin .node) pf)
+      go (is-bound k z l e) = fit _ e l
 
-    pub sees-body : (f : ℕ) → IsFunction t f → Sees value (bodyOf t f) (λ d. 0)
-    unfolding bodyOf
-    sees-body f i =
-        let r = lk .roots f i in
-        fitting (root t f) r (λ d. 0) (λ d x. absurd (scope-root t d (root t f) (r .0) (parent-root t lk f i) x))
+  fitting : (n : ℕ) → IsNode t n → ScopedAt n
+  fitting = backwards t lk ScopedAt step
+
+  pub scoped-body : (f : ℕ) → IsFunction t f → Scoped (bodyOf t f) (λ d. ⊥)
+  unfolding bodyOf
+  scoped-body f i =
+      let r = lk .roots f i in
+      scoped-more (exprAt t (root t f)) (InScope (root t f)) (λ d. ⊥)
+      (λ d x. scope-root t d (root t f) (r .0) (parent-root t lk f i) x) (fitting (root t f) r)

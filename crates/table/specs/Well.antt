@@ -4,7 +4,6 @@ use mathlib.Core.Path.{_≡_}
 use mathlib.Core.Logic.{_⊎_}
 use Rattle.table.specs.Syntax.{Expr, Exprs, const, param, prim, call, self, cond, bind, bound, none, some, id, Node, Node*, Sub}
 use Rattle.table.specs.Syntax.{arity}
-use Rattle.table.specs.Environment.{values, extend}
 use Rattle.table.specs.Pick.{Range}
 
 -- the numbers in an expression differ from each other
@@ -69,22 +68,27 @@ Tail (cond n a b c) = NoSelf a × Tail b × Tail c
 Tail (bind n ds b) = NoSelf* ds × Tail b
 Tail (bound n d) = Unit {0}
 
--- the state holds what the environment says of each definiens in scope
-module _ (value : ℕ → ℕ) where
-  abbrev mutual
-    pub Sees : Expr → (ℕ → ℕ) → Type 0
-    Sees (const n v) ρ = Unit {0}
-    Sees (param n i) ρ = Unit {0}
-    Sees (prim n op es) ρ = Sees* es ρ
-    Sees (call n g es) ρ = Sees* es ρ
-    Sees (self n es) ρ = Sees* es ρ
-    Sees (cond n a b c) ρ = Sees a ρ × Sees b ρ × Sees c ρ
-    Sees (bind n ds b) ρ = Sees* ds ρ × Sees b (extend ds (values value ds) ρ)
-    Sees (bound n d) ρ = ρ d ≡ value d
+-- d is the node of one of these definientia
+abbrev pub Defines : ℕ → Exprs → Type 0
+Defines d none = ⊥
+Defines d (some e es) = (id e ≡ d) ⊎ Defines d es
 
-    pub Sees* : Exprs → (ℕ → ℕ) → Type 0
-    Sees* none ρ = Unit {0}
-    Sees* (some e es) ρ = Sees e ρ × Sees* es ρ
+-- every bound in e names a node of S, or a definiens of a let in e in whose body the bound stands; a definiens sees neither itself nor
+-- its siblings
+abbrev mutual
+  pub Scoped : Expr → (ℕ → Type 0) → Type 0
+  Scoped (const n v) S = Unit {0}
+  Scoped (param n i) S = Unit {0}
+  Scoped (prim n op es) S = Scoped* es S
+  Scoped (call n g es) S = Scoped* es S
+  Scoped (self n es) S = Scoped* es S
+  Scoped (cond n a b c) S = Scoped a S × Scoped b S × Scoped c S
+  Scoped (bind n ds b) S = Scoped* ds S × Scoped b (λ d. Defines d ds ⊎ S d)
+  Scoped (bound n d) S = S d
+
+  pub Scoped* : Exprs → (ℕ → Type 0) → Type 0
+  Scoped* none S = Unit {0}
+  Scoped* (some e es) S = Scoped e S × Scoped* es S
 
 -- f is a function with a body
 abbrev pub Fn : ℕ → (ℕ → Expr) → ℕ → Type 0
@@ -97,7 +101,7 @@ pub record Well (F : ℕ) (body : ℕ → Expr) : Type 0 where
   pub nonzero : (f m : ℕ) → Fn F body f → Node m (body f) → m ≡ 0 → ⊥
   pub below : (f c g : ℕ) → Fn F body f → CallIn c g (body f) → (1 ≤ g) × (g < f)
   pub tail : (f : ℕ) → Fn F body f → Tail (body f)
-  pub sees : (f : ℕ) (value : ℕ → ℕ) → Fn F body f → Sees value (body f) (λ d. 0)
+  pub scoped : (f : ℕ) → Fn F body f → Scoped (body f) (λ d. ⊥)
 
 pub record Laid (F N : ℕ) (body at : ℕ → Expr) (home : ℕ → ℕ) : Type 0 where
   pub some-function : 1 ≤ F
