@@ -8,7 +8,7 @@ use crate::ratios::Ratios;
 use design::list::fill_tags;
 use design::towers::{deep_beside, deep_calls, tower_beside, tower_of_arguments};
 
-/// Against the bit sets; the words are a cleverer way, shown for what is possible.
+/// Against the bit sets; the words are another way, shown beside it.
 const BOUND: f64 = 1.15;
 
 const COLUMNS: [(&str, usize); 6] = [

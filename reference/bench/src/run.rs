@@ -63,17 +63,24 @@ impl Job {
     fn new(table: Vec<u8>, arguments: &[u32], budget: u32) -> Job {
         let Begun { tags, mut own, proved, fast } = Begun::new(&table, arguments);
         let few = budget.min(CHECKED);
-        let told = run_budget(&table, &tags, &mut own, few);
-        assert_eq!(compare_circuit::drive(&table, &tags, &mut proved.clone(), few), Ok(told));
+        let told = run_budget(&table, &tags, &mut own, few).expect("a run");
+        assert_eq!(driven(&table, &tags, &proved, few), told);
         let (steps, ending) = fast::run(&table, &tags, &mut fast.clone(), budget).expect("a run");
         let ending = match ending {
             fast::Ending::Answered(value) => Ending::Answered(value),
             fast::Ending::AtRest => Ending::AtRest,
             fast::Ending::Spent => Ending::Spent,
         };
-        assert_eq!(compare_circuit::drive(&table, &tags, &mut proved.clone(), budget), Ok(Ok((steps, ending))));
+        assert_eq!(driven(&table, &tags, &proved, budget), (steps, ending));
         Job { table, tags, proved, fast, budget, steps }
     }
+}
+
+/// Steps that the proved code takes, and how they end.
+fn driven(table: &[u8], tags: &[u8], state: &Lent, budget: u32) -> (u32, Ending) {
+    let mut count = 0;
+    let told = compare_circuit::drive(table, tags, &mut state.clone(), budget, &mut count);
+    (count, told.expect("an answer").expect("a run"))
 }
 
 /// The longest way through mult: all bits set in both arguments.
@@ -88,9 +95,10 @@ fn mult() -> Job {
 }
 
 fn run_proved(job: &Job) {
-    let mut state = job.proved.clone();
-    let told = compare_circuit::drive(black_box(&job.table), &job.tags, &mut state, job.budget);
+    let (mut state, mut count) = (job.proved.clone(), 0);
+    let told = compare_circuit::drive(black_box(&job.table), &job.tags, &mut state, job.budget, &mut count);
     assert!(told.is_ok());
+    black_box(count);
     black_box(state);
 }
 

@@ -7,7 +7,20 @@ mod raw {
         pub fn list_check_tags(table: *const u8, len: usize, tags: *const u8, tags_len: usize) -> u32;
         pub fn list_total(tags: *const u8, len: usize) -> u64;
         pub fn list_record(table: *const u8, len: usize, index: usize) -> u64;
+        pub fn list_fill_records(table: *const u8, len: usize, records: *mut super::Record, records_len: usize) -> u32;
     }
+}
+
+/// A call that needs an arbiter, as it is lent.
+#[repr(C)]
+#[derive(Clone, Copy, PartialEq, Eq, Debug)]
+pub struct Record {
+    /// The function called.
+    pub callee: u16,
+    /// The function that the call stands in.
+    pub caller: u16,
+    /// The call.
+    pub node: u16,
 }
 
 /// 0 for an accepted table, else the refusal.
@@ -34,8 +47,15 @@ pub fn list_total(tags: &[u8]) -> u64 {
     unsafe { raw::list_total(tags.as_ptr(), tags.len()) }
 }
 
-/// Record `index` of the arbiter list, from 0: callee * 2^32 + caller's function * 2^16 + node; 0 past the last.
+/// Record `index` of the arbiter list, from 0: 2^32 + callee * 2^24 + caller's function * 2^16 + node; 0 past the last;
+/// 2 * 2^32 + refusal.
 pub fn list_record(table: &[u8], index: usize) -> u64 {
     // The library only reads, and within the length it is told.
     unsafe { raw::list_record(table.as_ptr(), table.len(), index) }
+}
+
+/// 0 and the arbiter list at the front of the records, or a refusal and the records as they were.
+pub fn list_fill_records(table: &[u8], records: &mut [Record]) -> u32 {
+    // The library writes to the records alone, and within the number it is told.
+    unsafe { raw::list_fill_records(table.as_ptr(), table.len(), records.as_mut_ptr(), records.len()) }
 }

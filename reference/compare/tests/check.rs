@@ -1,6 +1,6 @@
 //! The proved table check against the reference: random tables from fixed seeds, and the limits.
 
-use std::collections::BTreeMap;
+mod refusals;
 
 use compare::table_check;
 use design::asm::assemble;
@@ -10,6 +10,7 @@ use design::difference::{code, ensure, shown, told, Outcome};
 use design::examples;
 use design::generator::{accepted, accepted_of};
 use design::random::Random;
+use refusals::Refusals;
 
 /// Tables per seed and seeds: 120000 tables in all.
 const TABLES: usize = 30000;
@@ -36,28 +37,15 @@ fn table(text: &str) -> Vec<u8> {
 
 #[test]
 fn random_tables() -> Outcome {
-    // By refusal and whether a node is named; refusal 0 stands for accepted.
-    let mut seen: BTreeMap<(u32, bool), usize> = BTreeMap::new();
+    let mut refusals = Refusals::default();
     for seed in SEEDS {
         let mut random = Random::new(seed);
         for _ in 0..TABLES {
             let bytes = if random.below(20) < 9 { accepted(&mut random) } else { damaged(&mut random) };
-            let answer = agree(&bytes)?;
-            *seen.entry((answer / 65536, answer & 65535 != 0)).or_insert(0) += 1;
+            refusals.note(agree(&bytes)?);
         }
     }
-    println!("{seen:?}");
-    let total: usize = seen.values().sum();
-    let count = |number, at_node| seen.get(&(number, at_node)).copied().unwrap_or(0);
-    ensure(total >= 100_000, || format!("{total} tables"))?;
-    ensure(3 * count(0, false) >= total, || format!("too few accepted: {seen:?}"))?;
-    for number in 1..=5 {
-        ensure(count(number, false) >= 500, || format!("{number} at place 0: {seen:?}"))?;
-    }
-    for number in 4..=9 {
-        ensure(count(number, true) >= 500, || format!("{number} at a node: {seen:?}"))?;
-    }
-    Ok(())
+    refusals.often(SEEDS.len() * TABLES / 3, 500)
 }
 
 #[test]

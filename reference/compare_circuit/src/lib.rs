@@ -19,9 +19,9 @@ use raw::Handed;
 /// What the proved code said, or a message about an answer of no agreed form.
 pub type Told<T> = Result<T, String>;
 
-/// What a lent count holds before the call, and its neighbours after it too.
-const UNSETTLED: u32 = 0xa5a5_a5a5;
-const UNSETTLED_LONG: usize = usize::MAX / 3;
+/// What is before and after a lent count and nobody may touch.
+const BESIDE: u32 = 0xa5a5_a5a5;
+const BESIDE_LONG: usize = usize::MAX / 3;
 
 /// The two halves of an answer: what it is, and the value, node or refusal that goes with it.
 fn halves(answer: u64) -> (u32, u32) {
@@ -46,7 +46,7 @@ pub fn start(table: &[u8], tags: &[u8], arguments: &[u32], state: &mut Lent) -> 
     let answer = unsafe { handed.circuit_start(arguments.as_ptr(), arguments.len()) };
     match halves(answer) {
         (0, 0) => Ok(Ok(())),
-        (0, _) => Ok(Err(refusal("start", answer)?)),
+        (2, _) => Ok(Err(refusal("start", answer)?)),
         _ => strange("start", answer),
     }
 }
@@ -78,34 +78,40 @@ pub fn query(table: &[u8], tags: &[u8], state: &Lent) -> Told<Result<Option<Node
     }
 }
 
-/// Steps taken, and the refusal that ended the run.
-pub fn run(table: &[u8], tags: &[u8], state: &mut Lent, nodes: &[u16]) -> Told<(usize, Option<Refusal>)> {
+/// The refusal that ended the run; the count is left as the library left it.
+pub fn run(table: &[u8], tags: &[u8], state: &mut Lent, nodes: &[u16], count: &mut usize) -> Told<Option<Refusal>> {
     let handed = Handed { table, tags, state };
-    let mut counts = [UNSETTLED_LONG; 3];
+    let mut counts = [BESIDE_LONG, *count, BESIDE_LONG];
     // The library writes to the state and the count alone, and within the lengths it is told.
     let answer = unsafe { handed.circuit_run(nodes.as_ptr(), nodes.len(), counts.as_mut_ptr().wrapping_add(1)) };
-    let [before, taken, after] = counts;
-    ensure([before, after] == [UNSETTLED_LONG; 2], || "run wrote beside its count".to_string())?;
+    ensure([counts[0], counts[2]] == [BESIDE_LONG; 2], || "run wrote beside its count".to_string())?;
+    *count = counts[1];
     match halves(answer) {
-        (0, 0) => Ok((taken, None)),
-        (2, _) => Ok((taken, Some(refusal("run", answer)?))),
+        (0, 0) => Ok(None),
+        (2, _) => Ok(Some(refusal("run", answer)?)),
         _ => strange("run", answer),
     }
 }
 
-/// Steps taken and how it ended; a refusal comes with no steps.
-pub fn drive(table: &[u8], tags: &[u8], state: &mut Lent, budget: u32) -> Told<Result<(u32, Ending), Refusal>> {
+/// How the run on a budget ended; the count is left as the library left it.
+pub fn drive(
+    table: &[u8],
+    tags: &[u8],
+    state: &mut Lent,
+    budget: u32,
+    count: &mut u32,
+) -> Told<Result<Ending, Refusal>> {
     let handed = Handed { table, tags, state };
-    let mut counts = [UNSETTLED; 3];
+    let mut counts = [BESIDE, *count, BESIDE];
     // The library writes to the state and the count alone, and within the lengths it is told.
     let answer = unsafe { handed.circuit_drive(budget, counts.as_mut_ptr().wrapping_add(1)) };
-    let [before, taken, after] = counts;
-    ensure([before, after] == [UNSETTLED; 2], || "drive wrote beside its count".to_string())?;
-    match (halves(answer), taken) {
-        ((0, 0), _) => Ok(Ok((taken, Ending::AtRest))),
-        ((1, value), _) => Ok(Ok((taken, Ending::Answered(value)))),
-        ((2, _), 0) => Ok(Err(refusal("drive", answer)?)),
-        ((3, 0), _) => Ok(Ok((taken, Ending::Spent))),
-        _ => strange(&format!("drive, after {taken} steps,"), answer),
+    ensure([counts[0], counts[2]] == [BESIDE; 2], || "drive wrote beside its count".to_string())?;
+    *count = counts[1];
+    match halves(answer) {
+        (0, 0) => Ok(Ok(Ending::AtRest)),
+        (1, value) => Ok(Ok(Ending::Answered(value))),
+        (2, _) => Ok(Err(refusal("drive", answer)?)),
+        (3, 0) => Ok(Ok(Ending::Spent)),
+        _ => strange(&format!("drive, with {count} counted,"), answer),
     }
 }

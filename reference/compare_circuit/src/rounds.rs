@@ -2,7 +2,7 @@
 
 use std::fmt::Debug;
 
-use design::circuit::{self, check_state, possible, step_with, Answer, Ending, State};
+use design::circuit::{self, check_state, possible, step_with, Answer, Ending, State, Steps};
 use design::difference::{ensure, shown, unrefused, Outcome};
 use design::generator::{accepted, accepted_of, accepted_sharing, accepted_sharing_of};
 use design::list::tags_of;
@@ -213,24 +213,32 @@ impl Round {
         Ok(found)
     }
 
-    /// The run over a list of nodes.
-    pub fn run(&mut self, nodes: &[u16]) -> Result<(usize, Option<Refusal>), String> {
+    /// The run over a list of nodes. Its count holds anything before.
+    pub fn run(&mut self, random: &mut Random, nodes: &[u16]) -> Result<Result<Steps, Refusal>, String> {
         let before = self.own.clone();
         let wanted = circuit::run_list(&self.bytes, &self.tags, &mut self.own, nodes);
-        let found = crate::run(&self.bytes, &self.tags, &mut self.lent, nodes)?;
-        self.agreed(before, found, wanted, || format!("run over {nodes:?}"))
+        let noise = random.number() as usize;
+        let mut count = noise;
+        let refusal = crate::run(&self.bytes, &self.tags, &mut self.lent, nodes, &mut count)?;
+        // What is refused before any step is asked for keeps the count, a step that is refused doesn't.
+        let told = wanted.unwrap_or_else(|refusal| (noise, Some(refusal)));
+        self.agreed(before, (count, refusal), told, || format!("run over {nodes:?}"))?;
+        Ok(wanted)
     }
 
     /// The run on a budget. Its steps are not fixed, so it is held against what is true of any such steps;
     /// the reference goes on from where it came to.
-    pub fn drive(&mut self, budget: u32) -> Result<Result<(u32, Ending), Refusal>, String> {
-        let told = crate::drive(&self.bytes, &self.tags, &mut self.lent, budget)?;
+    pub fn drive(&mut self, random: &mut Random, budget: u32) -> Result<Result<(u32, Ending), Refusal>, String> {
+        let noise = random.number() as u32;
+        let mut taken = noise;
+        let told = crate::drive(&self.bytes, &self.tags, &mut self.lent, budget, &mut taken)?;
         if let Err(refusal) = check_state(&self.tree, &self.own) {
-            self.expect(told == Err(refusal), || format!("drive said {told:?}, wanted {refusal:?}"))?;
+            let wanted = (Err(refusal), noise);
+            self.expect((told, taken) == wanted, || format!("drive said {:?}, wanted {wanted:?}", (told, taken)))?;
             self.same_state("a refused drive")?;
-            return Ok(told);
+            return Ok(Err(refusal));
         }
-        let (taken, ending) = told.map_err(|refusal| self.told(format!("drive said {refusal:?}")))?;
+        let ending = told.map_err(|refusal| self.told(format!("drive said {refusal:?}")))?;
         let after = self.lent.state().map_err(|difference| self.told(difference))?;
         self.lent.same_as(&after).map_err(|difference| self.told(format!("after a drive: {difference}")))?;
         let what = || format!("drive on {budget} took {taken} and said {ending:?}; came to");
@@ -252,7 +260,7 @@ impl Round {
         ensure(reached != Some(false), || wrong("no such steps lead there"))?;
         self.retraced = reached == Some(true);
         self.own = after;
-        Ok(told)
+        Ok(Ok((taken, ending)))
     }
 }
 

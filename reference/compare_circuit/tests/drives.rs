@@ -63,7 +63,7 @@ fn drive_on(random: &mut Random, seen: &mut Seen, mut round: Round, reading: Opt
     loop {
         let left = reading.map_or(LIMIT, |reading| reading.count) - taken;
         let budget = some_budget(random, left, reading.is_some());
-        let told = round.drive(budget)?.map_err(|refusal| format!("{refusal:?}"))?;
+        let told = round.drive(random, budget)?.map_err(|refusal| format!("{refusal:?}"))?;
         taken += u64::from(told.0);
         drives += 1;
         let total = || round.told(format!("{taken} steps in all, then {told:?}, the reading is {reading:?}"));
@@ -71,7 +71,8 @@ fn drive_on(random: &mut Random, seen: &mut Seen, mut round: Round, reading: Opt
             (Ending::Answered(value), Some(reading)) => {
                 ensure((value, taken) == (reading.value, reading.count), total)?;
                 // Answered is looked at before anything else.
-                let again = round.drive(random.below(2) as u32)?;
+                let budget = random.below(2) as u32;
+                let again = round.drive(random, budget)?;
                 ensure(again == Ok((0, Ending::Answered(value))), || round.told(format!("then {again:?}")))?;
                 seen.note("answered as the reading says");
                 seen.note_if("answered so in several drives", drives > 1);
@@ -108,14 +109,15 @@ fn drives_step_by_step() -> Outcome {
         let mut round = Round::some(&mut random, &mut seen)?;
         for _ in 0..random.within(1, 25) {
             let budget = random.pick(&[0, 1, 1, 1, 2, 3]);
-            let told = round.drive(budget)?;
+            let told = round.drive(&mut random, budget)?;
             note(&mut seen, budget, &told);
             if told.is_err() {
                 break;
             }
             seen.note_if("every step found", told.is_ok_and(|(taken, _)| taken > 0) && round.retraced);
         }
-        let _ = round.drive(random.below(400) as u32)?;
+        let budget = random.below(400) as u32;
+        let _ = round.drive(&mut random, budget)?;
     }
     let wanted = [
         ("from a start", DRIVES / 3),
@@ -125,8 +127,10 @@ fn drives_step_by_step() -> Outcome {
         (LIST_MISSED, DRIVES / 12),
         ("at rest", 500),
         ("at rest on no budget", 100),
+        ("at rest at once on some budget", 100),
         ("answered", 500),
         ("answered on no budget", 100),
+        ("answered at once on some budget", 100),
         ("spent", 10_000),
         ("spent on no budget", 1000),
         ("every step found", 10_000),
@@ -144,4 +148,7 @@ fn note(seen: &mut Seen, budget: u32, told: &Result<(u32, Ending), design::Refus
     };
     seen.note(kind);
     seen.note_if(&format!("{kind} on no budget"), budget == 0);
+    if kind != "spent" {
+        seen.note_if(&format!("{kind} at once on some budget"), budget > 0 && told.is_ok_and(|(taken, _)| taken == 0));
+    }
 }

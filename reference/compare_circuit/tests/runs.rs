@@ -1,5 +1,7 @@
 //! The query and the run over a list of the proved circuit against the reference and the plain reading.
 
+use std::collections::BTreeMap;
+
 use compare_circuit::rounds::{some_table, some_tags, tree_of, Round, EMPTY_LIST, LIST_HELD, LIST_MISSED};
 use compare_circuit::seen::Seen;
 use design::circuit::{self, possible, Answer};
@@ -80,20 +82,68 @@ fn runs_over_lists() -> Outcome {
     for _ in 0..RUNS {
         let mut round = Round::some(&mut random, &mut seen)?;
         let nodes = some_nodes(&mut random, &round);
-        let (taken, refusal) = round.run(&nodes)?;
-        seen.note_if("whole", refusal.is_none() && taken > 0);
-        if let Some(refusal) = refusal {
-            seen.refused(refusal.number);
-            seen.note_if("refused after some steps", taken > 0);
+        match round.run(&mut random, &nodes)? {
+            Ok((taken, None)) => seen.note_if("whole", taken > 0),
+            Ok((taken, Some(refusal))) => {
+                seen.refused(refusal.number);
+                seen.note_if("refused after some steps", taken > 0);
+            }
+            Err(refusal) => seen.refused(refusal.number),
         }
         // Where it came to is a state like any other.
         let more = good_nodes(&mut random, &round, 5);
-        round.run(&more)?;
-        round.run(&[])?;
+        let _ = round.run(&mut random, &more)?;
+        let _ = round.run(&mut random, &[])?;
     }
     seen.often("runs", &ROUNDS)?;
     seen.at_least("runs", &[("whole", 1000), ("refused after some steps", 1000)])?;
     seen.refused_often("runs", [12, 20, 21, 22, 23, 24], 50)
+}
+
+/// Runs whose first step is refused, for each reason that there is in a state, count no step.
+#[test]
+fn runs_refused_at_once() -> Outcome {
+    let (mut random, mut seen) = (Random::new(426), Seen::default());
+    for _ in 0..RUNS {
+        let mut round = Round::some(&mut random, &mut seen)?;
+        for _ in 0..4 {
+            let mut nodes = good_nodes(&mut random, &round, 3);
+            nodes.insert(0, 0);
+            for (number, first) in refused_first(&mut random, &round) {
+                nodes[0] = first;
+                let told = round.run(&mut random, &nodes)?;
+                let fits = matches!(told, Ok((0, Some(refusal))) if refusal.number == number);
+                ensure(fits, || round.told(format!("{told:?} over {nodes:?}, wanted {number} at once")))?;
+                seen.refused(number);
+            }
+            let steps = random.within(1, 9);
+            let nodes = good_nodes(&mut random, &round, steps);
+            let _ = round.run(&mut random, &nodes)?;
+        }
+        let told = round.run(&mut random, &[])?;
+        seen.note_if("nothing asked for", told == Ok((0, None)));
+        seen.note_if("nothing asked for, and refused", told.is_err());
+    }
+    seen.often("runs refused at once", &ROUNDS)?;
+    seen.at_least("runs refused at once", &[("nothing asked for", RUNS / 2), ("nothing asked for, and refused", 200)])?;
+    seen.refused_often("runs refused at once", [12, 20, 21, 22, 23], 500)
+}
+
+/// Each number by which a step is refused here, and one of the nodes where it is.
+fn refused_first(random: &mut Random, round: &Round) -> BTreeMap<u16, u16> {
+    let mut found = BTreeMap::new();
+    if circuit::check_state(&round.tree, &round.own).is_err() {
+        return found;
+    }
+    let mut nodes: Vec<u16> = (0..=round.tree.node_count() as u16 + 1).collect();
+    let from = random.below(nodes.len());
+    nodes.rotate_left(from);
+    for node in nodes {
+        if let Answer::Refused(refusal) = circuit::step_with(&round.tree, &round.tags, &mut round.own.clone(), node) {
+            found.entry(refusal.number).or_insert(node);
+        }
+    }
+    found
 }
 
 /// From a start, a list of steps in any order that leads to the answer: value and count are the reading's.
@@ -111,14 +161,17 @@ fn runs_to_the_answer() -> Outcome {
         let mut round = Round::started(bytes, tags, &arguments)?;
         seen.note(round.tagging()?);
         let nodes = good_nodes(&mut random, &round, usize::MAX);
-        let told = round.run(&nodes)?;
+        let told = round.run(&mut random, &nodes)?;
         let root = *round.own.node(tree.root(tree.main()));
         let fits =
-            told == (reading.count as usize, None) && (root.status, root.value) == (numbers::DONE, reading.value);
+            told == Ok((reading.count as usize, None)) && (root.status, root.value) == (numbers::DONE, reading.value);
         let wrong = || format!("{told:?}, root {root:?}, wanted {reading:?}, arguments {arguments:?}");
         ensure(fits, || round.told(wrong()))?;
-        let past = round.run(&[random.within(1, tree.node_count()) as u16])?;
-        ensure(matches!(past, (0, Some(refusal)) if refusal.number == 20), || round.told(format!("then {past:?}")))?;
+        let any = random.within(1, tree.node_count()) as u16;
+        let past = round.run(&mut random, &[any])?;
+        ensure(matches!(past, Ok((0, Some(refusal))) if refusal.number == 20), || {
+            round.told(format!("then {past:?}"))
+        })?;
         seen.note("answered as the reading says");
         seen.note_if("in more than 100 steps", reading.count > 100);
     }

@@ -110,7 +110,8 @@ fn starts() -> Outcome {
     seen.refused_often("starts", 1..=11, 50)
 }
 
-/// The refusals before any step: the table's, then the tags', then for a step 12, then 24. All keep the state.
+/// The refusals before any step: the table's, then the tags', then for a step 12, then 24. All keep the state, and
+/// the count of a run.
 #[test]
 fn refused_before_any_step() -> Outcome {
     let (mut random, mut seen) = (Random::new(412), Seen::default());
@@ -131,8 +132,15 @@ fn refused_before_any_step() -> Outcome {
         };
         note_refusal(&mut seen, refusal, &bytes, &tags);
         all_refused(&mut random, &bytes, &tags, &own, refusal)?;
+        seen.note(match refusal.number {
+            1..=9 => "for the table",
+            10 => "for the tags",
+            _ => "for the state",
+        });
     }
     seen.often("before any step", &CAUSES)?;
+    let wanted = ["for the table", "for the tags", "for the state"].map(|cause| (cause, 1000));
+    seen.at_least("before any step", &wanted)?;
     seen.refused_often("before any step", (1..=10).chain([24]), 50)
 }
 
@@ -144,12 +152,18 @@ fn all_refused(random: &mut Random, bytes: &[u8], tags: &[u8], own: &State, refu
     ensure(found == Err(refusal), || with(&format!("query said {found:?}")))?;
     kept(&lent, "query")?;
     let nodes: Vec<u16> = (0..random.below(4)).map(|_| random.below(9) as u16).collect();
-    let found = run(bytes, tags, &mut lent, &nodes)?;
-    ensure(found == (0, Some(refusal)), || with(&format!("run said {found:?}")))?;
+    let noise = random.number() as usize;
+    let mut count = noise;
+    let found = run(bytes, tags, &mut lent, &nodes, &mut count)?;
+    ensure(found == Some(refusal), || with(&format!("run said {found:?}")))?;
+    ensure(count == noise, || with(&format!("run made a count of {noise} {count}")))?;
     kept(&lent, "run")?;
     let budget = random.pick(&[0, 1, 7, u32::MAX]);
-    let found = drive(bytes, tags, &mut lent, budget)?;
+    let noise = random.number() as u32;
+    let mut count = noise;
+    let found = drive(bytes, tags, &mut lent, budget, &mut count)?;
     ensure(found == Err(refusal), || with(&format!("drive said {found:?}")))?;
+    ensure(count == noise, || with(&format!("drive made a count of {noise} {count}")))?;
     kept(&lent, "drive")?;
     for node in [0, 1, u16::MAX] {
         let wanted = circuit::step(bytes, tags, &mut own.clone(), node);

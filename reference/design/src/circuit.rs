@@ -262,18 +262,18 @@ pub fn query(bytes: &[u8], tags: &[u8], state: &State) -> Result<Option<Node>, R
     Ok(lowest)
 }
 
-/// Asks for the listed steps up to the first refusal; tells the steps taken and that refusal.
-pub fn run_list(bytes: &[u8], tags: &[u8], state: &mut State, nodes: &[u16]) -> (usize, Option<Refusal>) {
-    let tree = match checked(bytes, tags, state) {
-        Ok(tree) => tree,
-        Err(refusal) => return (0, Some(refusal)),
-    };
+/// Steps that were taken, and the refusal that ended them.
+pub type Steps = (usize, Option<Refusal>);
+
+/// Asks for the listed steps up to the first refusal; tells the steps taken and that refusal, or why none was asked for.
+pub fn run_list(bytes: &[u8], tags: &[u8], state: &mut State, nodes: &[u16]) -> Result<Steps, Refusal> {
+    let tree = checked(bytes, tags, state)?;
     for (taken, node) in nodes.iter().enumerate() {
         if let Answer::Refused(refusal) = step_with(&tree, tags, state, *node) {
-            return (taken, Some(refusal));
+            return Ok((taken, Some(refusal)));
         }
     }
-    (nodes.len(), None)
+    Ok((nodes.len(), None))
 }
 
 /// Takes possible steps up to the budget; tells how many, and why it ended.

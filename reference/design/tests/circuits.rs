@@ -153,7 +153,7 @@ fn order_of_the_refusals() {
     assert_eq!(ask(&[0], 1), Answer::Refused(refused(24, 0)));
     let mut far = state.clone();
     far.functions[1].occupant = Node(4);
-    assert_eq!(run_list(&bytes, &[0], &mut far, &[]), (0, Some(refused(24, 0))));
+    assert_eq!(run_list(&bytes, &[0], &mut far, &[]), Err(refused(24, 0)));
     assert_eq!(run_budget(&bytes, &[0], &mut far, 0), Err(refused(24, 0)));
     assert_eq!(query(&bytes, &[0], &far), Err(refused(24, 0)));
     far.functions[1].occupant = Node(3);

@@ -66,17 +66,17 @@ fn beside_with_other_tags() {
         let mut state = State::zero();
         start(&bytes, &tags, &[4], &mut state).expect("a start");
         let refusal = Refusal { number, place: Node(5) };
-        assert_eq!(run_list(&bytes, &tags, &mut state, &[2, 3, 5, 4, 6, 3, 5]), (6, Some(refusal)));
+        assert_eq!(run_list(&bytes, &tags, &mut state, &[2, 3, 5, 4, 6, 3, 5]), Ok((6, Some(refusal))));
         let before = state.clone();
         assert_eq!(step(&bytes, &tags, &mut state, 5), Answer::Refused(refusal));
         assert!(state == before);
         assert_eq!(state.functions[0].occupant, Node(3));
         // The rest of the twelve steps, with the wait in between.
-        assert_eq!(run_list(&bytes, &tags, &mut state, &[1, 3, 5, 1, 5]), (5, None));
+        assert_eq!(run_list(&bytes, &tags, &mut state, &[1, 3, 5, 1, 5]), Ok((5, None)));
         assert_eq!(step(&bytes, &tags, &mut state, 2), Answer::Answered(4));
-        assert_eq!(run_list(&bytes, &tags, &mut state, &[]), (0, None));
+        assert_eq!(run_list(&bytes, &tags, &mut state, &[]), Ok((0, None)));
         let past = Refusal { number: 20, place: Node(1) };
-        assert_eq!(run_list(&bytes, &tags, &mut state, &[1]), (0, Some(past)));
+        assert_eq!(run_list(&bytes, &tags, &mut state, &[1]), Ok((0, Some(past))));
     }
 }
 

@@ -329,9 +329,12 @@ impl<'a> Runner<'a> {
 
     #[inline(always)]
     fn push(&mut self, top: &mut usize, at: usize) {
-        self.stack[*top % MOST_NODES] = at as u16;
-        *top += usize::from(self.modes[at] & QUEUED == 0);
-        self.modes[at] |= QUEUED;
+        // A branch, which is well foreseen, so that the next step need not wait for the mode.
+        if self.modes[at] & QUEUED == 0 {
+            self.stack[*top % MOST_NODES] = at as u16;
+            *top += 1;
+            self.modes[at] |= QUEUED;
+        }
     }
 
     #[inline(always)]

@@ -7,13 +7,26 @@ use numbers::{MOST_FUNCTIONS, MOST_NODES};
 use crate::check::{survey, Survey};
 use crate::{first, next, Parts};
 
+const WORDS: usize = MOST_NODES / 64;
+
 /// Call nodes, node n at bit n - 1.
-type Calls = [u64; MOST_NODES / 64];
+type Calls = [u64; WORDS];
 
 /// Functions, f at bit f - 1.
 type Functions = u32;
 
-const NO_CALLS: Calls = [0; MOST_NODES / 64];
+const NO_CALLS: Calls = [0; WORDS];
+
+/// By word: all of it and nothing else.
+static FULL_AT: [Calls; WORDS] = {
+    let mut sets = [NO_CALLS; WORDS];
+    let mut at = 0;
+    while at < WORDS {
+        sets[at][at] = u64::MAX;
+        at += 1;
+    }
+    sets
+};
 
 /// The same answer and the same tags as `list`.
 pub fn list_by_sets(table: &[u8], tags: &mut [u8; 64]) -> u32 {
@@ -33,7 +46,8 @@ struct Walk<'a> {
     /// The function whose body is walked.
     function: usize,
     /// Of each body walked: the calls that may happen in it, and their callees.
-    bodies: [(Calls, Functions); MOST_FUNCTIONS + 1],
+    bodies: [Calls; MOST_FUNCTIONS + 1],
+    callees: [Functions; MOST_FUNCTIONS + 1],
     /// Of each function the calls of it that were met, no self calls.
     sites: [Calls; MOST_FUNCTIONS + 1],
     listed: Calls,
@@ -44,7 +58,8 @@ impl Walk<'_> {
         let mut walk = Walk {
             parts,
             function: 0,
-            bodies: [(NO_CALLS, 0); MOST_FUNCTIONS + 1],
+            bodies: [NO_CALLS; MOST_FUNCTIONS + 1],
+            callees: [0; MOST_FUNCTIONS + 1],
             sites: [NO_CALLS; MOST_FUNCTIONS + 1],
             listed: NO_CALLS,
         };
@@ -52,8 +67,8 @@ impl Walk<'_> {
         for function in 1..=parts.functions() {
             walk.function = function;
             let mut calls = NO_CALLS;
-            let callees = walk.node(parts.root(function), &mut calls);
-            walk.bodies[function] = (calls, callees);
+            walk.callees[function] = walk.node(parts.root(function), &mut calls);
+            walk.bodies[function] = calls;
         }
         walk.listed
     }
@@ -72,7 +87,7 @@ impl Walk<'_> {
                 LET => body = self.last(child),
                 IF => {
                     let then = next(self.parts.record(child));
-                    callees |= self.node(child, calls) | self.node(then, calls);
+                    callees |= self.part(child, calls) | self.part(then, calls);
                     node = next(self.parts.record(then));
                     continue;
                 }
@@ -84,7 +99,7 @@ impl Walk<'_> {
             if next(self.parts.record(child)) != body {
                 callees |= self.side_by_side(child, body, calls);
             } else if body != 0 {
-                callees |= self.node(child, calls);
+                callees |= self.part(child, calls);
             } else {
                 body = child;
             }
@@ -93,6 +108,14 @@ impl Walk<'_> {
             }
             node = body;
         }
+    }
+
+    /// The same where a leaf is likely, which is not worth a round.
+    fn part(&mut self, node: usize, calls: &mut Calls) -> Functions {
+        if is_leaf(self.parts.record(node)[0]) {
+            return 0;
+        }
+        self.node(node, calls)
     }
 
     fn last(&self, mut child: usize) -> usize {
@@ -120,16 +143,19 @@ impl Walk<'_> {
             child = next(record);
         }
         if callees != 0 {
-            if shared != 0 {
-                self.list(&own, shared);
-            }
             join(calls, &own);
+            if shared != 0 {
+                self.list(&own, callees, shared);
+            }
         }
         callees
     }
 
-    /// Lists those of the calls whose callee two of the parts share.
-    fn list(&mut self, calls: &Calls, mut shared: Functions) {
+    /// Lists those of the calls whose callee two of the parts share: all of them, if every callee is shared.
+    fn list(&mut self, calls: &Calls, callees: Functions, mut shared: Functions) {
+        if shared == callees {
+            return join(&mut self.listed, calls);
+        }
         let mut sites = NO_CALLS;
         while shared != 0 {
             join(&mut sites, &self.sites[shared.trailing_zeros() as usize + 1]);
@@ -145,13 +171,12 @@ impl Walk<'_> {
             return 0;
         }
         let (at, bit) = ((node - 1) / 64, 1 << ((node - 1) % 64));
-        let (below, callees) = &self.bodies[callee];
         // All words in one way: reading them together right after one was written alone is slow.
-        for (word, (call, below)) in calls.iter_mut().zip(below).enumerate() {
-            *call |= below | if word == at { bit } else { 0 };
+        for ((call, below), full) in calls.iter_mut().zip(&self.bodies[callee]).zip(&FULL_AT[at]) {
+            *call |= below | full & bit;
         }
         self.sites[callee][at] |= bit;
-        callees | 1 << (callee - 1)
+        self.callees[callee] | 1 << (callee - 1)
     }
 }
 
