@@ -3,6 +3,7 @@ mod circuits;
 mod codes;
 
 use list::Listing;
+use list::Record;
 use table::Checked;
 ghost use mathlib.Core.Path.{_≡_};
 ghost use Rattle.table.specs.Check.{checkOf};
@@ -11,7 +12,7 @@ ghost use Prim.Native.Nat.{_%_, _^_, _<_};
 ghost use lib.ListN.{length, getD};
 ghost use Rattle.list.specs.Tags.{checkWith, fillVerdict, filledTags, bitsSet};
 ghost use Rattle.exports.specs.Codes.{codeOf, valueCode, recordCode, itemOf, itemCode};
-ghost use Rattle.list.specs.Records.{noRecord};
+ghost use Rattle.list.specs.Records.{noRecord, recordsVerdict, filledRecords};
 
 // 0 for accepted, else the refusal's number * 65536 + its place.
 fn code(c: Checked) -> u32
@@ -67,6 +68,16 @@ pub extern "C" fn list_record(bytes: &[u8], index: usize) -> u64
         Checked::Refused(number, place) => codes::refusal(number, place),
         Checked::Accepted(_, _) => { if index < l.count { packed(l, index) } else { 0 } }
     }
+}
+
+// Fills a lent record list with the arbiter list; 10 where it is shorter, and records past the list keep their content.
+#[no_mangle]
+pub extern "C" fn list_fill_records(bytes: &[u8], records: &mut [Record]) -> u32
+    ensures { λ r. ⌜ (r ≡ codeOf (recordsVerdict (now (bytes .entry)) (length (now (records .entry)))))
+        × (now (records .exit) ≡ filledRecords (now (bytes .entry)) (now (records .entry))) ⌝ }
+{
+    let checked = list::fill_records(bytes, records);
+    code(checked)
 }
 
 fn packed(l: Listing, index: usize) -> u64
