@@ -1,3 +1,6 @@
 pub mod Records
 pub mod Told
 pub mod Apart
+pub mod Ranges
+pub mod CircuitRanges
+pub mod Theorems

@@ -1,5 +1,5 @@
 -- the circuit's answers as one number, and what each of its C functions returns and leaves
-use Prim.Native.Nat.{ℕ, _<_}
+use Prim.Native.Nat.{ℕ}
 use mathlib.Core.Path.{_≡_}
 use mathlib.Core.List.{List}
 use Rattle.rules.specs.State.{State512}
@@ -33,33 +33,6 @@ endedCode atRest = 0
 endedCode (gave v) = valueCode v
 endedCode (barred number place) = refusalCode number place
 endedCode spent = 12884901888
-
--- what the circuit's answers hold: refusals by a byte and a 16-bit place, values of 32 bits; within this the numbers are all apart
-abbrev pub Refusable : (number place : ℕ) → Type 0
-Refusable number place = (number < 256) × (place < 65536)
-
-abbrev pub Valued : ℕ → Type 0
-Valued v = v < 4294967296
-
-abbrev pub FitsReply : Reply → Type 0
-FitsReply taken = Unit {0}
-FitsReply (answered v) = Valued v
-FitsReply (denied number place) = Refusable number place
-
-abbrev pub FitsFound : Found → Type 0
-FitsFound nothing = Unit {0}
-FitsFound (names n) = Valued n
-FitsFound (unasked number place) = Refusable number place
-
-abbrev pub FitsHalt : Halt → Type 0
-FitsHalt whole = Unit {0}
-FitsHalt (stopped number place) = Refusable number place
-
-abbrev pub FitsEnded : Ended → Type 0
-FitsEnded atRest = Unit {0}
-FitsEnded (gave v) = Valued v
-FitsEnded (barred number place) = Refusable number place
-FitsEnded spent = Unit {0}
 
 -- what each C function returns and leaves in the state that it was lent: of a start x asked for in state s
 pub record StartTold (x : Started) (s : State512) (r : ℕ) (s′ : State512) : Type 0 where

@@ -212,7 +212,7 @@ start-fits : (F : ℕ) (body : ℕ → Expr) (args : List ℕ) → Words args �
 unfolding circuitStart
 start-fits F body args w = record { value = blank-words 512; registers = fill-words F args (blank 256 0) w (blank-words 256) }
 
-plays-fit : (t : List ℕ) → Bytes t → (s : State512) → Fits s → (asked : List (Ask (List ℕ))) → Fits (played (stepOf t) s asked .state)
+pub plays-fit : (t : List ℕ) → Bytes t → (s : State512) → Fits s → (asked : List (Ask (List ℕ))) → Fits (played (stepOf t) s asked .state)
 plays-fit t b s fits [] = fits
 plays-fit t b s fits (a ∷ rest) = plays-fit t b (stepOf t (a .tags) s (a .node) .state) (step-fits t (a .tags) b s fits (a .node)) rest
 

@@ -15,9 +15,11 @@ use prog.Wp.{Heap, Calls, Loops, WpFn, Tables}
 use ghost.Atoms.{Atoms, sem}
 use contract.Monad.{Fun, fact}
 use contract.Running.{givenOf, tables, tablesOf}
-use types.Kit.{Given, Item, ‵, raw, _⊛_, ⋆, some, later, _$_, _∵_, !, qed, by, move, keep, drop, use1, use2, split, join, pick, fsplit, fjoin, feqL}
+use types.Kit.{Given, Item, ‵, raw, _⊛_, ⋆, some, later, _$_, _∵_, !, qed, by, move, keep, drop}
+use types.Kit.{use1, use2, split, join, pick, fsplit, fjoin, feqL}
 use types.Kit.{suffices, frame, await, done}
-use types.Run.{look, init, forget, stop, hop, fld, from, load, addr, and-then, no-more, assigns, land, returns, enter, alloc1, alloc0, params1}
+use types.Run.{look, init, forget, stop, hop, fld, from, load, addr, and-then, no-more, assigns}
+use types.Run.{land, returns, enter, alloc1, alloc0, params1}
 use types.Run.{pass1, pass0, free1, free0}
 use types.Part.{agg, whole, sub, look-in}
 use sound.WpLaws.{FmC, fmOf, WpFn-mono}
@@ -26,7 +28,8 @@ use denote.Laws.{Is, shows}
 use denote.Plain.{uint-lawful}
 use denote.Builtin.{u8, u32}
 use denote.Ref.{RefT, now}
-use denote.Slice.{sliceVal, ShrSlice, MutSlice, Room, finally, slice-vals, shr-slice-lawful, shr-slice-copy, mut-slice-tells, shr-slice-tells}
+use denote.Slice.{sliceVal, ShrSlice, MutSlice, Room, finally, slice-vals}
+use denote.Slice.{shr-slice-lawful, shr-slice-copy, mut-slice-tells, shr-slice-tells}
 use denote.Signature.{plain}
 use denote.Steps.{peeks, heard, nothing}
 use denote.Enum.Laws as EL
@@ -38,7 +41,8 @@ use denote.Triple.Clauses.{ensured, lasts}
 use denote.Triple.Entry.{onEntry}
 use denote.Triple.Spec.{Meets, tripleOf}
 use denote.Triple.Table.{entered, cited}
-use denote.Triple.Walked.{says, Stays, stay-none-slice, gave-slice, walkOf, Walks, ends-at, walked, goes-none-slice, goes-gave-slice, walk-meets}
+use denote.Triple.Walked.{says, Stays, stay-none-slice, gave-slice, walkOf, Walks, ends-at}
+use denote.Triple.Walked.{walked, goes-none-slice, goes-gave-slice, walk-meets}
 use Rattle.table.specs.declared.Checked.{Checked}
 use Rattle.table.specs.Survey.{verdictOf}
 use Rattle.table.proofs.Checked as S
@@ -124,7 +128,8 @@ module _ {M : Type 1} (𝓤 : URA M) (H : Heap 𝓤) (A : Atoms 𝓤) (W : Given
   to-told c v = ((tt, tt, tt, (c, tt), (v ∷ [], tt)), tt)
 
   goes-told : (c : Checked) (v : Val) → ent 𝓤 (sem 𝓤 H A (S.the-row .own c (v ∷ []))) (Told 𝓤 H A mem run .pre (to-told c v))
-  goes-told c v = qed W (‵ (S.the-row .own c (v ∷ [])) ∷ []) ∵ nothing ! $ move ! (1 ∷ 0 ∷ []) $ join ! $ nothing ! $ join ! $ frame ! $ done !
+  goes-told c v =
+      qed W (‵ (S.the-row .own c (v ∷ [])) ∷ []) ∵ nothing ! $ move ! (1 ∷ 0 ∷ []) $ join ! $ nothing ! $ join ! $ frame ! $ done !
 
   exits : (c : Checked) (zs : List Record) (r : ℕ) (v : Val) → Filled c zs → length zs ≡ len → r ≡ codeOf (verdictOf c)
       → ent 𝓤 (⋆ 𝓤 H A (‵ (u32 .own r (v ∷ [])) ∷ ‵ (finally T.the-row γ zs) ∷ Toks ∷ ‵ Tab ∷ [])) (Post v)
@@ -137,7 +142,8 @@ module _ {M : Type 1} (𝓤 : URA M) (H : Heap 𝓤) (A : Atoms 𝓤) (W : Given
 
   module _ (C : Calls 𝓤 H) (Λ : Loops 𝓤 H) (fm : FmC 𝓤 H (W .laws) C) (known-fill : Triple 𝓤 (C #list·fill-records) (Fill 𝓤 H A mem run))
       (known-told : Triple 𝓤 (C #exports·code) (Told 𝓤 H A mem run)) where
-    walk : Is (ShrSlice (named 0) κ₀ u8) s (sv ∷ []) → Room T.the-row len → ent 𝓤 (onEntry 𝓤 H A own.signature (κ₀, (κ, tt)) (q₀, (q, tt)) x at)
+    walk : Is (ShrSlice (named 0) κ₀ u8) s (sv ∷ []) → Room T.the-row len
+        → ent 𝓤 (onEntry 𝓤 H A own.signature (κ₀, (κ, tt)) (q₀, (q, tt)) x at)
         (WpFn 𝓤 H C Λ code.function (sv ∷ sliceVal (b, o) len ∷ []) Post)
     walk gs gn =
         qed W (Toks ∷ ‵ Both ∷ []) ∵ enter ! C Λ code.function (sv ∷ sliceVal (b, o) len ∷ []) _ $
@@ -145,7 +151,8 @@ module _ {M : Type 1} (𝓤 : URA M) (H : Heap 𝓤) (A : Atoms 𝓤) (W : Given
         pass1 ! (init ! 8 refl (shr-slice-lawful 𝓤 H A W (named 0) κ₀ u8 .typed s _ gs .0)) $
         pass1 ! (init ! 6 refl (tt, (tt, (record { fits = gn .0 }, tt)))) $ pass0 ! $
         -- the records' reference as it is passed on
-        assigns ! (addr ! (from ! (fld ! refl (hop ! (look-in ! 6 (sub ! 0 refl (whole !))) (stop !))))) (from ! (stop !)) (init ! 2 refl (tt, tt)) $
+        assigns ! (addr ! (from ! (fld ! refl (hop ! (look-in ! 6 (sub ! 0 refl (whole !))) (stop !))))) (from ! (stop !))
+        (init ! 2 refl (tt, tt)) $
         assigns ! (agg ! (and-then ! (load ! (from ! (stop !)) (look ! 2 refl)) (and-then ! (load ! (from ! (fld ! refl (stop !)))
         (look-in ! 6 (sub ! 1 refl (whole !)))) (no-more !)))) (from ! (stop !)) (init ! 0 refl (tt, (tt, (record { fits = gn .0 }, tt)))) $
         -- what the table's reference owns is had twice: for the call, and for the end
@@ -164,7 +171,8 @@ module _ {M : Type 1} (𝓤 : URA M) (H : Heap 𝓤) (A : Atoms 𝓤) (W : Given
         move ! (3 ∷ []) $ split ! $ move ! (1 ∷ []) $ peeks ! S.the-row (Is S.the-row) (shows 𝓤 H A S.the-row) c (v ∷ []) (λ is.
         land ! (from ! (stop !)) (init ! 10 refl (EL.lawful S.the-type S′.the-laws 𝓤 H A W tt .typed c _ is .0)) $
         use1 W (raw (Told 𝓤 H A mem run .pre (to-told c v))) (goes-told c v) $
-        calls-at ! fm (Told 𝓤 H A mem run) known-told (to-told c v) (and-then ! (load ! (from ! (stop !)) (look ! 10 refl)) (no-more !)) (λ u.
+        calls-at ! fm (Told 𝓤 H A mem run) known-told (to-told c v)
+        (and-then ! (load ! (from ! (stop !)) (look ! 10 refl)) (no-more !)) (λ u.
         use1 W (later (some (λ (r : ℕ). (‵ ftrue ⊛ ‵ (u32 .own r (u ∷ [])))
         ⊛ raw (ensured 𝓤 H A told.ended (told.clauses 𝓤 H A mem run) tt (c, tt) tt r)))) (id⊢ 𝓤 _) $ await ! tt $ pick ! (λ r.
         split ! $ move ! (1 ∷ []) $ use1 W (raw (fact 𝓤 (r ≡ codeOf (verdictOf c)))) (said-told 𝓤 H A mem run c r) $
