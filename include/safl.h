@@ -26,7 +26,7 @@ enum {
 };
 
 /* An answer of 32 bits is 0, or a refusal: number * 65536 + place.
-   An answer of 64 bits has its kind in the upper half, and a value or a refusal in the lower. */
+   An answer of 64 bits, but that of list_total, has its kind in the upper half, and a value or a refusal in the lower. */
 enum {
     SAFL_PLAIN = 0,   /* started, taken, the whole list, at rest, none: as the function says; the lower half is 0 */
     SAFL_VALUE = 1,   /* the lower half is a value */
@@ -64,13 +64,14 @@ struct safl_record {
     uint16_t node;
 };
 
-/* Fills the tags: bit (n - 1) % 8 of byte (n - 1) / 8 is set where node n needs an arbiter. 0; or a refusal, the tags as they were. */
+/* Fills the tags: bit (n - 1) % 8 of byte (n - 1) / 8 becomes 1 where node n needs an arbiter, every other bit 0. 0; or a refusal, the tags
+   as they were: 10 at place 0 where their number is not (N + 7) / 8. */
 uint32_t list_fill_tags(const uint8_t *table, size_t table_len, uint8_t *tags, size_t tags_len);
 
 /* 0 for tags that fit the table, or a refusal. They need not be its own list. */
 uint32_t list_check_tags(const uint8_t *table, size_t table_len, const uint8_t *tags, size_t tags_len);
 
-/* How many bits are set: of a table's own list, how many records it has. */
+/* How many bits are set, modulo 2^64: of a table's own list, how many records it has. */
 uint64_t list_total(const uint8_t *tags, size_t tags_len);
 
 /* Record number `index`, from 0, ordered by callee, then node. SAFL_PLAIN: past the last; SAFL_VALUE: callee * 2^24 + caller * 2^16 + node;
@@ -81,7 +82,8 @@ uint64_t list_record(const uint8_t *table, size_t table_len, size_t index);
    10 at place 0 where fewer are lent than the list has. */
 uint32_t list_fill_records(const uint8_t *table, size_t table_len, struct safl_record *records, size_t records_len);
 
-/* ---- The circuit under a tag list. Refusals 1 to 10 of table and tags come first, then 11, 12, 20 to 24. */
+/* ---- The circuit under a tag list. Refusals 1 to 10 of table and tags come first; then 11 of a start; 12, 24, 20, and 21, 22 or 23 of a
+   step; 24 of a query and of a run, whose steps follow. */
 
 /* A circuit's state: five arrays, each lent by itself. Node n is at n - 1; the registers of function f are at 8 * (f - 1) to 8 * f - 1, its
    occupant is at f - 1. A start fills all of it; before one, zeros will do. */

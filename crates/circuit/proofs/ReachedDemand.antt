@@ -61,15 +61,17 @@ module _ (t tags args : List ℕ) (holds : Holding t tags) where
         let w : playOf t tags s₀ all .nodes ≡ steps ++ noted (replyOf (r .answer)) n [] =
         next-nodes t tags s₀ steps n ∙ (λ i. x .taken i ++ noted (u i .answer) n []) in
         let alone = taken-alone t tags s₀ all in
+        let there : Reached t tags args (steps ++ noted (replyOf (r .answer)) n []) (r .state) = record {
+          first = s₀;
+          start = x .start;
+          taken = subst (λ l. playOf t tags s₀ l .nodes ≡ l) w (alone .nodes);
+          state = ap (λ l. playOf t tags s₀ l .state) (sym w) ∙ alone .state ∙ next-state t tags s₀ steps n
+              ∙ ap (λ z. z .state) u;
+        } in
         record {
           arbitrated = λ place q. never-held t tags args s₀ (x .start) holds steps n place (ap (λ z. z .answer) u ∙ q);
-          reached = record {
-            first = s₀;
-            start = x .start;
-            taken = subst (λ l. playOf t tags s₀ l .nodes ≡ l) w (alone .nodes);
-            state = ap (λ l. playOf t tags s₀ l .state) (sym w) ∙ alone .state ∙ next-state t tags s₀ steps n
-                ∙ ap (λ z. z .state) u;
-          };
+          reached = there;
+          demand = state-demand _ (r .state) there;
           right = λ v q. subst (ReadsTo t args v) (ap length w ∙ ap (λ a. length (steps ++ noted a n [])) q ∙ length-append steps (n ∷ []))
               (Demands.demand t tags args s₀ (x .start) holds all .right v
               (subst (λ a. In a (playOf t tags s₀ all .answers)) (ap (λ z. z .answer) u ∙ q) (next-answer t tags s₀ steps n)));

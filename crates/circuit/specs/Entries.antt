@@ -48,7 +48,7 @@ abbrev pub Takes : (t tags : List ℕ) → State → ℕ → Type 0
 Takes t tags s n = Possible t tags (listsOf s) n
     × ((r : Stepped) → steppedOf r ≡ stepOf t tags (listsOf s) n → IsTaken (replyOf (r .answer)))
 
--- s is what an entry returned after a start with these arguments, and `steps` are the steps taken since, by whichever entries
+-- s is the state that `steps`, all of them taken, lead to from a start with these arguments, by whichever entries
 pub record Reached (t tags args steps : List ℕ) (s : State) : Type 0 where
   pub first : State512
   pub start : startOf t tags args ≡ started first
@@ -93,6 +93,7 @@ pub record StateDemand (t tags args steps : List ℕ) (s : State) : Type 0 where
 pub record StepEntry (t tags args steps : List ℕ) (n : ℕ) (r : Stepped) : Type 0 where
   pub arbitrated : (place : ℕ) → replyOf (r .answer) ≡ denied 23 place → ⊥
   pub reached : Reached t tags args (steps ++ noted (replyOf (r .answer)) n []) (r .state)
+  pub demand : StateDemand t tags args (steps ++ noted (replyOf (r .answer)) n []) (r .state)
   pub right : (v : ℕ) → replyOf (r .answer) ≡ answered v → ReadsTo t args v (length steps + 1)
 
 -- of a run over ms

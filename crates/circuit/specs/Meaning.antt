@@ -44,7 +44,7 @@ listsOf s = record {
   occupant = numbers (s .occupant);
 }
 
--- "taken, answered with main's value, refused with number and place"
+-- a step's answer, case by case
 abbrev pub replyOf : Answer → Reply
 replyOf Answer.Taken = taken
 replyOf (Answer.Answered v) = answered v
@@ -75,7 +75,7 @@ pub record StartedAs (old : State) (r : StartedCode) (x : Started) : Type 0 wher
   pub answer : startedOf r ≡ x
   pub state : listsOf (r .state) ≡ stateOf x (listsOf old)
 
--- "the steps taken and that refusal, if any"
+-- how a run over a list ended, case by case
 abbrev pub haltOf : HaltCode → Halt
 haltOf HaltCode.Whole = whole
 haltOf (HaltCode.Refused k p) = stopped k (p .0)
@@ -90,7 +90,7 @@ pub record RanLent (t tags : List ℕ) (s : State512) (ns : List ℕ) (old : ℕ
   pub state : s′ ≡ runOf t tags s ns .state
   pub count : k ≡ ifAccepted (standing t tags s) (runOf t tags s ns .steps) old
 
--- "answered .., at rest .., or spent"
+-- how a run with a budget ended, case by case
 abbrev pub endedOf : EndedCode → Ended
 endedOf (EndedCode.Answered v) = gave v
 endedOf EndedCode.AtRest = atRest
@@ -106,7 +106,7 @@ pub record DrivenLent (t tags : List ℕ) (s : State512) (budget old : ℕ) (e :
   pub drives : Drives t tags s budget (record { steps = steps; ended = endedOf e; state = s′ })
   pub count : k ≡ ifAccepted (standing t tags s) steps old
 
--- "a possible step, any one, or none"
+-- what a query found, case by case
 abbrev pub foundOf : FoundCode → Found
 foundOf (FoundCode.Possible n) = names (n .0)
 foundOf FoundCode.Nothing = nothing

@@ -1,5 +1,5 @@
--- an answer as one number: of a check 0 for accepted, else the refusal's number * 65536 + its place; of what has more answers than these
--- two, which of them it is * 2^32 + the value, node, record or refusal that goes with it
+-- an answer as one number: of a check, and of what is filled, 0 or the refusal's number * 65536 + its place; of `list_record` and of the
+-- circuit's functions the kind of the answer * 2^32 + the value, node, record or refusal that goes with it
 use Prim.Native.Nat.{ℕ, _+_, _*_}
 use mathlib.Core.List.{List}
 use lib.Dec.{ltb}

@@ -77,13 +77,15 @@ pub record NumbersTell : Type 0 where
   pub halts : Tells haltCode FitsHalt
   pub ends : Tells endedCode FitsEnded
 
--- whatever is handed in: a table is bytes and a state's values are words, as C's types have it
+-- whatever is handed in: a table is bytes and a state's values are words, as C's types have it; `list_total` answers its number itself
 pub record AnswersFit (t tags : List ℕ) (s : State512) : Type 0 where
+  -- table_check, list_check_tags, list_fill_tags, list_fill_records, list_record
   pub check : FitsVerdict (checkOf t)
   pub with-tags : FitsVerdict (checkWith t tags)
   pub filled : (len : ℕ) → FitsVerdict (fillVerdict t len)
   pub records : (len : ℕ) → FitsVerdict (recordsVerdict t len)
   pub item : (i : ℕ) → FitsItem (itemOf t i)
+  -- circuit_start, circuit_step, circuit_query, circuit_run, circuit_drive
   pub start : (args : List ℕ) → FitsVerdict (verdictOfStart (startOf t tags args))
   pub step : Bytes t → Fits s → (n : ℕ) → FitsReply (stepOf t tags s n .answer)
   pub query : (f : Found) → Finds t tags s f → FitsFound f

@@ -1,4 +1,4 @@
-// The entries as C functions on numbers, slices and arrays, for tests and benchmarks in Rust.
+// The entries as C functions on numbers, slices and arrays, for C and Rust; include/safl.h declares them.
 mod circuits;
 mod codes;
 
@@ -57,7 +57,7 @@ pub extern "C" fn list_total(tags: &[u8]) -> u64
     list::total(tags)
 }
 
-// Record i of the arbiter list, from 0; 0 past the last.
+// Record i of the arbiter list, from 0; 0 past the last; a refusal where the table is refused.
 #[no_mangle]
 pub extern "C" fn list_record(bytes: &[u8], index: usize) -> u64
     ensures { λ r. ⌜ r ≡ itemCode (itemOf (now (bytes .entry)) index) ⌝ }

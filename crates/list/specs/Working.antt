@@ -200,7 +200,7 @@ pub record Sided (t : List ℕ) (f n : ℕ) (defs : Bool) (r : Siblings) (set se
 unfoldable pub restAt : List ℕ → (f n : ℕ) → List Record
 restAt t f n = callsFrom t f (nodes t - n) (n + 1) ++ recordsFrom t (functions t - f) (f + 1)
 
--- the records after r are l
+-- the records past the place of r are l
 pub record Follow (t : List ℕ) (r : Record) (l : List Record) : Type 0 where
   pub within : r .callee .0 ≤ functions t
   pub rest : restAt t (r .callee .0) (r .node .0) ≡ l
@@ -218,6 +218,7 @@ pub record Tagging (t cells set : List ℕ) : Type 0 where
 abbrev pub offered : List ℕ → ℕ → List Record
 offered t len = ifAccepted (recordsVerdict t len) (recordsOf t) []
 
+-- the tag bits for a list of len records: what it is told, as many bits set as it gets records, and the bits are the list's
 pub record Marks (t : List ℕ) (len : ℕ) (m : Marked) : Type 0 where
   pub told : verdictOf (m .checked) ≡ recordsVerdict t len
   pub many : m .count ≡ length (offered t len)

@@ -18,7 +18,7 @@ pub data Started : Type 0 where
   started : State512 → Started
   turned : (number place : ℕ) → Started
 
--- "start checks the table, tags, 11": "argument count isn't main's parameter count"
+-- what a start looks at: the table, its tags, then 11, one argument for each of main's parameters
 unfoldable pub checkStart : List ℕ → List ℕ → List ℕ → Verdict
 checkStart t tags args = after (checkWith t tags) λ _.
     stage 11 (eqb (length args) (params t (functions t))) 0 λ _.
@@ -31,7 +31,7 @@ startAfter (refused number place) s = turned number place
 unfoldable pub startOf : (t tags args : List ℕ) → Started
 startOf t tags args = startAfter (checkStart t tags args) (circuitStart (functions t) (bodyOf t) args)
 
--- the state after a start that was asked for in the state `old`: "The state is unchanged by a refusal"
+-- the state after a start that was asked for in the state `old`: refused, it is `old`
 abbrev pub stateOf : Started → State512 → State512
 stateOf (started s) old = s
 stateOf (turned number place) old = old
@@ -48,15 +48,15 @@ unfoldable pub stepAfter : Verdict → State512 → Stepped → Stepped
 stepAfter (accepted F N) s r = r
 stepAfter (refused number place) s r = refusal s number place
 
--- "A step checks the table, tags, 12, 24, 20, then 21 to 23"
+-- a step asked at n in state s: the table and its tags, then what the circuit says
 unfoldable pub stepOf : (t tags : List ℕ) → State512 → ℕ → Stepped
 stepOf t tags s n = stepAfter (checkWith t tags) s (circuitOf t tags s n)
 
--- "Some step would be taken next if a step asked then at some node isn't refused"
+-- a step asked at n in state s would be taken
 abbrev pub Possible : (t tags : List ℕ) → State512 → ℕ → Type 0
 Possible t tags s n = IsTaken (stepOf t tags s n .answer)
 
--- steps asked one after the other, "its table being the table of every step", each with tags of its own
+-- steps asked one after the other, under one table and each with tags of its own
 unfoldable pub playsOf : (t : List ℕ) → State512 → List (Ask (List ℕ)) → Log
 playsOf t s asked = played (stepOf t) s asked
 

@@ -31,9 +31,9 @@ pub record Phases (x : Act) (f k : ℕ) : Type 0 where
   pub leaving : k % 3 ≡ 2 → (v : ℕ) × (x ≡ does (leaves f v))
   pub left : (g v : ℕ) → x ≡ does (leaves g v) → (k % 3 ≡ 2) × (g ≡ f)
 
--- under any tags, changing at every step, "its table being the table of every step"; s is the state of a start with these arguments
+-- under any tags, changing at every step, and the start's table at each; s is the state of a start with these arguments
 pub record UnderAnyTags (t args : List ℕ) (s : State512) (asked : List (Ask (List ℕ))) : Type 0 where
-  -- "entries to a function exceed its leavings by one while it is occupied and by none otherwise"
+  -- a function was entered once more than it was left while it has an occupant, else as often
   pub balance : (f : ℕ) → 1 ≤ f → f ≤ functions t → entriesOf t f (playsOf t s asked .nodes)
       ≡ leavingsOf t f (playsOf t s asked .nodes) + pick (eqb (entry (playsOf t s asked .state .occupant) 0 f) 0) 0 1
   -- the count and the rules agree: of the steps taken at a call, those that enter and those that leave
@@ -54,7 +54,7 @@ pub record UnderAnyTags (t args : List ℕ) (s : State512) (asked : List (Ask (L
   pub main-free : entry (playsOf t s asked .state .occupant) 0 (functions t) ≡ 0
   -- main's value and count are the reading's
   pub right : (v : ℕ) → Answers (playsOf t s asked) v → ReadsTo t args v (length (playsOf t s asked .nodes))
-  -- "where it never ends, main never answers"
+  -- without a reading there is no answer
   pub never : ((v k : ℕ) → ReadsTo t args v k → ⊥) → (v : ℕ) → Answers (playsOf t s asked) v → ⊥
   -- after the answer every step at a node is refused 20
   pub over : (v n F N : ℕ) (tags : List ℕ) → Answers (playsOf t s asked) v → 1 ≤ n → n ≤ nodes t → checkWith t tags ≡ accepted F N
@@ -77,7 +77,7 @@ abbrev pub AgreePast : (t : List ℕ) → State512 → State512 → Type 0
 AgreePast t s s′ = Agree (λ n. nodes t < n) (λ f. functions t < f) (view s) (view s′)
 
 -- a run over the list ms, after steps asked at the numbers `ns` from a start, and what it tells
--- "The steps of a run are such steps, and the number it tells is that of the steps taken in it"
+-- what it took are steps since the start like any others, as many as it tells
 pub record RunDemand (t tags : List ℕ) (s : State512) (ns ms : List ℕ) (r : Ran) : Type 0 where
   pub state : r .state ≡ playOf t tags s (ns ++ take (r .steps) ms) .state
   pub steps : playOf t tags s (ns ++ take (r .steps) ms) .nodes ≡ playOf t tags s ns .nodes ++ take (r .steps) ms
@@ -86,7 +86,7 @@ pub record RunDemand (t tags : List ℕ) (s : State512) (ns ms : List ℕ) (r : 
 -- a run with a budget, after steps asked at the numbers `ns` from a start; it picks the steps `picked`
 pub record DriveDemand (t tags args : List ℕ) (s : State512) (ns : List ℕ) (r : Driven) : Type 0 where
   pub picked : List ℕ
-  -- "The steps of a run are such steps, and the number it tells is that of the steps taken in it"
+  -- what it picked are steps since the start like any others, as many as it tells
   pub state : r .state ≡ playOf t tags s (ns ++ picked) .state
   pub steps : playOf t tags s (ns ++ picked) .nodes ≡ playOf t tags s ns .nodes ++ picked
   pub number : r .steps ≡ length picked
@@ -142,18 +142,18 @@ FitsFromStart = (t tags args : List ℕ) (s : State512) → startOf t tags args 
 
 -- of every state, also one that no start leads to
 pub record InAnyState (t tags : List ℕ) : Type 0 where
-  -- "A step ignores .. state entries past F and N": two states that agree up to them get one answer, and agree after it
+  -- two states that agree up to N and F get one answer from a step, and agree after it
   pub step-ignores : (s s′ : State512) → Sized s → Sized s′ → AgreeWithin t s s′ → (n : ℕ)
       → (stepOf t tags s n .answer ≡ stepOf t tags s′ n .answer) × AgreeWithin t (stepOf t tags s n .state) (stepOf t tags s′ n .state)
-  -- ".. and keeps" them
+  -- and a step keeps the entries past them
   pub step-keeps : (s : State512) → Sized s → (n : ℕ) → AgreePast t s (stepOf t tags s n .state)
-  -- "The state is unchanged by a refusal"
+  -- a refused step keeps the state
   pub refused-unchanged : (s : State512) (n k p : ℕ) → stepOf t tags s n .answer ≡ denied k p → stepOf t tags s n ≡ refusal s k p
   -- a step keeps a state of words
   pub step-fits : Bytes t → (s : State512) → Fits s → (n : ℕ) → Fits (stepOf t tags s n .state)
-  -- "once main's root is done the query says none"
+  -- a query says none once main is done
   pub query-over : (s : State512) (F N : ℕ) → standing t tags s ≡ accepted F N → MainDone t s → (r : Found) → Finds t tags s r → r ≡ nothing
-  -- "stops at the first refusal, and tells the steps taken and that refusal, if any", where table, tags and 24 are passed
+  -- where table, tags and 24 are passed, a run is a play up to its first refusal
   pub run-plays : (s : State512) (ns : List ℕ) (F N : ℕ) → standing t tags s ≡ accepted F N → RunPlays t tags s ns (runOf t tags s ns)
 
 -- query and runs after steps asked at the numbers ns from a start; s is the state of a start with these arguments

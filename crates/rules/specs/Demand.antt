@@ -12,16 +12,15 @@ use Rattle.rules.specs.Step.{answered, denied}
 use Rattle.rules.specs.Play.{Log}
 use Rattle.rules.specs.Circuit.{started, startOf, playOf, entriesOf, leavingsOf, Possible}
 
--- "Main has answered if a step of the list did, and its value is the one in that answer"
+-- some step of the list answered, with value v
 abbrev pub Answers : Log → ℕ → Type 0
 Answers l v = In (answered v) (l .answers)
 
--- "It is one claim about the whole list of steps": ns "may be empty or go on past the answer, and a step may be asked at any number,
--- 0 and above N too"; s is the state of a start with these arguments
+-- one claim about a whole list ns of asked numbers, any list of any numbers; s is the state of a start with these arguments
 pub record DemandThree (t tags args : List ℕ) (s : State512) (ns : List ℕ) : Type 0 where
   -- no step is refused 23: no call that waits at an occupied resource is without an arbiter
   pub arbitrated : (place : ℕ) → In (denied 23 place) (playOf t tags s ns .answers) → ⊥
-  -- "a resource's entries are never more than one above its leavings": after every prefix of the list
+  -- after every prefix of the list a resource was entered at most once more than it was left
   pub exclusive : (k f : ℕ) → 1 ≤ f → f ≤ functions t
       → entriesOf t f (playOf t tags s (take k ns) .nodes) ≤ leavingsOf t f (playOf t tags s (take k ns) .nodes) + 1
   -- main has answered, or "some step would be taken next"

@@ -1,4 +1,4 @@
--- the operations of a primitive (document 01, "The table"): "Values are 32-bit; add, subtract and double wrap modulo 2^32"
+-- the operations of a primitive (document 01, "The table") on 32-bit values
 use Prim.Native.Nat.{ℕ, _+_, _-_, _*_, _/_, _%_, _^_}
 use mathlib.Core.List.{List, [], _∷_}
 use lib.Bits.{bitAnd, bitOr, bitXor}
@@ -16,8 +16,7 @@ lastValue (v ∷ (w ∷ ws)) = lastValue (w ∷ ws)
 unfoldable pub wrap : ℕ → ℕ
 wrap x = x % 2 ^ 32
 
--- "0 add, 1 subtract, 2 and, 3 or, 4 xor, 8 equal, 9 less (two children each); 5 double, 6 halve, 7 low bit (one child); 10 beside";
--- "halve rounds down, equal and less (unsigned) give 1 or 0"
+-- by number: add, subtract, and, or, xor, double, halve, low bit, equal, less, beside; a comparison is of unsigned numbers, 1 or 0
 unfoldable pub operate : (operation : ℕ) → (values : List ℕ) → ℕ
 unfolding wrap
 operate op vs =

@@ -9,7 +9,7 @@ use Rattle.table.specs.Find.{total}
 use Rattle.rules.specs.State.{State512}
 use Rattle.rules.specs.Step.{Reply, taken, answered, denied, Stepped}
 
--- "A step is taken if it isn't refused; the one that answers is taken too"
+-- a step counts as taken unless it is refused
 abbrev pub IsTaken : Reply → Type 0
 IsTaken taken = Unit {0}
 IsTaken (answered v) = Unit {0}
@@ -62,7 +62,7 @@ calls (cond n a b c) f = false
 calls (bind n ds b) f = false
 calls (bound n d) f = false
 
--- "Of the steps taken since the start at any one call that is no self call": of k steps ..
+-- of k steps taken since the start at one call, no self call: ..
 abbrev pub enterings : ℕ → ℕ
 -- "the second, fifth and so on enter its callee"
 enterings k = (k + 1) / 3

@@ -16,12 +16,12 @@ pub data Outcome : Type 0 where
   val : ℕ → Outcome
   again : List ℕ → Outcome
 
--- "An if or let whose last part ended in a self call counts 2 instead of 3"
+-- an if or let counts 2, and 1 more unless its last part came to a self call
 abbrev pub last : Outcome → ℕ
 last (val v) = 1
 last (again vs) = 0
 
--- "An if takes "then" when the condition isn't 0": X if v is not 0, else Y
+-- by the value v of a condition: Y for 0, else X
 abbrev pub Chosen : Type 0 → Type 0 → ℕ → Type 0
 Chosen X Y zero = Y
 Chosen X Y (suc v) = X
@@ -42,7 +42,7 @@ module _ (apply : ℕ → List ℕ → ℕ) (K : Readings) (args : ℕ → ℕ) 
     Reads (prim n op es) ρ o k = (vs : List ℕ) × (j : ℕ) × Reads* es ρ vs j × (o ≡ val (apply op vs)) × (k ≡ 2 + j)
     -- "call 3 plus arguments plus the callee's body"
     Reads (call n g es) ρ o k = (vs : List ℕ) × (v j i : ℕ) × Reads* es ρ vs j × K g vs v i × (o ≡ val v) × (k ≡ 3 + j + i)
-    -- "self call 2 plus arguments, then the body again" (`Round`)
+    -- a self call: 2 and its arguments; the body again is counted in `Round`
     Reads (self n es) ρ o k = (vs : List ℕ) × (j : ℕ) × Reads* es ρ vs j × (o ≡ again vs) × (k ≡ 2 + j)
     -- "if and let 3 plus what was evaluated"
     Reads (cond n a b c) ρ o k = (v j i : ℕ) × Reads a ρ (val v) j × Chosen (Reads b ρ o i) (Reads c ρ o i) v × (k ≡ 2 + last o + j + i)
@@ -54,14 +54,14 @@ module _ (apply : ℕ → List ℕ → ℕ) (K : Readings) (args : ℕ → ℕ) 
     Reads* (some e es) ρ vs j = (v : ℕ) × (ws : List ℕ) × (i i′ : ℕ) × Reads e ρ (val v) i × Reads* es ρ ws i′ × (vs ≡ v ∷ ws)
         × (j ≡ i + i′)
 
--- "a self call that of its own function's root read anew": body e until it comes to a value
+-- body e, read again with the arguments of each self call until it comes to a value
 pub data Round (apply : ℕ → List ℕ → ℕ) (K : Readings) (e : Expr) : List ℕ → ℕ → ℕ → Type 0 where
   stops : {vs : List ℕ} {v k : ℕ} → Reads apply K (λ x. getD vs x 0) e (λ d. 0) (val v) k → Round apply K e vs v k
   goes : {vs : List ℕ} {v k : ℕ} (ws : List ℕ) (j i : ℕ) → Reads apply K (λ x. getD vs x 0) e (λ d. 0) (again ws) j
       → Round apply K e ws v i → k ≡ j + i → Round apply K e vs v k
 
 module _ (apply : ℕ → List ℕ → ℕ) (body : ℕ → Expr) where
-  -- "a call that of the callee's root read with the values of its arguments": the functions 1 to t, a callee being lower than its caller
+  -- the readings of the functions 1 to t, each by its body and those of its callees, which are lower
   abbrev pub readings : ℕ → Readings
   readings zero g vs v k = ⊥
   readings (suc t) g vs v k = mixed (ℕ-discrete g (suc t)) (Round apply (readings t) (body g) vs v k) (readings t g vs v k)
@@ -70,6 +70,6 @@ module _ (apply : ℕ → List ℕ → ℕ) (body : ℕ → Expr) where
 abbrev pub readingsOf : (t : List ℕ) → Readings
 readingsOf t = readings operate (bodyOf t) (functions t)
 
--- "Main's root is read with the arguments of the start; nothing is taken from the circuit": it ends with value v, counting k
+-- main, read with the arguments of a start and without the circuit, ends with value v, counting k
 abbrev pub ReadsTo : (t args : List ℕ) → (v k : ℕ) → Type 0
 ReadsTo t args v k = readingsOf t (functions t) args v k

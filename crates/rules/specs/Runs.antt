@@ -14,7 +14,7 @@ use Rattle.rules.specs.State.{State512, view}
 use Rattle.rules.specs.Step.{Reply, taken, answered, denied, refusal, Stepped, over}
 use Rattle.rules.specs.Circuit.{stepOf, playOf, Possible}
 
--- "Query and runs check table, tags and 24 before anything else"
+-- what a query and both runs look at first: the table, its tags, 24
 unfoldable pub standing : (t tags : List ℕ) → State512 → Verdict
 standing t tags s = after (checkWith t tags) λ _.
     stage 24 (not (over 3 (nodes t) (s .status))) 0 λ _.
@@ -47,11 +47,11 @@ abbrev pub runAfter : Verdict → State512 → Ran → Ran
 runAfter (accepted F N) s r = r
 runAfter (refused number place) s r = record { steps = 0; halt = stopped number place; state = s }
 
--- "A run takes a list of nodes, stops at the first refusal, and tells the steps taken and that refusal, if any"
+-- the run over a list: steps in its order up to the first refusal, how many were taken, and that refusal
 unfoldable pub runOf : (t tags : List ℕ) → State512 → List ℕ → Ran
 runOf t tags s ns = runAfter (standing t tags s) s (runFrom t tags s ns)
 
--- "The steps of a run are such steps, and the number it tells is that of the steps taken in it": of a run r over ns from s
+-- of a run r over ns from s: what it took is a play of the first steps of ns, as many as it tells
 pub record RunPlays (t tags : List ℕ) (s : State512) (ns : List ℕ) (r : Ran) : Type 0 where
   pub steps : playOf t tags s (take (r .steps) ns) .nodes ≡ take (r .steps) ns
   pub number : length (take (r .steps) ns) ≡ r .steps
@@ -80,15 +80,14 @@ pub record Driven : Type 0 where
   pub ended : Ended
   pub state : State512
 
--- "says answered (looked at first, also before any step), at rest (looked at second, exactly if no step is possible), or spent,
--- the last only after exactly that many steps", of the state s that it ends in
+-- what each end says of the state s that it is told in, after k steps: an answer first, then rest, and spent only at the budget
 abbrev pub Says : (t tags : List ℕ) → (budget steps : ℕ) → State512 → Ended → Type 0
 Says t tags budget k s (gave v) = MainDone t s × (mainValue t s ≡ v)
 Says t tags budget k s atRest = (MainDone t s → ⊥) × ((n : ℕ) → Possible t tags s n → ⊥)
 Says t tags budget k s spent = (MainDone t s → ⊥) × ((n : ℕ) × Possible t tags s n) × (k ≡ budget)
 Says t tags budget k s (barred number place) = ⊥
 
--- "Another takes possible steps up to a 32-bit budget, tells how many": which steps it picks is left open
+-- a run with a budget: the steps picked are possible, at most so many, and as many as it tells; which ones is left open
 pub record Picks (t tags : List ℕ) (s : State512) (budget : ℕ) (r : Driven) : Type 0 where
   pub picked : List ℕ
   pub possible : playOf t tags s picked .nodes ≡ picked
@@ -117,6 +116,6 @@ FindsAfter (accepted F N) t tags s nothing = (n : ℕ) → Possible t tags s n �
 FindsAfter (accepted F N) t tags s (unasked number place) = ⊥
 FindsAfter (refused number place) t tags s r = r ≡ unasked number place
 
--- "A query names a possible step, any one, or none exactly if there is none"
+-- what is true of a query's answer: it names a possible step, or nothing exactly where there is none
 abbrev pub Finds : (t tags : List ℕ) → State512 → Found → Type 0
 Finds t tags s r = FindsAfter (standing t tags s) t tags s r

@@ -9,8 +9,7 @@ use lib.ListN.{length, getD, set, replicate}
 use Rattle.table.specs.Pick.{pick}
 use Rattle.table.specs.Syntax.{Expr, id}
 
--- "for each of 512 nodes a status (0 idle, 1 open, 2 busy, 3 done; a second-phase flag, yes or no, beside busy) and a value;
--- for each of 32 functions 8 registers and an occupant (a call node, 0 free)"
+-- of a node status (0 idle, 1 open, 2 busy, 3 done), second phase and value; of a function 8 registers and its occupant, 0 if free
 pub record State512 : Type 0 where
   pub status : List ℕ
   pub second : List Bool
@@ -82,7 +81,7 @@ blank k a = replicate k a
 unfoldable pub zeros : State512
 zeros = record { status = blank 512 0; second = blank 512 false; value = blank 512 0; registers = blank 256 0; occupant = blank 32 0 }
 
--- "Start makes all zero, puts the arguments into main's registers and opens main's root"; main is F
+-- the state that a start makes: zeros, but for main's registers and its open root; main is F
 unfoldable pub circuitStart : (F : ℕ) (body : ℕ → Expr) → List ℕ → State512
 circuitStart F body args = record {
   status = write (blank 512 0) (id (body F)) 1;

@@ -8,7 +8,7 @@ use Rattle.table.specs.Environment.{values}
 use Rattle.table.specs.Pick.{pick}
 use Rattle.rules.specs.State.{State512, View, entry, write, view, fill, clear, opened}
 
--- "A step's answer is one of: taken, answered with main's value, refused with number and place"
+-- what a step answers: taken, taken with main's value, or refused by number and place
 pub data Reply : Type 0 where
   taken : Reply
   answered : (v : ℕ) → Reply
@@ -41,7 +41,7 @@ abbrev pub all-done : View → Exprs → Bool
 all-done s none = true
 all-done s (some e es) = done s (id e) && all-done s es
 
--- "An if takes "then" when the condition isn't 0"
+-- the branch that a condition of this value takes
 abbrev pub branch : ℕ → Expr → Expr → Expr
 branch zero b c = c
 branch (suc v) b c = b
@@ -53,26 +53,26 @@ by-status t o b = pick (eqb t 1) o (pick (eqb t 2) b stuck)
 module _ (apply : ℕ → List ℕ → ℕ) (body : ℕ → Expr) where
   -- the step of an expression's node, in the body of function h
   abbrev pub act : ℕ → View → Expr → Act
-  -- "Open constant, parameter, bound: done with its value"
+  -- an open constant, parameter or bound has its value at once and is done
   act h s (const n v) = by-status (s .status n) (does (finishes v)) stuck
   act h s (param n i) = by-status (s .status n) (does (finishes (s .register h i))) stuck
   act h s (bound n d) = by-status (s .status n) (does (finishes (s .value d))) stuck
-  -- "Open otherwise: busy; opens all children of a primitive or call, the condition, the definientia"
+  -- any other open node becomes busy and opens what it needs first
   -- "Busy primitive, children done: done"
   act h s (prim n op es) =
       by-status (s .status n) (does (begins (roots es)))
       (pick (all-done s es) (does (finishes (apply op (values (s .value) es)))) stuck)
-  -- "Busy call not in second phase, arguments done: enters", or 22, 23: "resource occupied"
-  -- "The callee's root done: done with its value, occupant 0"
+  -- a busy call, its arguments done: it enters, or waits (22, 23) while the callee has an occupant
+  -- in second phase, the callee's root done: it leaves with that value
   act h s (call n g es) =
       by-status (s .status n) (does (begins (roots es))) (pick (s .second n)
       (pick (done s (id (body g))) (does (leaves g (s .value (id (body g))))) stuck)
       (pick (all-done s es) (pick (eqb (s .occupant g) 0) (does (enters g (values (s .value) es))) blocked) stuck))
-  -- "Busy self call, arguments done: the same reset, registers and opened root for its own function"
+  -- a busy self call, its arguments done: its own function starts again with them
   act h s (self n es) =
       by-status (s .status n) (does (begins (roots es)))
       (pick (all-done s es) (does (restarts h (values (s .value) es))) stuck)
-  -- "Busy if or let, opened children done: second phase; opens the branch or body. That one done: done with its value"
+  -- a busy if or let: its condition or definientia done, the branch or body opens; that done, its value goes on
   act h s (cond n a b c) =
       let r : Expr = branch (s .value (id a)) b c in
       by-status (s .status n) (does (begins (id a ∷ []))) (pick (s .second n)
@@ -103,11 +103,11 @@ finish s n v = record {
 }
 
 module _ (N : ℕ) (home : ℕ → ℕ) where
-  -- node n belongs to function g; "A step ignores and keeps state entries past F and N"
+  -- node n belongs to function g; past N none does, so that a reset keeps those entries
   abbrev pub mine : ℕ → ℕ → Bool
   mine g n = ltb n (suc N) && eqb (home n) g
 
-  -- "The callee's nodes become idle with value 0, its registers hold the arguments and zeros, .. its root opens"; "reset .. clear it"
+  -- function g made ready: its nodes idle, without value and second phase, its registers with the arguments vs, its root r open
   abbrev pub reset : State512 → (g r : ℕ) → List ℕ → State512
   reset s g r vs = record {
     status = write (clear (mine g) 0 (s .status)) r 1;
@@ -123,7 +123,7 @@ module _ (N : ℕ) (home : ℕ → ℕ) (body : ℕ → Expr) where
   perform s n (begins ns) = with-status s (opened (write (s .status) n 2) ns)
   perform s n (turns m) = with-second (with-status s (write (s .status) m 1)) (write (s .second) n true)
   perform s n (finishes v) = finish s n v
-  -- ".. its occupant is this call, its root opens; second phase"
+  -- the callee is made ready, this call becomes its occupant and is in its second phase
   perform s n (enters g vs) =
       let t : State512 = reset N home s g (id (body g)) vs in
       with-occupant (with-second t (write (t .second) n true)) (write (s .occupant) g n)
@@ -145,13 +145,12 @@ pub record Stepped : Type 0 where
   pub answer : Reply
   pub state : State512
 
--- "The state is unchanged by a refusal"
+-- a refusal keeps the state
 abbrev pub refusal : State512 → (number place : ℕ) → Stepped
 refusal s k p = record { answer = denied k p; state = s }
 
 module _ (apply : ℕ → List ℕ → ℕ) (F N : ℕ) (body at : ℕ → Expr) (home : ℕ → ℕ) where
-  -- 21 "no step, for a cause other than 22 or 23"; 22 "tagged call ..", 23 "the same, untagged";
-  -- "Places for 20 to 23 are the node asked for"
+  -- 21 for a node without a step, 22 or 23 for a call that waits, by its tag; the place is the node asked for
   abbrev pub outcome : (ℕ → Bool) → State512 → ℕ → Act → Stepped
   outcome tags s n stuck = refusal s 21 n
   outcome tags s n blocked = refusal s (pick (tags n) 22 23) n
@@ -159,8 +158,7 @@ module _ (apply : ℕ → List ℕ → ℕ) (F N : ℕ) (body at : ℕ → Expr)
       let t : State512 = perform N home body s n m in
       record { answer = told (id (body F)) (view t); state = t }
 
-  -- 12 "step asked at node 0 or above N"; 24 "a status over 3 or an occupant over N (place 0)", entries past N and F not looked at;
-  -- 20 "main's root is done"; then what the node has
+  -- in order: 12 for no node, 24 for a status or an occupant out of range, up to N and F, 20 once main is done, then what the node has
   unfoldable pub circuitStep : (ℕ → Bool) → State512 → ℕ → Stepped
   circuitStep tags s n =
       pick (eqb n 0) (refusal s 12 0)
