@@ -5,6 +5,7 @@ use libc::STDOUT_FILENO;
 use list::Listing;
 use list::Record;
 use table::Checked;
+use table::Function;
 use table::Node;
 ghost use Prim.Native.Nat.{_≤_};
 
@@ -16,22 +17,42 @@ fn complain(s: &[u8]) {
     io::write_all(STDERR_FILENO, s);
 }
 
-fn number(n: u16) {
-    io::print_decimal(STDOUT_FILENO, n as u64);
+fn number(n: u64) {
+    io::print_decimal(STDOUT_FILENO, n);
 }
 
-// Two numbers after a word, and what ends them.
-fn pair(word: &[u8], a: u16, b: u16, end: &[u8]) {
-    text(word);
-    number(a);
+fn function(f: Function) {
+    number(f.0 as u64);
+}
+
+fn node(n: Node) {
+    number(n.0 as u64);
+}
+
+fn refused(k: u8, place: Node) {
+    text(b"refused ");
+    number(k as u64);
     text(b" ");
-    number(b);
-    text(end);
+    node(place);
+    text(b"\n");
+}
+
+// F and N: the numbers of main and of the last node.
+fn design(main: Function, last: Node) {
+    text(b"design ");
+    function(main);
+    text(b" ");
+    node(last);
+    text(b"\n");
 }
 
 fn arbiter(r: Record) {
-    pair(b"arbiter ", r.callee.0, r.caller.0, b" ");
-    number(r.node.0);
+    text(b"arbiter ");
+    function(r.callee);
+    text(b" ");
+    function(r.caller);
+    text(b" ");
+    node(r.node);
     text(b"\n");
 }
 
@@ -61,7 +82,7 @@ fn total(table: &[u8], last: Node)
     let len = ((last.0 as usize) + 7) / 8;
     let n = counted(table, &mut tags[..len]);
     text(b"total ");
-    io::print_decimal(STDOUT_FILENO, n);
+    number(n);
     text(b"\n");
 }
 
@@ -69,9 +90,9 @@ fn show(table: &[u8]) {
     let found = list::list_records(table);
     let checked = found.checked;
     match checked {
-        Checked::Refused(number, place) => pair(b"refused ", number as u16, place.0, b"\n"),
+        Checked::Refused(k, place) => refused(k, place),
         Checked::Accepted(main, last) => {
-            pair(b"design ", main.0, last.0, b"\n");
+            design(main, last);
             arbiters(found);
             total(table, last);
         }

@@ -2,6 +2,8 @@
 use libc::STDERR_FILENO;
 use libc::STDOUT_FILENO;
 use table::Checked;
+use table::Function;
+use table::Node;
 
 // A table in the making, with room for the longest and a few bytes more.
 struct Bytes {
@@ -25,46 +27,66 @@ fn put_two(table: Bytes, at: usize, n: u16) -> Bytes {
     }
 }
 
-fn sizes(table: Bytes, functions: u16, nodes: u16) -> Bytes {
-    put_two(put_two(table, 0, functions), 2, nodes)
+// F and N, the numbers of main and of the last node.
+fn sizes(table: Bytes, main: Function, last: Node) -> Bytes {
+    put_two(put_two(table, 0, main.0), 2, last.0)
 }
 
 // The record of function f.
-fn function(table: Bytes, f: u8, params: u8, root: u16) -> Bytes {
-    let at = 4 * (f as usize);
-    put_two(put(table, at, params), at + 2, root)
+fn function(table: Bytes, f: Function, params: u8, root: Node) -> Bytes {
+    let at = 4 * (f.0 as usize);
+    put_two(put(table, at, params), at + 2, root.0)
 }
 
-// The record of node n, n from 1, where there are so many functions; a small word, no next.
-fn node(table: Bytes, functions: u8, n: u16, kind: u8, extra: u8, word: u8, first: u16) -> Bytes {
-    let at = 4 + 4 * (functions as usize) + 10 * (n as usize);
+// The record of node n, n from 1, in a table with this main; a small word, no next.
+fn node(
+    table: Bytes,
+    main: Function,
+    n: Node,
+    kind: u8,
+    extra: u8,
+    word: u8,
+    first: Node,
+) -> Bytes {
+    let at = 4 + 4 * (main.0 as usize) + 10 * (n.0 as usize);
     if at < 10 {
         return table;
     }
     let kinded = put(put(table, at - 10, kind), at - 9, extra);
-    put_two(put(kinded, at - 8, word), at - 4, first)
+    put_two(put(kinded, at - 8, word), at - 4, first.0)
 }
 
 // 32 functions, the first 31 of one constant each, and main: a chain of doublings down to a constant at node 512.
 fn largest() -> Bytes {
-    let mut t = sizes(Bytes { at: [0u8; 5260] }, 32, 512);
+    let main = Function(32);
+    let mut t = sizes(Bytes { at: [0u8; 5260] }, main, Node(512));
     let mut f: u8 = 1;
     while f <= 32 {
-        t = function(t, f, 0, f as u16);
-        t = node(t, 32, f as u16, 1, 0, f, 0);
+        let k = f as u16;
+        t = function(t, Function(k), 0, Node(k));
+        t = node(t, main, Node(k), 1, 0, f, Node(0));
         f += 1;
     }
     let mut n: u16 = 32;
     while n < 512 {
-        t = node(t, 32, n, 3, 5, 0, n + 1);
-        n += 1;
+        let below = n + 1;
+        t = node(t, main, Node(n), 3, 5, 0, Node(below));
+        n = below;
     }
-    node(t, 32, 512, 1, 0, 7, 0)
+    node(t, main, Node(512), 1, 0, 7, Node(0))
 }
 
-fn number(n: u16) {
+fn number(n: u64) {
     io::write_all(STDOUT_FILENO, b" ");
-    io::print_decimal(STDOUT_FILENO, n as u64);
+    io::print_decimal(STDOUT_FILENO, n);
+}
+
+fn say_function(f: Function) {
+    number(f.0 as u64);
+}
+
+fn say_node(n: Node) {
+    number(n.0 as u64);
 }
 
 // One line: the case, and what the check says of the bytes.
@@ -74,13 +96,13 @@ fn say(case: &[u8], bytes: &[u8]) {
     match c {
         Checked::Accepted(f, n) => {
             io::write_all(STDOUT_FILENO, b": accepted");
-            number(f.0);
-            number(n.0);
+            say_function(f);
+            say_node(n);
         }
         Checked::Refused(k, p) => {
             io::write_all(STDOUT_FILENO, b": refused");
-            number(k as u16);
-            number(p.0);
+            number(k as u64);
+            say_node(p);
         }
     }
     io::write_all(STDOUT_FILENO, b"\n");
@@ -99,28 +121,41 @@ fn limits() {
     first(b"32 functions, 512 nodes", t, 5252);
     first(b"a byte too many", t, 5253);
     first(b"a byte too few", t, 5251);
-    first(b"33 functions", sizes(t, 33, 512), 5252);
-    first(b"no function", sizes(t, 0, 512), 5252);
-    first(b"513 nodes", sizes(t, 32, 513), 5252);
-    first(b"no node", sizes(t, 32, 0), 5252);
+    first(b"33 functions", sizes(t, Function(33), Node(512)), 5252);
+    first(b"no function", sizes(t, Function(0), Node(512)), 5252);
+    first(b"513 nodes", sizes(t, Function(32), Node(513)), 5252);
+    first(b"no node", sizes(t, Function(32), Node(0)), 5252);
     first(b"3 bytes", t, 3);
     first(b"no byte", t, 0);
 }
 
 // Main of one constant, with this many parameters; then main() = f() with f() = 5.
 fn parameters() {
-    let one = node(sizes(Bytes { at: [0u8; 5260] }, 1, 1), 1, 1, 1, 0, 5, 0);
-    first(b"eight parameters", function(one, 1, 8, 1), 18);
-    first(b"nine parameters", function(one, 1, 9, 1), 18);
-    let two = function(
-        function(sizes(Bytes { at: [0u8; 5260] }, 2, 2), 1, 0, 1),
-        2,
+    let f = Function(1);
+    let n = Node(1);
+    let one = node(
+        sizes(Bytes { at: [0u8; 5260] }, f, n),
+        f,
+        n,
+        1,
         0,
-        2,
+        5,
+        Node(0),
     );
+    first(b"eight parameters", function(one, f, 8, n), 18);
+    first(b"nine parameters", function(one, f, 9, n), 18);
+    let main = Function(2);
+    let last = Node(2);
+    let two = function(
+        function(sizes(Bytes { at: [0u8; 5260] }, main, last), f, 0, n),
+        main,
+        0,
+        last,
+    );
+    let called = node(two, main, n, 1, 0, 5, Node(0));
     first(
         b"a call with no argument",
-        node(node(two, 2, 1, 1, 0, 5, 0), 2, 2, 4, 0, 1, 0),
+        node(called, main, last, 4, 0, 1, Node(0)),
         32,
     );
 }

@@ -60,11 +60,10 @@ fn push_chain(
     ensures { λ r. ⌜ r ≤ 1024 ⌝ }
 {
     let mut h = height;
-    let mut at = c.0;
-    while at != 0 {
-        h = push_open(status, stack, h, Node(at));
-        let on = decoded::next(cells, Node(at));
-        at = on.0;
+    let mut at = c;
+    while at.0 != 0 {
+        h = push_open(status, stack, h, at);
+        at = decoded::next(cells, at);
     }
     h
 }

@@ -21,13 +21,13 @@ pub(crate) fn all_done(table: &[u8], cells: &Cells, status: &[u8; 512], c: Node,
     requires { ⌜ Read (now table) (now cells) × (c .0 ≤ nodes (now table)) ⌝ }
     ensures { λ r. ⌜ r ≡ allDone (entry (now (status .entry)) 0) (leading defs (chain (now (table .entry)) (c .0))) ⌝ }
 {
-    let mut at = c.0;
-    while at != 0 {
-        let on = decoded::next(cells, Node(at)).0;
+    let mut at = c;
+    while at.0 != 0 {
+        let on = decoded::next(cells, at);
         if ends(on, defs) {
             return true;
         }
-        if store::status_at(status, Node(at)) != 3 {
+        if store::status_at(status, at) != 3 {
             return false;
         }
         at = on;
@@ -36,10 +36,10 @@ pub(crate) fn all_done(table: &[u8], cells: &Cells, status: &[u8; 512], c: Node,
 }
 
 // Whether a node of a let, before `on`, is its body.
-fn ends(on: u16, defs: bool) -> bool
-    ensures { λ r. ⌜ r ≡ (defs && eqb on 0) ⌝ }
+fn ends(on: Node, defs: bool) -> bool
+    ensures { λ r. ⌜ r ≡ (defs && eqb (on .0) 0) ⌝ }
 {
-    if defs { on == 0 } else { false }
+    if defs { on.0 == 0 } else { false }
 }
 
 // The last node of a chain, 0 of an empty one.
@@ -47,13 +47,13 @@ pub(crate) fn last_of(table: &[u8], cells: &Cells, c: Node) -> Node
     requires { ⌜ Read (now table) (now cells) × (c .0 ≤ nodes (now table)) ⌝ }
     ensures { λ r. ⌜ (r .0 ≡ lastFrom 0 (chain (now (table .entry)) (c .0))) × (r .0 ≤ nodes (now (table .entry))) ⌝ }
 {
-    let mut at: u16 = 0;
-    let mut on = c.0;
-    while on != 0 {
+    let mut at = Node(0);
+    let mut on = c;
+    while on.0 != 0 {
         at = on;
-        on = decoded::next(cells, Node(at)).0;
+        on = decoded::next(cells, at);
     }
-    Node(at)
+    at
 }
 
 // An operation on the values of the children from c on.
@@ -79,13 +79,13 @@ pub(crate) fn open_all(table: &[u8], cells: &Cells, status: &mut [u8; 512], c: N
     requires { ⌜ Read (now table) (now cells) × (c .0 ≤ nodes (now table)) ⌝ }
     ensures { λ _. ⌜ now (status .exit) ≡ opened (now (status .entry)) (leading defs (chain (now (table .entry)) (c .0))) ⌝ }
 {
-    let mut at = c.0;
-    while at != 0 {
-        let on = decoded::next(cells, Node(at)).0;
+    let mut at = c;
+    while at.0 != 0 {
+        let on = decoded::next(cells, at);
         if ends(on, defs) {
             return;
         }
-        store::set_status(status, Node(at), 1);
+        store::set_status(status, at, 1);
         at = on;
     }
 }

@@ -1,5 +1,6 @@
 // What the program is given: its arguments and the table file.
 use intake::Intake;
+use table::Node;
 ghost use mathlib.Core.Path.{_≡_};
 ghost use Prim.Native.Nat.{_≤_};
 ghost use lib.ListN.{length};
@@ -11,8 +12,9 @@ pub struct Numbers {
     pub count: usize,
 }
 
-pub(crate) fn two(low: u8, high: u8) -> u16 {
-    (low as u16) + 256 * (high as u16)
+// The node that two bytes of a log ask for.
+pub(crate) fn asked(low: u8, high: u8) -> Node {
+    Node((low as u16) + 256 * (high as u16))
 }
 
 // Whether the first argument is --run.

@@ -109,13 +109,28 @@ fn answer(table: &[u8], tags: &[u8], s: Started, asked: &[u8]) {
     }
 }
 
+// N, or 512 where a table says more.
+fn last_node(table: &[u8]) -> Node
+    ensures { λ r. ⌜ r .0 ≤ 512 ⌝ }
+{
+    let last = read::nodes(table);
+    if last.0 < 512 { last } else { Node(512) }
+}
+
+// F, or 32 where a table says more.
+fn last_function(table: &[u8]) -> Function
+    ensures { λ r. ⌜ r .0 ≤ 32 ⌝ }
+{
+    let main = read::functions(table);
+    if main.0 < 32 { main } else { Function(32) }
+}
+
 // How many bytes a table's tag list has, 64 at most.
 fn tag_length(table: &[u8]) -> usize
     ensures { λ r. ⌜ r ≤ 64 ⌝ }
 {
-    let last = read::nodes(table);
-    let n = last.0 as usize;
-    if n <= 512 { (n + 7) / 8 } else { 64 }
+    let last = last_node(table);
+    ((last.0 as usize) + 7) / 8
 }
 
 // Each asked node, then how many were taken and the state.
@@ -128,7 +143,7 @@ fn play(table: &[u8], tags: &[u8], start: State, asked: &[u8]) {
             table,
             tags,
             state,
-            Node(input::two(asked[2 * i], asked[2 * i + 1])),
+            input::asked(asked[2 * i], asked[2 * i + 1]),
         );
         let answer = r.answer;
         state = r.state;
@@ -139,21 +154,15 @@ fn play(table: &[u8], tags: &[u8], start: State, asked: &[u8]) {
     show(table, state);
 }
 
-fn capped(n: u16, most: u16) -> u16
-    ensures { λ r. ⌜ r ≤ most ⌝ }
-{
-    if n < most { n } else { most }
-}
-
 // The entries of the table's nodes and functions.
 fn show(table: &[u8], s: State) {
-    let end = capped(read::nodes(table).0, 512);
+    let end = last_node(table).0;
     let mut n: u16 = 0;
     while n < end {
         n = n + 1;
         show_node(s, Node(n));
     }
-    let functions = capped(read::functions(table).0, 32);
+    let functions = last_function(table).0;
     let mut f: u16 = 0;
     while f < functions {
         f = f + 1;

@@ -39,11 +39,10 @@ fn chain_length(table: &[u8], cells: &Cells, c: Node) -> usize
     requires { ⌜ Framed (now table) × Linked (now table) × Decoded (now table) (now cells) × (c .0 ≤ nodes (now table)) ⌝ }
     ensures { λ r. ⌜ r ≡ length (chain (now (table .entry)) (c .0)) ⌝ }
 {
-    let mut at = c.0;
+    let mut at = c;
     let mut count: usize = 0;
-    while at != 0 {
-        let on = decoded::next(cells, Node(at));
-        at = on.0;
+    while at.0 != 0 {
+        at = decoded::next(cells, at);
         count += 1;
     }
     count
@@ -82,12 +81,11 @@ fn under_last(table: &[u8], cells: &Cells, p: Node, n: Node) -> bool
     requires { ⌜ Within (now table) (now cells) (n .0) × (1 ≤ p .0) ⌝ }
     ensures { λ r. ⌜ r ≡ underLast (now (table .entry)) (p .0) (n .0) ⌝ }
 {
-    let end = p.0;
-    let mut a = n.0;
-    while end < a {
-        let up = decoded::parent(cells, Node(a)).0;
-        if up == end {
-            return decoded::next(cells, Node(a)).0 == 0;
+    let mut a = n;
+    while p.0 < a.0 {
+        let up = decoded::parent(cells, a);
+        if up.0 == p.0 {
+            return decoded::next(cells, a).0 == 0;
         }
         a = up;
     }
@@ -106,18 +104,19 @@ fn in_scope(table: &[u8], cells: &Cells, d: u32, n: Node) -> bool
     if (last.0 as u32) < d {
         return false;
     }
-    let k = d as u16;
-    let p = decoded::parent(cells, Node(k)).0;
-    if p == 0 {
+    let low = d as u16;
+    let k = Node(low);
+    let p = decoded::parent(cells, k);
+    if p.0 == 0 {
         return false;
     }
-    if decoded::kind(cells, Node(p)) != 6 {
+    if decoded::kind(cells, p) != 6 {
         return false;
     }
-    if decoded::next(cells, Node(k)).0 == 0 {
+    if decoded::next(cells, k).0 == 0 {
         return false;
     }
-    under_last(table, cells, Node(p), n)
+    under_last(table, cells, p, n)
 }
 
 // 8: a parameter's index is below the count, a bound node's definiens is in scope.

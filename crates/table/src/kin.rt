@@ -105,9 +105,9 @@ pub(crate) fn recall(table: &[u8], cells: &Cells) -> [u32; 513]
     let mut n: u16 = 0;
     while n < last {
         n += 1;
-        let own = decoded::owner(cells, Node(n)).0;
-        let up = decoded::parent(cells, Node(n)).0;
-        kin[n as usize] = (own as u32) + 64 * (up as u32);
+        let own = decoded::owner(cells, Node(n));
+        let up = decoded::parent(cells, Node(n));
+        kin[n as usize] = (own.0 as u32) + 64 * (up.0 as u32);
     }
     kin
 }

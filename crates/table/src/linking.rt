@@ -6,11 +6,24 @@ use crate::frame;
 use crate::records;
 ghost use mathlib.Core.Path.{_≡_};
 ghost use mathlib.Core.Bool.{true};
-ghost use Prim.Native.Nat.{_+_, _*_, _<_};
+ghost use Prim.Native.Nat.{_+_, _*_, _/_, _%_, _<_};
 ghost use lib.ListN.{length, getD, replicate};
 ghost use Rattle.table.specs.Bytes.{functions, nodes};
 ghost use Rattle.table.specs.Working.{Framed, IsFunction, At, Linked};
 ghost use Rattle.table.specs.Sweep.{Handed, RootFits, RootsFit, Links, Kin, Kids};
+
+// The function and the parent that a node's kin holds.
+pub(crate) fn owner(own: u32) -> Function
+    ensures { λ r. ⌜ r .0 ≡ own % 64 ⌝ }
+{
+    Function((own % 64) as u16)
+}
+
+pub(crate) fn parent(own: u32) -> Node
+    ensures { λ r. ⌜ r .0 ≡ own / 64 % 1024 ⌝ }
+{
+    Node((own / 64 % 1024) as u16)
+}
 
 // Whether function f's record fits, and its root has no next.
 fn root_fits(table: &[u8], base: usize, last: Node, f: Function) -> bool
@@ -64,27 +77,27 @@ fn hand_on(table: &[u8], base: usize, last: Node, n: Node, kin: &mut [u32; 513])
         × (getD (now kin) (n .0) 0 < 67108864) ⌝ }
     ensures { λ r. ⌜ (r ≡ true → Links (now (table .entry)) (n .0) (now (kin .entry)) (now (kin .exit))) ⌝ }
 {
-    let first = records::first(table, base, n).0;
-    let next = records::next(table, base, n).0;
+    let first = records::first(table, base, n);
+    let next = records::next(table, base, n);
     let own = kin[n.0 as usize];
     if own == 0 {
         return false;
     }
-    if last.0 < first {
+    if last.0 < first.0 {
         return false;
     }
-    if last.0 < next {
+    if last.0 < next.0 {
         return false;
     }
-    if kin[next as usize] != 0 {
+    if kin[next.0 as usize] != 0 {
         return false;
     }
-    kin[next as usize] = own + 65536;
+    kin[next.0 as usize] = own + 65536;
     kin[0] = 0;
-    if kin[first as usize] != 0 {
+    if kin[first.0 as usize] != 0 {
         return false;
     }
-    kin[first as usize] = own % 64 + 64 * (n.0 as u32) + 65536;
+    kin[first.0 as usize] = own % 64 + 64 * (n.0 as u32) + 65536;
     kin[0] = 0;
     true
 }
@@ -106,8 +119,8 @@ pub(crate) fn links(table: &[u8], kin: &mut [u32; 513], offspring: &mut [u32; 51
         if !hand_on(table, base, last, Node(n), kin) {
             return false;
         }
-        let up = (own / 64 % 1024) as usize;
-        offspring[up] = own / 65536;
+        let up = parent(own);
+        offspring[up.0 as usize] = own / 65536;
     }
     offspring[0] = 0;
     true

@@ -1,7 +1,9 @@
 // Whether each bound is in the body of a let that has its definiens, by what is around it.
 use crate::Node;
 use crate::frame;
+use crate::linking;
 use crate::records;
+use crate::sweep;
 ghost use mathlib.Core.Path.{_≡_};
 ghost use mathlib.Core.Bool.{true};
 ghost use mathlib.Core.Logic.{_⊎_};
@@ -13,45 +15,45 @@ ghost use Rattle.table.specs.Naming.{inScope};
 ghost use Rattle.table.specs.Working.{IsNode, Framed, At, Linked};
 ghost use Rattle.table.specs.Sweep.{around, Kin, HandedDown, Encloses, Outward, Sifted, BoundsFit};
 
-fn same(a: u16, b: u16) -> u16
-    ensures { λ r. ⌜ (r ≡ one (eqb a b)) × (r ≤ 1) ⌝ }
+fn same(a: Node, b: Node) -> u16
+    ensures { λ r. ⌜ (r ≡ one (eqb (a .0) (b .0))) × (r ≤ 1) ⌝ }
 {
-    if a == b { 1 } else { 0 }
+    if a.0 == b.0 { 1 } else { 0 }
 }
 
 // Whether p is one of four, without a branch.
-fn one_of_four(a: u16, b: u16, c: u16, d: u16, p: u16) -> bool
-    ensures { λ r. ⌜ (r ≡ true → (a ≡ p) ⊎ ((b ≡ p) ⊎ ((c ≡ p) ⊎ (d ≡ p)))) ⌝ }
+fn one_of_four(a: Node, b: Node, c: Node, d: Node, p: Node) -> bool
+    ensures { λ r. ⌜ (r ≡ true → (a .0 ≡ p .0) ⊎ ((b .0 ≡ p .0) ⊎ ((c .0 ≡ p .0) ⊎ (d .0 ≡ p .0)))) ⌝ }
 {
     same(a, p) + same(b, p) + same(c, p) + same(d, p) != 0
 }
 
 // The innermost let around a.
-fn outer(table: &[u8], offspring: &[u32; 513], a: u16) -> u16
-    requires { ⌜ Framed (now table) × HandedDown (now table) (now offspring) × (a ≤ nodes (now table)) ⌝ }
-    ensures { λ r. ⌜ (r ≡ around (now (table .entry)) a) × (r ≤ nodes (now (table .entry))) ⌝ }
+fn outer(table: &[u8], offspring: &[u32; 513], a: Node) -> Node
+    requires { ⌜ Framed (now table) × HandedDown (now table) (now offspring) × (a .0 ≤ nodes (now table)) ⌝ }
+    ensures { λ r. ⌜ (r .0 ≡ around (now (table .entry)) (a .0)) × (r .0 ≤ nodes (now (table .entry))) ⌝ }
 {
-    (offspring[a as usize] % 1024) as u16
+    sweep::let_in(offspring[a.0 as usize])
 }
 
 // Whether p is `from` or among the lets around it.
-fn climbs(table: &[u8], offspring: &[u32; 513], p: u16, from: u16) -> bool
-    requires { ⌜ Framed (now table) × HandedDown (now table) (now offspring) × (from ≤ nodes (now table)) ⌝ }
-    ensures { λ r. ⌜ (r ≡ true → Outward (now (table .entry)) from p) ⌝ }
+fn climbs(table: &[u8], offspring: &[u32; 513], p: Node, from: Node) -> bool
+    requires { ⌜ Framed (now table) × HandedDown (now table) (now offspring) × (from .0 ≤ nodes (now table)) ⌝ }
+    ensures { λ r. ⌜ (r ≡ true → Outward (now (table .entry)) (from .0) (p .0)) ⌝ }
 {
     let mut a = from;
-    while p < a {
+    while p.0 < a.0 {
         a = outer(table, offspring, a);
     }
-    a == p
+    a.0 == p.0
 }
 
 // Whether n is in the body of let p. The innermost lets are looked at without a branch: how near p is, is hard to foresee.
-fn reaches(table: &[u8], offspring: &[u32; 513], n: Node, p: u16) -> bool
+fn reaches(table: &[u8], offspring: &[u32; 513], n: Node, p: Node) -> bool
     requires { ⌜ Framed (now table) × HandedDown (now table) (now offspring) × IsNode (now table) (n .0) ⌝ }
-    ensures { λ r. ⌜ (r ≡ true → Encloses (now (table .entry)) p (n .0)) ⌝ }
+    ensures { λ r. ⌜ (r ≡ true → Encloses (now (table .entry)) (p .0) (n .0)) ⌝ }
 {
-    let a = outer(table, offspring, n.0);
+    let a = outer(table, offspring, n);
     let b = outer(table, offspring, a);
     let c = outer(table, offspring, b);
     let d = outer(table, offspring, c);
@@ -81,15 +83,16 @@ fn bound_fits(
     if (last.0 as u32) < word {
         return false;
     }
-    let d = word as u16;
-    let p = (kin[d as usize] / 64 % 1024) as u16;
-    if p == 0 {
+    let low = word as u16;
+    let d = Node(low);
+    let p = linking::parent(kin[d.0 as usize]);
+    if p.0 == 0 {
         return false;
     }
-    if offspring[p as usize] / 1024 % 2 == 0 {
+    if offspring[p.0 as usize] / 1024 % 2 == 0 {
         return false;
     }
-    if records::next(table, base, Node(d)).0 == 0 {
+    if records::next(table, base, d).0 == 0 {
         return false;
     }
     reaches(table, offspring, n, p)

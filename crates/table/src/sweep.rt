@@ -3,10 +3,11 @@ use crate::Function;
 use crate::Node;
 use crate::frame;
 use crate::kinds;
+use crate::linking;
 use crate::records;
 ghost use mathlib.Core.Path.{_≡_};
 ghost use mathlib.Core.Bool.{true, false};
-ghost use Prim.Native.Nat.{_≤_, _<_};
+ghost use Prim.Native.Nat.{_+_, _-_, _*_, _%_, _≤_, _<_};
 ghost use lib.Dec.{eqb, leb};
 ghost use lib.ListN.{replicate};
 ghost use Rattle.table.specs.Find.{one};
@@ -67,12 +68,12 @@ fn kind_fits(
     kind: u16,
     extra: u32,
     word: u64,
-    owner: u32,
+    owner: Function,
     params: u32,
     tail: u32,
 ) -> bool
-    requires { ⌜ (now rules ≡ kindRules 8) × (kind < 8) × (1 ≤ owner) × (owner ≤ 32) × (params ≤ 8) × (tail ≤ 1) ⌝ }
-    ensures { λ r. ⌜ (r ≡ true → KindFits kind extra word owner params tail) ⌝ }
+    requires { ⌜ (now rules ≡ kindRules 8) × (kind < 8) × (1 ≤ owner .0) × (owner .0 ≤ 32) × (params ≤ 8) × (tail ≤ 1) ⌝ }
+    ensures { λ r. ⌜ (r ≡ true → KindFits kind extra word (owner .0) params tail) ⌝ }
 {
     let below = params * rule(rules, kind, kinds::PARAMETER) + rule(rules, kind, kinds::EXTRAS);
     if below <= extra {
@@ -82,7 +83,7 @@ fn kind_fits(
     if word < call {
         return false;
     }
-    let most = ((owner + tail - 1) as u64) * call
+    let most = (((owner.0 as u32) + tail - 1) as u64) * call
         + (rule(rules, kind, kinds::WORDS) as u64) * 4294967295;
     word <= most
 }
@@ -120,6 +121,22 @@ fn counted(
     }
 }
 
+// The innermost let around a node that hands this down.
+pub(crate) fn let_in(down: u32) -> Node
+    ensures { λ r. ⌜ r .0 ≡ down % 1024 ⌝ }
+{
+    Node((down % 1024) as u16)
+}
+
+// The innermost let around a node: its parent, where it is that let's body (1), else what is around its parent (0).
+fn innermost(outer: Node, up: Node, body: u32) -> Node
+    requires { ⌜ (outer .0 ≤ up .0) × (body ≤ 1) ⌝ }
+    ensures { λ r. ⌜ r .0 ≡ outer .0 + (up .0 - outer .0) * body ⌝ }
+{
+    let inner = outer.0 + (up.0 - outer.0) * (body as u16);
+    Node(inner)
+}
+
 // Node n, with its kin and the number of its children, and what its parent handed down.
 fn node(
     table: &[u8],
@@ -140,10 +157,10 @@ fn node(
     }
     let extra = records::extra(table, base, n) as u32;
     let word = records::word(table, base, n) as u64;
-    let owner = own % 64;
+    let owner = linking::owner(own);
     let end = ending(records::next(table, base, n));
     let tail = tail_at(inherited / 2048, own / 65536 + 1024 * end);
-    let params = records::params(table, Function(owner as u16)) as u32;
+    let params = records::params(table, owner) as u32;
     if !kind_fits(rules, kind, extra, word, owner, params, tail) {
         return failed();
     }
@@ -152,9 +169,9 @@ fn node(
     if !counted(rules, operations, kind, extra, call, args, kids) {
         return failed();
     }
-    let outer = inherited % 1024;
-    let scope = outer + (own / 64 % 1024 - outer) * (end * (inherited / 1024 % 2));
-    let down = scope + 1024 * (rule(rules, kind, kinds::REACH) + 4096 - 4096 * tail);
+    let body = end * (inherited / 1024 % 2);
+    let scope = innermost(let_in(inherited), linking::parent(own), body);
+    let down = (scope.0 as u32) + 1024 * (rule(rules, kind, kinds::REACH) + 4096 - 4096 * tail);
     Sifting {
         passed: true,
         down,
@@ -183,7 +200,7 @@ pub(crate) fn sift(
         n += 1;
         let at = n as usize;
         let own = kin[at];
-        let up = (own / 64 % 1024) as usize;
+        let up = linking::parent(own);
         let r = node(
             table,
             base,
@@ -192,7 +209,7 @@ pub(crate) fn sift(
             Node(n),
             own,
             offspring[at],
-            offspring[up],
+            offspring[up.0 as usize],
         );
         if !r.passed {
             return Residue::Failed;

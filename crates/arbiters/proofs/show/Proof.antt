@@ -12,29 +12,14 @@ list-records-requires c κs = search needs
 enum-known-checked : tie.Need-enum-known-checked
 enum-known-checked c = search needs
 
-slice-aggregate-pair : tie.Need-slice-aggregate-pair
-slice-aggregate-pair c = search needs
-
-cast-pair : tie.Need-cast-pair
-cast-pair c = search needs
-
-slice-aggregate-pair-2 : tie.Need-slice-aggregate-pair-2
-slice-aggregate-pair-2 c = search needs
-
-pair-requires : tie.Need-pair-requires
-pair-requires c κs = search needs
+refused-requires : tie.Need-refused-requires
+refused-requires c κs = search needs
 
 enum-known-checked-2 : tie.Need-enum-known-checked-2
 enum-known-checked-2 c = search needs
 
-slice-aggregate-pair-3 : tie.Need-slice-aggregate-pair-3
-slice-aggregate-pair-3 c = search needs
-
-slice-aggregate-pair-4 : tie.Need-slice-aggregate-pair-4
-slice-aggregate-pair-4 c = search needs
-
-pair-requires-2 : tie.Need-pair-requires-2
-pair-requires-2 c κs = search needs
+design-requires : tie.Need-design-requires
+design-requires c κs = search needs
 
 arbiters-requires : tie.Need-arbiters-requires
 arbiters-requires c κs =
@@ -62,14 +47,9 @@ show-spec =
     (tie.spec
     list-records-requires
     enum-known-checked
-    slice-aggregate-pair
-    cast-pair
-    slice-aggregate-pair-2
-    pair-requires
+    refused-requires
     enum-known-checked-2
-    slice-aggregate-pair-3
-    slice-aggregate-pair-4
-    pair-requires-2
+    design-requires
     arbiters-requires
     total-requires
     returns

@@ -30,8 +30,8 @@ slice-aggregate-text c = search needs
 text-requires : tie.Need-text-requires
 text-requires c κs = search needs
 
-print-decimal-requires : tie.Need-print-decimal-requires
-print-decimal-requires c κs = search needs
+number-requires : tie.Need-number-requires
+number-requires c κs = search needs
 
 slice-aggregate-text-2 : tie.Need-slice-aggregate-text-2
 slice-aggregate-text-2 c = search needs
@@ -53,7 +53,7 @@ total-spec =
     counted-requires
     slice-aggregate-text
     text-requires
-    print-decimal-requires
+    number-requires
     slice-aggregate-text-2
     text-requires-2
     returns)

@@ -7,16 +7,16 @@ use Rattle.cases.proofs.largest.Statement.{statement}
 use Rattle.cases.proofs.largest.Tie as tie
 
 abbrev Inv-loop : tie.InvT-loop
-Inv-loop t₀ f₀ t f = (1 ≤ f) × (f ≤ 33)
+Inv-loop main t₀ f₀ t f = (1 ≤ f) × (f ≤ 33)
 
 abbrev μ-loop : tie.MeasureT-loop
-μ-loop t₀ f₀ t f = 33 - f
+μ-loop main t₀ f₀ t f = 33 - f
 
 abbrev Inv-loop2 : tie.InvT-loop2
-Inv-loop2 t₀ f n₀ t n = n ≤ 512
+Inv-loop2 main t₀ f n₀ t n = n ≤ 512
 
 abbrev μ-loop2 : tie.MeasureT-loop2
-μ-loop2 t₀ f n₀ t n = 512 - n
+μ-loop2 main t₀ f n₀ t n = 512 - n
 
 sizes-requires : tie.Need-sizes-requires Inv-loop μ-loop Inv-loop2 μ-loop2
 sizes-requires c κs = search needs
@@ -24,14 +24,11 @@ sizes-requires c κs = search needs
 loop-holds : tie.Need-loop-holds Inv-loop μ-loop Inv-loop2 μ-loop2
 loop-holds c = (omega arith, omega arith)
 
-cast-function : tie.Need-cast-function Inv-loop μ-loop Inv-loop2 μ-loop2
-cast-function c = search needs
+cast-k : tie.Need-cast-k Inv-loop μ-loop Inv-loop2 μ-loop2
+cast-k c = search needs
 
 function-requires : tie.Need-function-requires Inv-loop μ-loop Inv-loop2 μ-loop2
 function-requires c κs = search needs
-
-cast-node : tie.Need-cast-node Inv-loop μ-loop Inv-loop2 μ-loop2
-cast-node c = search needs
 
 node-requires : tie.Need-node-requires Inv-loop μ-loop Inv-loop2 μ-loop2
 node-requires c κs = search needs
@@ -48,14 +45,11 @@ loop-again c = (omega arith, omega arith)
 loop2-holds : tie.Need-loop2-holds Inv-loop μ-loop Inv-loop2 μ-loop2
 loop2-holds c = search needs
 
-add-node : tie.Need-add-node Inv-loop μ-loop Inv-loop2 μ-loop2
-add-node c = search needs
+add-below : tie.Need-add-below Inv-loop μ-loop Inv-loop2 μ-loop2
+add-below c = search needs
 
 node-requires-2 : tie.Need-node-requires-2 Inv-loop μ-loop Inv-loop2 μ-loop2
 node-requires-2 c κs = search needs
-
-add-n : tie.Need-add-n Inv-loop μ-loop Inv-loop2 μ-loop2
-add-n c = search needs
 
 loop2-less : tie.Need-loop2-less Inv-loop μ-loop Inv-loop2 μ-loop2
 loop2-less c = search needs
@@ -79,17 +73,15 @@ largest-spec =
     μ-loop2
     sizes-requires
     loop-holds
-    cast-function
+    cast-k
     function-requires
-    cast-node
     node-requires
     add-f
     loop-less
     loop-again
     loop2-holds
-    add-node
+    add-below
     node-requires-2
-    add-n
     loop2-less
     loop2-again
     node-requires-3

@@ -16,31 +16,31 @@ abbrev μ-loop : tie.MeasureT-loop
 loop-holds : tie.Need-loop-holds Inv-loop μ-loop
 loop-holds c = omega arith
 
-mul-two : tie.Need-mul-two Inv-loop μ-loop
-mul-two c = omega (arith, c .loop-test .taken)
+mul-asked : tie.Need-mul-asked Inv-loop μ-loop
+mul-asked c = omega (arith, c .loop-test .taken)
 
-shared-slice-read-two : tie.Need-shared-slice-read-two Inv-loop μ-loop
-shared-slice-read-two c =
+shared-slice-read-asked : tie.Need-shared-slice-read-asked Inv-loop μ-loop
+shared-slice-read-asked c =
     let in-loop : tie.In-loop Inv-loop μ-loop = search in
     omega (arith, in-loop .loop-test .taken)
 
-mul-two-2 : tie.Need-mul-two-2 Inv-loop μ-loop
-mul-two-2 c =
+mul-asked-2 : tie.Need-mul-asked-2 Inv-loop μ-loop
+mul-asked-2 c =
     let in-loop : tie.In-loop Inv-loop μ-loop = search in
     omega (arith, in-loop .loop-test .taken)
 
-add-two : tie.Need-add-two Inv-loop μ-loop
-add-two c =
+add-asked : tie.Need-add-asked Inv-loop μ-loop
+add-asked c =
     let in-loop : tie.In-loop Inv-loop μ-loop = search in
     omega (arith, in-loop .loop-test .taken)
 
-shared-slice-read-two-2 : tie.Need-shared-slice-read-two-2 Inv-loop μ-loop
-shared-slice-read-two-2 c =
+shared-slice-read-asked-2 : tie.Need-shared-slice-read-asked-2 Inv-loop μ-loop
+shared-slice-read-asked-2 c =
     let in-loop : tie.In-loop Inv-loop μ-loop = search in
     omega (arith, in-loop .loop-test .taken)
 
-two-requires : tie.Need-two-requires Inv-loop μ-loop
-two-requires c κs = search needs
+asked-requires : tie.Need-asked-requires Inv-loop μ-loop
+asked-requires c κs = search needs
 
 step-requires : tie.Need-step-requires Inv-loop μ-loop
 step-requires c κs = search needs
@@ -82,12 +82,12 @@ play-spec =
     Inv-loop
     μ-loop
     loop-holds
-    mul-two
-    shared-slice-read-two
-    mul-two-2
-    add-two
-    shared-slice-read-two-2
-    two-requires
+    mul-asked
+    shared-slice-read-asked
+    mul-asked-2
+    add-asked
+    shared-slice-read-asked-2
+    asked-requires
     step-requires
     answer-requires
     wrapping-add-u64-requires

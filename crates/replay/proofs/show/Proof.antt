@@ -17,19 +17,16 @@ Inv-loop2 table s end n functions f₀ f = f ≤ functions
 abbrev μ-loop2 : tie.MeasureT-loop2
 μ-loop2 table s end n functions f₀ f = functions - f
 
-nodes-requires : tie.Need-nodes-requires Inv-loop μ-loop Inv-loop2 μ-loop2
-nodes-requires c κs = search needs
-
-capped-requires : tie.Need-capped-requires Inv-loop μ-loop Inv-loop2 μ-loop2
-capped-requires c κs = search needs
+last-node-requires : tie.Need-last-node-requires Inv-loop μ-loop Inv-loop2 μ-loop2
+last-node-requires c κs = search needs
 
 loop-holds : tie.Need-loop-holds Inv-loop μ-loop Inv-loop2 μ-loop2
 loop-holds c = omega arith
 
 add-n : tie.Need-add-n Inv-loop μ-loop Inv-loop2 μ-loop2
 add-n c =
-    let after-capped : tie.After-capped Inv-loop μ-loop Inv-loop2 μ-loop2 = search in
-    omega (arith, c .loop-test .taken, after-capped .capped .ensures)
+    let last : tie.After-last-node Inv-loop μ-loop Inv-loop2 μ-loop2 = search in
+    omega (arith, c .loop-test .taken, last .last-node .ensures)
 
 show-node-requires : tie.Need-show-node-requires Inv-loop μ-loop Inv-loop2 μ-loop2
 show-node-requires c κs = search needs
@@ -44,19 +41,16 @@ loop-again c =
     let in-loop : tie.In-loop Inv-loop μ-loop Inv-loop2 μ-loop2 = search in
     omega (arith, in-loop .loop-test .taken)
 
-functions-requires : tie.Need-functions-requires Inv-loop μ-loop Inv-loop2 μ-loop2
-functions-requires c κs = search needs
-
-capped-requires-2 : tie.Need-capped-requires-2 Inv-loop μ-loop Inv-loop2 μ-loop2
-capped-requires-2 c κs = search needs
+last-function-requires : tie.Need-last-function-requires Inv-loop μ-loop Inv-loop2 μ-loop2
+last-function-requires c κs = search needs
 
 loop2-holds : tie.Need-loop2-holds Inv-loop μ-loop Inv-loop2 μ-loop2
 loop2-holds c = omega arith
 
 add-f : tie.Need-add-f Inv-loop μ-loop Inv-loop2 μ-loop2
 add-f c =
-    let after-capped2 : tie.After-capped2 Inv-loop μ-loop Inv-loop2 μ-loop2 = search in
-    omega (arith, c .loop2-test .taken, after-capped2 .capped2 .ensures)
+    let main : tie.After-last-function Inv-loop μ-loop Inv-loop2 μ-loop2 = search in
+    omega (arith, c .loop2-test .taken, main .last-function .ensures)
 
 show-function-requires : tie.Need-show-function-requires Inv-loop μ-loop Inv-loop2 μ-loop2
 show-function-requires c κs = search needs
@@ -82,15 +76,13 @@ show-spec =
     μ-loop
     Inv-loop2
     μ-loop2
-    nodes-requires
-    capped-requires
+    last-node-requires
     loop-holds
     add-n
     show-node-requires
     loop-less
     loop-again
-    functions-requires
-    capped-requires-2
+    last-function-requires
     loop2-holds
     add-f
     show-function-requires

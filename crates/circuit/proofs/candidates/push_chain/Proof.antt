@@ -10,10 +10,10 @@ use Rattle.circuit.proofs.candidates.push_chain.Statement.{statement}
 use Rattle.circuit.proofs.candidates.push_chain.Tie as tie
 
 abbrev Inv-loop : tie.InvT-loop
-Inv-loop table cells status stack₀ height h₀ at₀ stack h at = (h ≤ 1024) × (at ≤ nodes table)
+Inv-loop table cells status stack₀ height h₀ at₀ stack h at = (h ≤ 1024) × (at .0 ≤ nodes table)
 
 abbrev μ-loop : tie.MeasureT-loop
-μ-loop table cells status stack₀ height h₀ at₀ stack h at = rest table at
+μ-loop table cells status stack₀ height h₀ at₀ stack h at = rest table (at .0)
 
 abbrev Start : Type 0
 Start = tie.Start Inv-loop μ-loop
@@ -22,7 +22,7 @@ abbrev Head : Type 0
 Head = tie.At-loop Inv-loop μ-loop
 
 abbrev Turn : Type 0
-Turn = tie.In-loop Inv-loop μ-loop
+Turn = tie.Then1 Inv-loop μ-loop
 
 abbrev Next : Type 0
 Next = tie.After-next Inv-loop μ-loop
@@ -37,7 +37,7 @@ abbrev start : Next → Start
 start c = search
 
 -- what was read is the next sibling
-read : (c : Next) → c .next .result .0 ≡ next (start c .args .table .now) (head c .loop .at)
+read : (c : Next) → c .next .result .0 ≡ next (start c .args .table .now) (head c .loop .at .0)
 read c = told _ _ (start c .pre .0) _ (omega arith, head c .loop .inv .1) 5 _ (omega arith) (c .next .ensures)
 
 loop-holds : tie.Need-loop-holds Inv-loop μ-loop
@@ -56,12 +56,12 @@ next-requires c κs = search needs
 
 loop-less : tie.Need-loop-less Inv-loop μ-loop
 loop-less c =
-    falls _ (start c .pre .0 .taken) _ (turn c .loop-test .taken) (head c .loop .inv .1) _ (read c)
+    falls _ (start c .pre .0 .taken) _ (turn c .if1 .taken) (head c .loop .inv .1) _ (read c)
 
 loop-again : tie.Need-loop-again Inv-loop μ-loop
 loop-again c =
     let h : tie.After-push-open Inv-loop μ-loop = search in
-    (h .push-open .ensures, next-in _ (start c .pre .0 .taken) _ (turn c .loop-test .taken) (head c .loop .inv .1) _ (read c))
+    (h .push-open .ensures, next-in _ (start c .pre .0 .taken) _ (turn c .if1 .taken) (head c .loop .inv .1) _ (read c))
 
 returns : tie.Need-returns Inv-loop μ-loop
 returns c =

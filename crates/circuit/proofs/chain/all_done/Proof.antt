@@ -15,11 +15,11 @@ use Rattle.circuit.proofs.chain.all_done.Tie as tie
 
 abbrev Inv-loop : tie.InvT-loop
 Inv-loop table cells status defs at₀ at =
-    (at ≤ nodes table)
-    × (allDone (entry status 0) (leading defs (chain table at₀)) ≡ allDone (entry status 0) (leading defs (chain table at)))
+    (at .0 ≤ nodes table)
+    × (allDone (entry status 0) (leading defs (chain table (at₀ .0))) ≡ allDone (entry status 0) (leading defs (chain table (at .0))))
 
 abbrev μ-loop : tie.MeasureT-loop
-μ-loop table cells status defs at₀ at = rest table at
+μ-loop table cells status defs at₀ at = rest table (at .0)
 
 abbrev Start : Type 0
 Start = tie.Start Inv-loop μ-loop
@@ -28,7 +28,7 @@ abbrev Head : Type 0
 Head = tie.At-loop Inv-loop μ-loop
 
 abbrev Turn : Type 0
-Turn = tie.In-loop Inv-loop μ-loop
+Turn = tie.Then1 Inv-loop μ-loop
 
 abbrev Next : Type 0
 Next = tie.After-next Inv-loop μ-loop
@@ -43,7 +43,7 @@ abbrev start : Next → Start
 start c = search
 
 -- what was read is the next sibling
-read : (c : Next) → c .next .result .0 ≡ next (start c .args .table .now) (head c .loop .at)
+read : (c : Next) → c .next .result .0 ≡ next (start c .args .table .now) (head c .loop .at .0)
 read c = told _ _ (start c .pre .0) _ (omega arith, head c .loop .inv .0) 5 _ (omega arith) (c .next .ensures)
 
 abbrev nexts : tie.After-ends Inv-loop μ-loop → Next
@@ -65,9 +65,9 @@ returns c =
     let told : tie.After-ends Inv-loop μ-loop = search in
     let on : Next = search in
     let l = head on in
-    sym (l .loop .inv .1 ∙ done-last _ (start on .pre .0 .taken) (start on .args .defs) _ (turn on .loop-test .taken) (l .loop .inv .0)
+    sym (l .loop .inv .1 ∙ done-last _ (start on .pre .0 .taken) (start on .args .defs) _ (turn on .if1 .taken) (l .loop .inv .0)
     _ (read on) (entry _ 0)
-    (sym (told .ends .ensures) ∙ c .if1 .taken))
+    (sym (told .ends .ensures) ∙ c .if2 .taken))
 
 status-at-requires : tie.Need-status-at-requires Inv-loop μ-loop
 status-at-requires c κs =
@@ -77,37 +77,37 @@ status-at-requires c κs =
 returns-2 : tie.Need-returns-2 Inv-loop μ-loop
 returns-2 c =
     let at : tie.After-status-at Inv-loop μ-loop = search in
-    let more : tie.Else1 Inv-loop μ-loop = search in
+    let more : tie.Else2 Inv-loop μ-loop = search in
     let told : tie.After-ends Inv-loop μ-loop = search in
     let on = nexts told in
     let l = head on in
-    sym (l .loop .inv .1 ∙ done-stops _ (start on .pre .0 .taken) (start on .args .defs) _ (turn on .loop-test .taken) (l .loop .inv .0)
+    sym (l .loop .inv .1 ∙ done-stops _ (start on .pre .0 .taken) (start on .args .defs) _ (turn on .if1 .taken) (l .loop .inv .0)
     _ (read on) (entry _ 0)
-    (sym (told .ends .ensures) ∙ more .if1 .left) _ (at .status-at .ensures) (c .if2 .taken))
+    (sym (told .ends .ensures) ∙ more .if2 .left) _ (at .status-at .ensures) (c .if3 .taken))
 
 loop-less : tie.Need-loop-less Inv-loop μ-loop
 loop-less c =
     let on = nexts (search) in
-    falls _ (start on .pre .0 .taken) _ (turn on .loop-test .taken) (head on .loop .inv .0) _ (read on)
+    falls _ (start on .pre .0 .taken) _ (turn on .if1 .taken) (head on .loop .inv .0) _ (read on)
 
 loop-again : tie.Need-loop-again Inv-loop μ-loop
 loop-again c =
     let at : tie.After-status-at Inv-loop μ-loop = search in
-    let more : tie.Else1 Inv-loop μ-loop = search in
+    let more : tie.Else2 Inv-loop μ-loop = search in
     let told : tie.After-ends Inv-loop μ-loop = search in
     let on = nexts told in
     let l = head on in (
-      next-in _ (start on .pre .0 .taken) _ (turn on .loop-test .taken) (l .loop .inv .0) _ (read on),
-      l .loop .inv .1 ∙ done-more _ (start on .pre .0 .taken) (start on .args .defs) _ (turn on .loop-test .taken) (l .loop .inv .0) _
+      next-in _ (start on .pre .0 .taken) _ (turn on .if1 .taken) (l .loop .inv .0) _ (read on),
+      l .loop .inv .1 ∙ done-more _ (start on .pre .0 .taken) (start on .args .defs) _ (turn on .if1 .taken) (l .loop .inv .0) _
           (read on) (entry _ 0)
-          (sym (told .ends .ensures) ∙ more .if1 .left) _ (at .status-at .ensures) (c .if2 .left),
+          (sym (told .ends .ensures) ∙ more .if2 .left) _ (at .status-at .ensures) (c .if3 .left),
     )
 
 returns-3 : tie.Need-returns-3 Inv-loop μ-loop
 returns-3 c =
     let l : Head = search in
     let s : Start = search in
-    sym (l .loop .inv .1 ∙ done-ends _ (s .pre .0 .taken) (s .args .defs) _ (c .loop-test .left) (entry _ 0))
+    sym (l .loop .inv .1 ∙ done-ends _ (s .pre .0 .taken) (s .args .defs) _ (c .if1 .left) (entry _ 0))
 
 pub all-done-spec : {M : Type 1} → statement M
 all-done-spec =

@@ -14,10 +14,10 @@ use Rattle.circuit.proofs.chain.last_of.Tie as tie
 
 abbrev Inv-loop : tie.InvT-loop
 Inv-loop table cells at₀ on₀ at on =
-    (on ≤ nodes table) × (at ≤ nodes table) × (lastFrom 0 (chain table on₀) ≡ lastFrom at (chain table on))
+    (on .0 ≤ nodes table) × (at .0 ≤ nodes table) × (lastFrom 0 (chain table (on₀ .0)) ≡ lastFrom (at .0) (chain table (on .0)))
 
 abbrev μ-loop : tie.MeasureT-loop
-μ-loop table cells at₀ on₀ at on = rest table on
+μ-loop table cells at₀ on₀ at on = rest table (on .0)
 
 abbrev Start : Type 0
 Start = tie.Start Inv-loop μ-loop
@@ -26,7 +26,7 @@ abbrev Head : Type 0
 Head = tie.At-loop Inv-loop μ-loop
 
 abbrev Turn : Type 0
-Turn = tie.In-loop Inv-loop μ-loop
+Turn = tie.Then1 Inv-loop μ-loop
 
 abbrev Next : Type 0
 Next = tie.After-next Inv-loop μ-loop
@@ -41,7 +41,7 @@ abbrev start : Next → Start
 start c = search
 
 -- what was read is the next sibling
-read : (c : Next) → c .next .result .0 ≡ next (start c .args .table .now) (head c .loop .on)
+read : (c : Next) → c .next .result .0 ≡ next (start c .args .table .now) (head c .loop .on .0)
 read c = told _ _ (start c .pre .0) _ (omega arith, head c .loop .inv .0) 5 _ (omega arith) (c .next .ensures)
 
 loop-holds : tie.Need-loop-holds Inv-loop μ-loop
@@ -54,21 +54,21 @@ next-requires c κs = search needs
 
 loop-less : tie.Need-loop-less Inv-loop μ-loop
 loop-less c =
-    falls _ (start c .pre .0 .taken) _ (turn c .loop-test .taken) (head c .loop .inv .0) _ (read c)
+    falls _ (start c .pre .0 .taken) _ (turn c .if1 .taken) (head c .loop .inv .0) _ (read c)
 
 loop-again : tie.Need-loop-again Inv-loop μ-loop
 loop-again c =
     let l = head c in (
-      next-in _ (start c .pre .0 .taken) _ (turn c .loop-test .taken) (l .loop .inv .0) _ (read c),
+      next-in _ (start c .pre .0 .taken) _ (turn c .if1 .taken) (l .loop .inv .0) _ (read c),
       l .loop .inv .0,
-      l .loop .inv .2 ∙ last-more _ (start c .pre .0 .taken) _ (turn c .loop-test .taken) (l .loop .inv .0) _ (read c) _,
+      l .loop .inv .2 ∙ last-more _ (start c .pre .0 .taken) _ (turn c .if1 .taken) (l .loop .inv .0) _ (read c) _,
     )
 
 returns : tie.Need-returns Inv-loop μ-loop
 returns c =
     let l : Head = search in
     let s : Start = search in
-    (sym (l .loop .inv .2 ∙ last-ends _ (s .pre .0 .taken) _ (c .loop-test .left) _), l .loop .inv .1)
+    (sym (l .loop .inv .2 ∙ last-ends _ (s .pre .0 .taken) _ (c .if1 .left) _), l .loop .inv .1)
 
 pub last-of-spec : {M : Type 1} → statement M
 last-of-spec =

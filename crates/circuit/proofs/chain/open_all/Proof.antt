@@ -15,10 +15,10 @@ use Rattle.circuit.proofs.chain.open_all.Tie as tie
 
 abbrev Inv-loop : tie.InvT-loop
 Inv-loop table cells status₀ defs at₀ status at =
-    (at ≤ nodes table) × (opened status₀ (leading defs (chain table at₀)) ≡ opened status (leading defs (chain table at)))
+    (at .0 ≤ nodes table) × (opened status₀ (leading defs (chain table (at₀ .0))) ≡ opened status (leading defs (chain table (at .0))))
 
 abbrev μ-loop : tie.MeasureT-loop
-μ-loop table cells status₀ defs at₀ status at = rest table at
+μ-loop table cells status₀ defs at₀ status at = rest table (at .0)
 
 abbrev Start : Type 0
 Start = tie.Start Inv-loop μ-loop
@@ -27,7 +27,7 @@ abbrev Head : Type 0
 Head = tie.At-loop Inv-loop μ-loop
 
 abbrev Turn : Type 0
-Turn = tie.In-loop Inv-loop μ-loop
+Turn = tie.Then1 Inv-loop μ-loop
 
 abbrev Next : Type 0
 Next = tie.After-next Inv-loop μ-loop
@@ -42,7 +42,7 @@ abbrev start : Next → Start
 start c = search
 
 -- what was read is the next sibling
-read : (c : Next) → c .next .result .0 ≡ next (start c .args .table .now) (head c .loop .at)
+read : (c : Next) → c .next .result .0 ≡ next (start c .args .table .now) (head c .loop .at .0)
 read c = told _ _ (start c .pre .0) _ (omega arith, head c .loop .inv .0) 5 _ (omega arith) (c .next .ensures)
 
 abbrev nexts : tie.After-ends Inv-loop μ-loop → Next
@@ -64,9 +64,9 @@ returns c =
     let told : tie.After-ends Inv-loop μ-loop = search in
     let on : Next = search in
     let l = head on in
-    sym (l .loop .inv .1 ∙ open-last _ (start on .pre .0 .taken) (start on .args .defs) _ (turn on .loop-test .taken) (l .loop .inv .0)
+    sym (l .loop .inv .1 ∙ open-last _ (start on .pre .0 .taken) (start on .args .defs) _ (turn on .if1 .taken) (l .loop .inv .0)
     _ (read on) _
-    (sym (told .ends .ensures) ∙ c .if1 .taken))
+    (sym (told .ends .ensures) ∙ c .if2 .taken))
 
 set-status-requires : tie.Need-set-status-requires Inv-loop μ-loop
 set-status-requires c κs =
@@ -76,18 +76,18 @@ set-status-requires c κs =
 loop-less : tie.Need-loop-less Inv-loop μ-loop
 loop-less c =
     let on = nexts (search) in
-    falls _ (start on .pre .0 .taken) _ (turn on .loop-test .taken) (head on .loop .inv .0) _ (read on)
+    falls _ (start on .pre .0 .taken) _ (turn on .if1 .taken) (head on .loop .inv .0) _ (read on)
 
 loop-again : tie.Need-loop-again Inv-loop μ-loop
 loop-again c =
-    let more : tie.Else1 Inv-loop μ-loop = search in
+    let more : tie.Else2 Inv-loop μ-loop = search in
     let told : tie.After-ends Inv-loop μ-loop = search in
     let on = nexts told in
     let l = head on in (
-      next-in _ (start on .pre .0 .taken) _ (turn on .loop-test .taken) (l .loop .inv .0) _ (read on),
-      l .loop .inv .1 ∙ open-more _ (start on .pre .0 .taken) (start on .args .defs) _ (turn on .loop-test .taken) (l .loop .inv .0) _
+      next-in _ (start on .pre .0 .taken) _ (turn on .if1 .taken) (l .loop .inv .0) _ (read on),
+      l .loop .inv .1 ∙ open-more _ (start on .pre .0 .taken) (start on .args .defs) _ (turn on .if1 .taken) (l .loop .inv .0) _
           (read on) _
-          (sym (told .ends .ensures) ∙ more .if1 .left)
+          (sym (told .ends .ensures) ∙ more .if2 .left)
           ∙ ap (λ x. opened x (leading (start on .args .defs) (chain (start on .args .table .now) (on .next .result .0))))
           (sym (c .set-status .ensures)),
     )
@@ -96,7 +96,7 @@ returns-2 : tie.Need-returns-2 Inv-loop μ-loop
 returns-2 c =
     let l : Head = search in
     let s : Start = search in
-    sym (l .loop .inv .1 ∙ open-ends _ (s .pre .0 .taken) (s .args .defs) _ (c .loop-test .left) _)
+    sym (l .loop .inv .1 ∙ open-ends _ (s .pre .0 .taken) (s .args .defs) _ (c .if1 .left) _)
 
 pub open-all-spec : {M : Type 1} → statement M
 open-all-spec =

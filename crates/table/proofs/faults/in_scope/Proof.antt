@@ -71,8 +71,8 @@ returns-2 c =
     let s : tie.Start = search in
     sym (scope-root _ _ _ _ refl (parent-past _ (s .pre .links) _ (omega (arith, last (search)))))
 
-cast-k : tie.Need-cast-k
-cast-k c =
+cast-low : tie.Need-cast-low
+cast-low c =
     let s : tie.Start = search in
     omega (arith, last (search), s .pre .framed .N-high)
 
@@ -123,7 +123,7 @@ in-scope-spec =
     last-requires
     cast-if2
     returns-2
-    cast-k
+    cast-low
     parent-requires
     returns-3
     kind-requires

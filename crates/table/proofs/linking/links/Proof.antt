@@ -3,7 +3,7 @@
 use native.Mathlib.Omega.{arith}
 use borrow.Author.Needs.{needs}
 use Prim.Native.Nat.{_+_, _-_, _≤_}
-use mathlib.Core.Path.{_≡_}
+use mathlib.Core.Path.{_≡_, _∙_}
 use Rattle.table.specs.Bytes.{nodes}
 use borrow.Author.Tests.{not-false}
 use lib.ListN.{getD}
@@ -102,18 +102,23 @@ hand-on-requires c κs =
 returns : tie.Need-returns Inv-loop μ-loop
 returns c = never
 
-cast-up : tie.Need-cast-up Inv-loop μ-loop
-cast-up c = search needs
+parent-requires : tie.Need-parent-requires Inv-loop μ-loop
+parent-requires c κs = search needs
+
+cast-offspring : tie.Need-cast-offspring Inv-loop μ-loop
+cast-offspring c = search needs
 
 mul-offspring : tie.Need-mul-offspring Inv-loop μ-loop
 mul-offspring c = search needs
 
 element-write-offspring : tie.Need-element-write-offspring Inv-loop μ-loop
 element-write-offspring c =
+    let up : tie.After-parent Inv-loop μ-loop = search in
     let h : Handing = search in
     let t = turn h in
     omega (
       arith,
+      up .parent .ensures,
       kin-parent _ (s t .pre .0) _ (node t) _ (own h),
       parent-lower (s t .args .table .now) (l t .loop .n + 1)
           (node t .0),
@@ -126,12 +131,13 @@ loop-less c = omega arith
 
 loop-again : tie.Need-loop-again Inv-loop μ-loop
 loop-again c =
+    let up : tie.After-parent Inv-loop μ-loop = search in
     let h : Handing = search in
     let t = turn h in
     let fr = s t .pre .0 in (
       omega (arith, t .loop-test .taken),
       linked-more _ _ _ _ fr _ (node t) (l t .loop .inv .1) (told h .hand-on .ensures (not-false _ (h .if1 .left))) _ _
-          (kin-parent _ fr _ (node t) _ (own h))
+          (up .parent .ensures ∙ kin-parent _ fr _ (node t) _ (own h))
           (kin-rank _ fr _ (node t) _ (own h)),
       l t .loop .inv .2,
     )
@@ -161,7 +167,8 @@ links-spec =
     element-copy-out-own
     hand-on-requires
     returns
-    cast-up
+    parent-requires
+    cast-offspring
     mul-offspring
     element-write-offspring
     loop-less

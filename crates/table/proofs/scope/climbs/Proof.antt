@@ -11,10 +11,10 @@ use Rattle.table.proofs.scope.climbs.Statement.{statement}
 use Rattle.table.proofs.scope.climbs.Tie as tie
 
 abbrev Inv-loop : tie.InvT-loop
-Inv-loop table offspring p from a₀ a = (a ≤ nodes table) × Outward table from a
+Inv-loop table offspring p a₀ a = (a .0 ≤ nodes table) × Outward table (a₀ .0) (a .0)
 
 abbrev μ-loop : tie.MeasureT-loop
-μ-loop table offspring p from a₀ a = a
+μ-loop table offspring p a₀ a = a .0
 
 loop-holds : tie.Need-loop-holds Inv-loop μ-loop
 loop-holds c =
@@ -31,9 +31,9 @@ loop-less : tie.Need-loop-less Inv-loop μ-loop
 loop-less c =
     let s : tie.Start Inv-loop μ-loop = search in
     let l : tie.At-loop Inv-loop μ-loop = search in
-    let t : tie.In-loop Inv-loop μ-loop = search in
+    let t : tie.Then1 Inv-loop μ-loop = search in
     let o : tie.After-outer Inv-loop μ-loop = search in
-    omega (arith, o .outer .ensures .0, around-lower (s .args .table .now) (l .loop .a) (omega (arith, t .loop-test .taken)))
+    omega (arith, o .outer .ensures .0, around-lower (s .args .table .now) (l .loop .a .0) (omega (arith, t .if1 .taken)))
 
 loop-again : tie.Need-loop-again Inv-loop μ-loop
 loop-again c =
@@ -45,7 +45,7 @@ returns : tie.Need-returns Inv-loop μ-loop
 returns c e =
     let s : tie.Start Inv-loop μ-loop = search in
     let l : tie.At-loop Inv-loop μ-loop = search in
-    subst (Outward (s .args .table .now) (s .args .from)) (eqb-true _ _ e) (l .loop .inv .1)
+    subst (Outward (s .args .table .now) (s .args .from .0)) (eqb-true _ _ e) (l .loop .inv .1)
 
 pub climbs-spec : {M : Type 1} → statement M
 climbs-spec =

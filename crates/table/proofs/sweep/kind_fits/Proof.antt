@@ -21,7 +21,7 @@ abbrev begin : tie.After-rule3 → tie.Start
 begin c = search
 
 call : (c : tie.After-rule3) → let s = begin c in
-    (s .args .owner + s .args .tail - 1) * c .rule3 .result ≤ s .args .owner + s .args .tail - 1
+    (s .args .owner .0 + s .args .tail - 1) * c .rule3 .result ≤ s .args .owner .0 + s .args .tail - 1
 call c = flag-times _ _ (omega (arith, c .rule3 .ensures, one-most (eqb (begin c .args .kind) 4)))
 
 rule-requires : tie.Need-rule-requires
@@ -53,14 +53,17 @@ cast-call c = search needs
 returns-2 : tie.Need-returns-2
 returns-2 c = never
 
+cast-most : tie.Need-cast-most
+cast-most c = search needs
+
 add-most : tie.Need-add-most
 add-most c = search needs
 
 sub-most : tie.Need-sub-most
 sub-most c = search needs
 
-cast-most : tie.Need-cast-most
-cast-most c = search needs
+cast-most-2 : tie.Need-cast-most-2
+cast-most-2 c = search needs
 
 mul-most : tie.Need-mul-most
 mul-most c =
@@ -70,8 +73,8 @@ mul-most c =
 rule-requires-4 : tie.Need-rule-requires-4
 rule-requires-4 c κs = search needs
 
-cast-most-2 : tie.Need-cast-most-2
-cast-most-2 c = search needs
+cast-most-3 : tie.Need-cast-most-3
+cast-most-3 c = search needs
 
 mul-most-2 : tie.Need-mul-most-2
 mul-most-2 c = search needs
@@ -117,12 +120,13 @@ kind-fits-spec =
     rule-requires-3
     cast-call
     returns-2
+    cast-most
     add-most
     sub-most
-    cast-most
+    cast-most-2
     mul-most
     rule-requires-4
-    cast-most-2
+    cast-most-3
     mul-most-2
     add-most-2
     returns-3)

@@ -1,7 +1,7 @@
 -- `sweep::node` meets its contract: it fails, or all is read, and is handed down.
 use native.Mathlib.Omega.{arith}
-use Prim.Native.Nat.{ℕ, _+_, _-_, _*_, _/_, _%_, _≤_, _<_}
-use mathlib.Core.Path.{_≡_, sym, ap, ap₂, _∙_}
+use Prim.Native.Nat.{_+_, _-_, _*_, _/_, _%_, _≤_, _<_}
+use mathlib.Core.Path.{_≡_, sym, subst, ap, ap₂, _∙_}
 use lib.Dec.{eqb, leb}
 use borrow.Author.Tests.{not-false}
 use Rattle.table.specs.Find.{one}
@@ -40,6 +40,9 @@ module _ (c : Read) where
   abbrev words : tie.After-word
   words = search
 
+  abbrev owners : tie.After-owner
+  owners = search
+
   abbrev nexts : tie.After-next
   nexts = search
 
@@ -49,26 +52,23 @@ module _ (c : Read) where
   is : IsNode (s .args .table .now) (s .args .n .0)
   is = (node .place .low, node .place .high)
 
+  small : s .args .n .0 ≤ 512
+  small = omega (arith, is .1, node .place .framed .N-high)
+
   kinds : of .kind .result < 8
   kinds = omega (arith, few .if1 .left)
 
-  owns : s .args .own % 64 ≡ owner (s .args .table .now) (s .args .n .0)
-  owns = kin-owner _ (node .place .framed) _ is _ (node .kin)
+  owns : owners .owner .result .0 ≡ owner (s .args .table .now) (s .args .n .0)
+  owns = owners .owner .ensures ∙ kin-owner _ (node .place .framed) _ is _ (node .kin)
 
   ranks : s .args .own / 65536 ≡ rank (s .args .table .now) (s .args .n .0)
   ranks = kin-rank _ (node .place .framed) _ is _ (node .kin)
 
   ranked : rank (s .args .table .now) (s .args .n .0) ≤ 512
-  ranked = omega (
-    arith,
-    rank-small (s .args .table .now) (s .args .n .0) (s .args .n .0) (omega arith)
-        (is .0),
-    is .1,
-    node .place .framed .N-high,
-  )
+  ranked = omega (arith, rank-small (s .args .table .now) (s .args .n .0) (s .args .n .0) (omega arith) (is .0), small)
 
-  function : IsFunction (s .args .table .now) (s .args .own % 64)
-  function = rw owns (owner-in _ (node .links) _ is)
+  function : IsFunction (s .args .table .now) (owners .owner .result .0)
+  function = subst (IsFunction _) (sym owns) (owner-in _ (node .links) _ is)
 
   end-told : c .ending .result ≡ one (eqb (next (s .args .table .now) (s .args .n .0)) 0)
   end-told = c .ending .ensures ∙ ap (λ m. one (eqb m 0)) (nexts .next .ensures)
@@ -81,7 +81,7 @@ module _ (c : Read) where
   up = kin-parent _ (node .place .framed) _ is _ (node .kin)
 
   up-small : parent (s .args .table .now) (s .args .n .0) ≤ 512
-  up-small = omega (arith, parent-lower (s .args .table .now) (s .args .n .0) (is .0), is .1, node .place .framed .N-high)
+  up-small = omega (arith, parent-lower (s .args .table .now) (s .args .n .0) (is .0), small)
 
   outer : s .args .inherited % 1024 ≡ around (s .args .table .now) (parent (s .args .table .now) (s .args .n .0))
   outer = down-around _ _ up-small _ (node .handed)
@@ -91,24 +91,6 @@ module _ (c : Read) where
 
   ends-let : c .ending .result * (s .args .inherited / 1024 % 2) ≤ 1
   ends-let = omega (arith, flag-times (c .ending .result) (s .args .inherited / 1024 % 2) (omega arith), end-most)
-
-  -- what is around it
-  abbrev scope : ℕ
-  scope =
-      let out = s .args .inherited % 1024 in
-      out + (s .args .own / 64 % 1024 - out) * (c .ending .result * (s .args .inherited / 1024 % 2))
-
-  around-told : scope ≡ around (s .args .table .now) (s .args .n .0)
-  around-told = scope-told _ _ _ _ _ _ (is .0) outer up end-told lets
-
-  scope-small : scope ≤ 512
-  scope-small = omega (
-    arith,
-    around-told,
-    around-most (s .args .table .now) (s .args .n .0),
-    is .1,
-    node .place .framed .N-high,
-  )
 
 -- and of its function, with its tail position
 abbrev Fitting : Type 0
@@ -148,7 +130,7 @@ abbrev passed : Called → tie.Else2
 passed c = search
 
 fits : (k : Called) → let p = fitting k in let r = read p in
-    KindFits (of r .kind .result) (extras r .extra .result) (words r .word .result) (s r .args .own % 64) (p .params .result)
+    KindFits (of r .kind .result) (extras r .extra .result) (words r .word .result) (owners r .owner .result .0) (p .params .result)
     (tails p .tail-at .result)
 fits k = fitted k .kind-fits .ensures (not-false _ (passed k .if2 .left))
 
@@ -171,14 +153,36 @@ argued c = search
 abbrev reading : tie.Else3 → Read
 reading c = read (fitting (called (argued c)))
 
-abbrev counted : tie.After-rule2 → tie.Else3
-counted c = search
+-- what is around it
+module _ (c : tie.After-innermost) where
+  abbrev counted : tie.Else3
+  counted = search
+
+  abbrev outers : tie.After-let-in
+  outers = search
+
+  abbrev ups : tie.After-parent
+  ups = search
+
+  abbrev r : Read
+  r = reading counted
+
+  around-told : c .innermost .result .0 ≡ around (s r .args .table .now) (s r .args .n .0)
+  around-told =
+      c .innermost .ensures
+      ∙ scope-told _ _ _ _ _ _ (is r .0) (outers .let-in .ensures ∙ outer r) (ups .parent .ensures ∙ up r) (end-told r) (lets r)
+
+  scope-small : c .innermost .result .0 ≤ 512
+  scope-small = omega (arith, around-told, around-most (s r .args .table .now) (s r .args .n .0), small r)
+
+abbrev inner : tie.After-rule2 → tie.After-innermost
+inner c = search
 
 abbrev fitted-at : tie.After-rule2 → Fitting
-fitted-at c = fitting (called (argued (counted c)))
+fitted-at c = fitting (called (argued (counted (inner c))))
 
 abbrev read-at : tie.After-rule2 → Read
-read-at c = reading (counted c)
+read-at c = r (inner c)
 
 kind-requires : tie.Need-kind-requires
 kind-requires c κs = search needs
@@ -203,6 +207,9 @@ word-requires c κs = search needs
 cast-word : tie.Need-cast-word
 cast-word c = search needs
 
+owner-requires : tie.Need-owner-requires
+owner-requires c κs = search needs
+
 next-requires : tie.Need-next-requires
 next-requires c κs = search needs
 
@@ -217,9 +224,6 @@ add-tail-at c = record { fits = omega (arith, end-most c, ranks c, ranked c) }
 
 tail-at-requires : tie.Need-tail-at-requires
 tail-at-requires c κs = search needs
-
-cast-t28 : tie.Need-cast-t28
-cast-t28 c = search needs
 
 params-requires : tie.Need-params-requires
 params-requires c κs =
@@ -277,26 +281,32 @@ returns-3 c e =
     let f : tie.After-failed3 = search in
     never (sym (f .failed3 .ensures) ∙ e)
 
-sub-scope : tie.Need-sub-scope
-sub-scope c =
-    let r = reading c in
-    omega (arith, outer r, up r, around-most (s r .args .table .now) (parent (s r .args .table .now) (s r .args .n .0)))
+mul-body : tie.Need-mul-body
+mul-body c = record { fits = omega (arith, ends-let (reading c)) }
 
-mul-scope : tie.Need-mul-scope
-mul-scope c = record { fits = omega (arith, ends-let (reading c)) }
+let-in-requires : tie.Need-let-in-requires
+let-in-requires c κs = search needs
 
-mul-scope-2 : tie.Need-mul-scope-2
-mul-scope-2 c =
-    let r = reading c in
-    let up = s r .args .own / 64 % 1024 in
-    let out = s r .args .inherited % 1024 in
-    record { fits = omega (arith, flag-times (up - out) _ (ends-let r)) }
+parent-requires : tie.Need-parent-requires
+parent-requires c κs = search needs
 
-add-scope : tie.Need-add-scope
-add-scope c = record { fits = omega (arith, scope-small (reading c)) }
+innermost-requires : tie.Need-innermost-requires
+innermost-requires c κs =
+    let out : tie.After-let-in = search in
+    let up-at : tie.After-parent = search in
+    let r = reading (search) in
+    let t = s r .args .table .now in (
+      omega (arith, out .let-in .ensures, up-at .parent .ensures, outer r, up r, around-most t (parent t (s r .args .n .0))),
+      ends-let r,
+    )
+
+cast-down : tie.Need-cast-down
+cast-down c = search needs
 
 rule-requires-2 : tie.Need-rule-requires-2
-rule-requires-2 c κs = search needs
+rule-requires-2 c κs =
+    let k : tie.After-innermost = search in
+    (s (r k) .pre .1, kinds (r k), omega arith)
 
 add-down : tie.Need-add-down
 add-down c =
@@ -317,7 +327,7 @@ mul-down-2 c =
 add-down-2 : tie.Need-add-down-2
 add-down-2 c =
     let r = read-at c in
-    record { fits = omega (arith, scope-small r, c .rule2 .ensures, rule-small (of r .kind .result) 3) }
+    record { fits = omega (arith, scope-small (inner c), c .rule2 .ensures, rule-small (of r .kind .result) 3) }
 
 rule-requires-3 : tie.Need-rule-requires-3
 rule-requires-3 c κs = let r = read-at c in (s r .pre .1, kinds r, omega arith)
@@ -332,6 +342,7 @@ returns-4 c e =
     let a : tie.After-arguments = search in
     let k = called a in
     let tail = tails p .tail-at .result in
+    let scope = inner d .innermost .result .0 in
     let kids = counted-told _ _ _ _ _ _ _ (of r .kind .ensures) (extras r .extra .ensures) (words r .word .ensures) (node r .children)
     (λ e. a .arguments .ensures (k .rule .ensures ∙ ap (λ x. one (eqb x 4)) e))
     (sym (n .counted .ensures) ∙ not-false _ (m .if3 .left)) in
@@ -341,8 +352,8 @@ returns-4 c e =
             (p .params .ensures) (tail-known p) (fits k);
         counts = kids;
       };
-      down = ap (λ x. scope r + 1024 * (x + 4096 - 4096 * tail)) (d .rule2 .ensures)
-          ∙ down-told _ _ (scope r) (of r .kind .result) tail (is r .0) (around-told r) (of r .kind .ensures) (tail-known p);
+      down = ap (λ x. scope + 1024 * (x + 4096 - 4096 * tail)) (d .rule2 .ensures)
+          ∙ down-told _ _ scope (of r .kind .result) tail (is r .0) (around-told (inner d)) (of r .kind .ensures) (tail-known p);
       bound = c .rule3 .ensures ∙ ap (λ x. one (eqb x 7)) (of r .kind .ensures);
     }
 
@@ -357,12 +368,12 @@ node-spec =
     cast-extra
     word-requires
     cast-word
+    owner-requires
     next-requires
     ending-requires
     mul-tail-at
     add-tail-at
     tail-at-requires
-    cast-t28
     params-requires
     cast-params
     kind-fits-requires
@@ -374,10 +385,11 @@ node-spec =
     counted-requires
     failed-requires-3
     returns-3
-    sub-scope
-    mul-scope
-    mul-scope-2
-    add-scope
+    mul-body
+    let-in-requires
+    parent-requires
+    innermost-requires
+    cast-down
     rule-requires-2
     add-down
     mul-down

@@ -113,8 +113,8 @@ mul-own c = search needs
 element-copy-out-own : tie.Need-element-copy-out-own Inv-loop μ-loop
 element-copy-out-own c = search needs
 
-cast-up : tie.Need-cast-up Inv-loop μ-loop
-cast-up c = search needs
+parent-requires : tie.Need-parent-requires Inv-loop μ-loop
+parent-requires c κs = search needs
 
 mul-node : tie.Need-mul-node Inv-loop μ-loop
 mul-node c = search needs
@@ -122,15 +122,21 @@ mul-node c = search needs
 element-copy-out-node : tie.Need-element-copy-out-node Inv-loop μ-loop
 element-copy-out-node c = search needs
 
+cast-node : tie.Need-cast-node Inv-loop μ-loop
+cast-node c = search needs
+
 mul-node-2 : tie.Need-mul-node-2 Inv-loop μ-loop
 mul-node-2 c = search needs
 
 element-copy-out-node-2 : tie.Need-element-copy-out-node-2 Inv-loop μ-loop
-element-copy-out-node-2 c = let t : Turn = search in inside t
+element-copy-out-node-2 c =
+    let up : tie.After-parent Inv-loop μ-loop = search in
+    omega (arith, up .parent .ensures, inside (search))
 
 node-requires : tie.Need-node-requires Inv-loop μ-loop
 node-requires c κs =
     let t : Turn = search in
+    let read : tie.After-parent Inv-loop μ-loop = search in
     let base : tie.After-base Inv-loop μ-loop = search in
     let rules : tie.After-rules Inv-loop μ-loop = search in
     let operations : tie.After-operations Inv-loop μ-loop = search in
@@ -146,7 +152,7 @@ node-requires c κs =
           parent-lower (table t) (n t)
               (node t .0),
         )) .counts;
-        handed = inv .handed (own t / 64 % 1024) (omega (arith, above t)) ∙ ap (downOf (table t)) (up t);
+        handed = inv .handed _ (omega (arith, read .parent .ensures, above t)) ∙ ap (downOf (table t)) (read .parent .ensures ∙ up t);
       },
       rules .rules .ensures,
       operations .operations .ensures,
@@ -213,9 +219,10 @@ sift-spec =
     cast-at
     mul-own
     element-copy-out-own
-    cast-up
+    parent-requires
     mul-node
     element-copy-out-node
+    cast-node
     mul-node-2
     element-copy-out-node-2
     node-requires
