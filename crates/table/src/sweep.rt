@@ -128,12 +128,14 @@ pub(crate) fn let_in(down: u32) -> Node
     Node((down % 1024) as u16)
 }
 
-// The innermost let around a node: its parent, where it is that let's body (1), else what is around its parent (0).
+// The innermost let around a node: its parent, where it is that let's body (1), else what is around its parent (0). In 32 bits, as what
+// comes in and goes out is: so LLVM has no number to widen.
 fn innermost(outer: Node, up: Node, body: u32) -> Node
     requires { ⌜ (outer .0 ≤ up .0) × (body ≤ 1) ⌝ }
     ensures { λ r. ⌜ r .0 ≡ outer .0 + (up .0 - outer .0) * body ⌝ }
 {
-    let inner = outer.0 + (up.0 - outer.0) * (body as u16);
+    let out = outer.0 as u32;
+    let inner = (out + ((up.0 as u32) - out) * body) as u16;
     Node(inner)
 }
 

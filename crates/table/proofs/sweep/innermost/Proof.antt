@@ -9,11 +9,14 @@ use Rattle.table.proofs.sweep.innermost.Tie as tie
 more : (s : tie.Start) → let a = s .args in (a .up .0 - a .outer .0) * a .body ≤ a .up .0 - a .outer .0
 more s = flag-times _ _ (s .pre .1)
 
-sub-inner : tie.Need-sub-inner
-sub-inner c = search needs
+cast-out : tie.Need-cast-out
+cast-out c = search needs
 
 cast-inner : tie.Need-cast-inner
 cast-inner c = search needs
+
+sub-inner : tie.Need-sub-inner
+sub-inner c = search needs
 
 mul-inner : tie.Need-mul-inner
 mul-inner c = record { fits = omega (arith, more (search)) }
@@ -21,8 +24,11 @@ mul-inner c = record { fits = omega (arith, more (search)) }
 add-inner : tie.Need-add-inner
 add-inner c = record { fits = omega (arith, more (search)) }
 
+cast-inner-2 : tie.Need-cast-inner-2
+cast-inner-2 c = omega (arith, more (search))
+
 returns : tie.Need-returns
 returns c = search needs
 
 pub innermost-spec : {M : Type 1} → statement M
-innermost-spec = tie.close (tie.spec sub-inner cast-inner mul-inner add-inner returns)
+innermost-spec = tie.close (tie.spec cast-out cast-inner sub-inner mul-inner add-inner cast-inner-2 returns)
