@@ -135,6 +135,27 @@ fn reset(
     store::set_status(status, r, 1);
 }
 
+// Where to look after node n is done: its next sibling if that is open, else its parent; of a root, the call that waits for it.
+fn onward(table: &[u8], cells: &Cells, status: &[u8; 512], occupant: &[u16; 32], n: Node) -> Node
+    requires { ⌜ Read (now table) (now cells) × IsNode (now table) (n .0) ⌝ }
+{
+    let on = decoded::next(cells, n);
+    if store::status_at(status, on) == 1 {
+        return on;
+    }
+    let p = decoded::parent(cells, n);
+    if p.0 != 0 {
+        return p;
+    }
+    store::occupant_at(occupant, decoded::owner(cells, n))
+}
+
+// Where to look after node n has begun: its first child, or itself.
+fn below(cells: &Cells, n: Node) -> Node {
+    let c = decoded::first(cells, n);
+    if c.0 == 0 { n } else { c }
+}
+
 // What came of a step that was tried: none, for a cause of its own or since the resource is occupied, or the move is made.
 pub enum Effect {
     Stuck,
@@ -142,7 +163,7 @@ pub enum Effect {
     Moved,
 }
 
-// Takes the step of an open node: a constant, a parameter or a bound is done, any other opens children.
+// Takes the step of an open node: a constant, a parameter or a bound is done, any other opens children. `on` gets where to look next.
 pub(crate) fn take_open(
     table: &[u8],
     cells: &Cells,
@@ -150,7 +171,9 @@ pub(crate) fn take_open(
     second: &mut [bool; 512],
     value: &mut [u32; 512],
     registers: &[u32; 256],
+    occupant: &[u16; 32],
     n: Node,
+    on: &mut u16,
 )
     requires { ⌜ Read (now table) (now cells) × IsNode (now table) (n .0) × (entry (now status) 0 (n .0) ≡ 1) ⌝ }
     ensures { λ _. ⌜ ((e : List ℕ) → Made (now (table .entry))
@@ -159,7 +182,10 @@ pub(crate) fn take_open(
 {
     let kind = decoded::kind(cells, n);
     match kind {
-        1 => finish(status, second, value, n, decoded::word(cells, n)),
+        1 => {
+            finish(status, second, value, n, decoded::word(cells, n));
+            *on = onward(table, cells, status, occupant, n).0;
+        }
         2 => {
             let v = store::register_at(
                 registers,
@@ -167,16 +193,21 @@ pub(crate) fn take_open(
                 decoded::extra(cells, n),
             );
             finish(status, second, value, n, v);
+            *on = onward(table, cells, status, occupant, n).0;
         }
         7 => {
             let v = store::value_at(value, decoded::definiens(cells, n));
             finish(status, second, value, n, v);
+            *on = onward(table, cells, status, occupant, n).0;
         }
-        _ => begin(table, cells, status, n),
+        _ => {
+            begin(table, cells, status, n);
+            *on = below(cells, n).0;
+        }
     }
 }
 
-// Takes the step of a node that isn't open, if it has one.
+// Takes the step of a node that isn't open, if it has one. `on` gets where to look next.
 pub(crate) fn take_busy(
     table: &[u8],
     cells: &Cells,
@@ -189,6 +220,7 @@ pub(crate) fn take_busy(
     registers: &mut [u32; 256],
     occupant: &mut [u16; 32],
     n: Node,
+    on: &mut u16,
 ) -> Effect
     requires { ⌜ Read (now table) (now cells) × IsNode (now table) (n .0) × (entry (now status) 0 (n .0) ≡ 1 → ⊥)
         × (grouped ≡ true → Grouped (now table) (now heads) (now links)) ⌝ }
@@ -209,10 +241,12 @@ pub(crate) fn take_busy(
         Plan::Turns(m) => {
             store::set_status(status, m, 1);
             store::set_second(second, n, true);
+            *on = m.0;
             Effect::Moved
         }
         Plan::Finishes(v) => {
             finish(status, second, value, n, v);
+            *on = onward(table, cells, status, occupant, n).0;
             Effect::Moved
         }
         Plan::Enters(g) => {
@@ -232,11 +266,13 @@ pub(crate) fn take_busy(
             );
             store::set_second(second, n, true);
             store::set_occupant(occupant, g, n);
+            *on = decoded::root(cells, g).0;
             Effect::Moved
         }
         Plan::Leaves(g, v) => {
             finish(status, second, value, n, v);
             store::set_occupant(occupant, g, Node(0));
+            *on = onward(table, cells, status, occupant, n).0;
             Effect::Moved
         }
         Plan::Restarts => {
@@ -255,6 +291,7 @@ pub(crate) fn take_busy(
                 f,
                 c,
             );
+            *on = decoded::root(cells, f).0;
             Effect::Moved
         }
     }

@@ -51,6 +51,11 @@ enum-known-p-2 c = search needs
 finish-requires : tie.Need-finish-requires
 finish-requires c κs = n-high (search)
 
+onward-requires : tie.Need-onward-requires
+onward-requires c κs =
+    let s : tie.Start = search in
+    (s .pre .0, s .pre .1)
+
 enum-known-p-3 : tie.Need-enum-known-p-3
 enum-known-p-3 c = search needs
 
@@ -72,6 +77,9 @@ set-occupant-requires c κs =
     let p : tie.After-busy = search in
     omega (arith, entered-in enters .1, ok _ (start p .pre .0 .taken) .F-high)
 
+root-requires : tie.Need-root-requires
+root-requires c κs = search needs
+
 enum-known-p-4 : tie.Need-enum-known-p-4
 enum-known-p-4 c = search needs
 
@@ -90,6 +98,11 @@ set-occupant-requires-2 c κs =
           .F-high,
     )
 
+onward-requires-2 : tie.Need-onward-requires-2
+onward-requires-2 c κs =
+    let s : tie.Start = search in
+    (s .pre .0, s .pre .1)
+
 enum-told-3 : tie.Need-enum-told-3
 enum-told-3 c = search needs
 
@@ -106,6 +119,9 @@ reset-requires-2 c κs =
     let s = start-first2 first in
     (s .pre .0, s .pre .3, own-there own, first-in _ (s .pre .0 .taken) _ (s .pre .1) _ (firsts2 first))
 
+root-requires-2 : tie.Need-root-requires-2
+root-requires-2 c κs = search needs
+
 pub take-busy-spec : {M : Type 1} → statement M
 take-busy-spec =
     tie.close
@@ -120,18 +136,22 @@ take-busy-spec =
     set-second-requires
     enum-known-p-2
     finish-requires
+    onward-requires
     enum-known-p-3
     first-requires
     reset-requires
     set-second-requires-2
     set-occupant-requires
+    root-requires
     enum-known-p-4
     finish-requires-2
     set-occupant-requires-2
+    onward-requires-2
     enum-told-3
     owner-requires
     first-requires-2
     reset-requires-2
+    root-requires-2
     returns-2
     returns-3
     returns-4

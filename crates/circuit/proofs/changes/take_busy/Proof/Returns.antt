@@ -91,14 +91,16 @@ returns-4 c =
 
 pub returns-5 : tie.Need-returns-5
 returns-5 c =
+    let done : tie.After-finish = search in
     let finishes : tie.After-p2 = search in
     let p : tie.After-busy = search in
     let s = start p in
-    let e = c .finish .ensures in
+    let e = done .finish .ensures in
     finished _ (s .pre .0 .taken) _ (s .pre .1) _ _ _ _ _ _ _ _ _ (e .0) (e .1) (e .2) (act p (finishes .p2 .given .1))
 
 pub returns-6 : tie.Need-returns-6
 returns-6 c =
+    let kept : tie.After-set-occupant = search in
     let second : tie.After-set-second2 = search in
     let wiped : tie.After-reset = search in
     let first : tie.After-first = search in
@@ -106,25 +108,27 @@ returns-6 c =
     let s = start (plan3 enters) in
     let e = wiped .reset .ensures in
     entered _ (s .pre .0 .taken) _ (s .pre .1) _ _ _ _ _ _ (entered-in enters) _ (firsts first) _ _ _ _ (e .0) (e .1) (e .2) (e .3)
-    (act (plan3 enters) (enters .p3 .given .1)) _ (second .set-second2 .ensures) _ (c .set-occupant .ensures)
+    (act (plan3 enters) (enters .p3 .given .1)) _ (second .set-second2 .ensures) _ (kept .set-occupant .ensures)
 
 pub returns-7 : tie.Need-returns-7
 returns-7 c =
+    let free : tie.After-set-occupant2 = search in
     let done : tie.After-finish2 = search in
     let leaves : tie.After-p4 = search in
     let p : tie.After-busy = search in
     let s = start p in
     let e = done .finish2 .ensures in
     left _ (s .pre .0 .taken) _ (s .pre .1) _ _ _ _ _ _ _ _ _ (e .0) (e .1) (e .2) _ (act p (leaves .p4 .given .1)) _
-    (c .set-occupant2 .ensures)
+    (free .set-occupant2 .ensures)
 
 pub returns-8 : tie.Need-returns-8
 returns-8 c =
+    let wiped : tie.After-reset2 = search in
     let first : tie.After-first2 = search in
     let own : tie.After-owner = search in
     let restarts : tie.After-enum-told3 = search in
     let p : tie.After-busy = search in
     let s = start p in
-    let e = c .reset2 .ensures in
+    let e = wiped .reset2 .ensures in
     restarted _ (s .pre .0 .taken) _ (s .pre .1) _ _ _ _ _ _ (own-there own) _ (firsts2 first) _ _ _ _ (e .0) (e .1) (e .2) (e .3)
     (owners own) (act p (restarts .enum-told3 .given .1))
