@@ -67,9 +67,9 @@ planned t value n Plan.Stuck = stuck
 planned t value n Plan.Blocked = blocked
 planned t value n (Plan.Turns m) = does (turns (m .0))
 planned t value n (Plan.Finishes v) = does (finishes v)
-planned t value n (Plan.Enters g) = does (enters (g .0) (given t value n))
+planned t value n (Plan.Enters g true) = does (enters (g .0) (given t value n))
+planned t value n (Plan.Enters g false) = does (restarts (g .0) (given t value n))
 planned t value n (Plan.Leaves g v) = does (leaves (g .0) v)
-planned t value n Plan.Restarts = does (restarts (owner t n) (given t value n))
 
 -- node r once it is done: the value goes on
 abbrev pub passed : (status value : List ℕ) → ℕ → Act

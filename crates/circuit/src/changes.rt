@@ -249,7 +249,7 @@ pub(crate) fn take_busy(
             *on = onward(table, cells, status, occupant, n).0;
             Effect::Moved
         }
-        Plan::Enters(g) => {
+        Plan::Enters(g, anew) => {
             let c = decoded::first(cells, n);
             reset(
                 table,
@@ -264,34 +264,18 @@ pub(crate) fn take_busy(
                 g,
                 c,
             );
-            store::set_second(second, n, true);
-            store::set_occupant(occupant, g, n);
             *on = decoded::root(cells, g).0;
+            if anew {
+                store::set_second(second, n, true);
+                store::set_occupant(occupant, g, n);
+                return Effect::Moved;
+            }
             Effect::Moved
         }
         Plan::Leaves(g, v) => {
             finish(status, second, value, n, v);
             store::set_occupant(occupant, g, Node(0));
             *on = onward(table, cells, status, occupant, n).0;
-            Effect::Moved
-        }
-        Plan::Restarts => {
-            let f = decoded::owner(cells, n);
-            let c = decoded::first(cells, n);
-            reset(
-                table,
-                cells,
-                grouped,
-                heads,
-                links,
-                status,
-                second,
-                value,
-                registers,
-                f,
-                c,
-            );
-            *on = decoded::root(cells, f).0;
             Effect::Moved
         }
     }

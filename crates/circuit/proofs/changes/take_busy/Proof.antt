@@ -8,7 +8,7 @@ use Rattle.circuit.proofs.TakeLaws.{turn-in, leave-in}
 use borrow.Author.Needs.{needs}
 use Rattle.circuit.proofs.changes.take_busy.Statement.{statement}
 use Rattle.circuit.proofs.changes.take_busy.Tie as tie
-use Rattle.circuit.proofs.changes.take_busy.Proof.Returns.{start, start-first2, firsts, firsts2, own-there, act, entered-in}
+use Rattle.circuit.proofs.changes.take_busy.Proof.Returns.{start, firsts, act, entered-in}
 use Rattle.circuit.proofs.changes.take_busy.Proof.Returns.{returns, returns-2, returns-3, returns-4, returns-5, returns-6, returns-7}
 use Rattle.circuit.proofs.changes.take_busy.Proof.Returns.{returns-8}
 
@@ -103,25 +103,6 @@ onward-requires-2 c κs =
     let s : tie.Start = search in
     (s .pre .0, s .pre .1)
 
-enum-told-3 : tie.Need-enum-told-3
-enum-told-3 c = search needs
-
-owner-requires : tie.Need-owner-requires
-owner-requires c κs = search needs
-
-first-requires-2 : tie.Need-first-requires-2
-first-requires-2 c κs = search needs
-
-reset-requires-2 : tie.Need-reset-requires-2
-reset-requires-2 c κs =
-    let first : tie.After-first2 = search in
-    let own : tie.After-owner = search in
-    let s = start-first2 first in
-    (s .pre .0, s .pre .3, own-there own, first-in _ (s .pre .0 .taken) _ (s .pre .1) _ (firsts2 first))
-
-root-requires-2 : tie.Need-root-requires-2
-root-requires-2 c κs = search needs
-
 pub take-busy-spec : {M : Type 1} → statement M
 take-busy-spec =
     tie.close
@@ -140,19 +121,14 @@ take-busy-spec =
     enum-known-p-3
     first-requires
     reset-requires
+    root-requires
     set-second-requires-2
     set-occupant-requires
-    root-requires
+    returns-2
     enum-known-p-4
     finish-requires-2
     set-occupant-requires-2
     onward-requires-2
-    enum-told-3
-    owner-requires
-    first-requires-2
-    reset-requires-2
-    root-requires-2
-    returns-2
     returns-3
     returns-4
     returns-5
