@@ -45,10 +45,6 @@ allDone status (n ∷ ns) = eqb (status n) 3 && allDone status ns
 abbrev pub leading : Bool → List ℕ → List ℕ
 leading defs l = pick defs (initial l) l
 
--- the next sibling; of none, none
-abbrev pub following : List ℕ → ℕ → ℕ
-following t n = pick (eqb n 0) 0 (next t n)
-
 -- the last of these nodes, d of none
 unfoldable pub lastFrom : ℕ → List ℕ → ℕ
 lastFrom d [] = d

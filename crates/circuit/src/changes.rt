@@ -10,7 +10,7 @@ use table::decoded;
 use table::decoded::Cells;
 ghost use mathlib.Core.Path.{_≡_};
 ghost use mathlib.Core.Bool.{true, false};
-ghost use mathlib.Core.List.{List, map};
+ghost use mathlib.Core.List.{List, [], map};
 ghost use Prim.Native.Nat.{ℕ, _≤_};
 ghost use Rattle.table.specs.Bytes.{nodes, root};
 ghost use Rattle.table.specs.Naming.{owner, chain};
@@ -19,24 +19,19 @@ ghost use Rattle.rules.specs.State.{entry, write, opened, clear, fill};
 ghost use Rattle.rules.specs.Step.{mine};
 ghost use Rattle.rules.specs.Circuit.{actOf};
 ghost use Rattle.circuit.specs.Meaning.{stateAs};
-ghost use Rattle.circuit.specs.Working.{Grouped, following, opens, Took, Made};
+ghost use Rattle.circuit.specs.Working.{Grouped, opens, Took, Made};
 
-// What a register gets from the argument at `at`, and the argument after it; past the last argument, zero.
-pub struct Handed {
-    pub value: u32,
-    pub rest: Node,
-}
-
-fn hand(table: &[u8], cells: &Cells, value: &[u32; 512], at: Node) -> Handed
-    requires { ⌜ Read (now table) (now cells) × (at .0 ≤ nodes (now table)) ⌝ }
-    ensures { λ r. ⌜ (r .value ≡ entry (now (value .entry)) 0 (at .0)) × (r .rest .0 ≡ following (now (table .entry)) (at .0)) ⌝ }
+// The registers of g, all zero.
+fn blank(registers: &mut [u32; 256], g: Function)
+    requires { ⌜ (1 ≤ g .0) × (g .0 ≤ 32) ⌝ }
+    ensures { λ _. ⌜ now (registers .exit) ≡ fill (g .0) [] (now (registers .entry)) ⌝ }
 {
-    if at.0 == 0 {
-        return Handed { value: 0, rest: at };
-    }
-    Handed {
-        value: store::value_at(value, at),
-        rest: decoded::next(cells, at),
+    let f = g.0 as usize;
+    let base = 8 * (f - 1);
+    let mut i: usize = 0;
+    while i < 8 {
+        registers[base + i] = 0;
+        i += 1;
     }
 }
 
@@ -53,14 +48,17 @@ fn give(
     ensures { λ _. ⌜ now (registers .exit)
         ≡ fill (g .0) (map (entry (now (value .entry)) 0) (chain (now (table .entry)) (c .0))) (now (registers .entry)) ⌝ }
 {
+    blank(registers, g);
     let f = g.0 as usize;
     let base = 8 * (f - 1);
     let mut at = c;
     let mut i: usize = 0;
     while i < 8 {
-        let h = hand(table, cells, value, at);
-        registers[base + i] = h.value;
-        at = h.rest;
+        if at.0 == 0 {
+            return;
+        }
+        registers[base + i] = store::value_at(value, at);
+        at = decoded::next(cells, at);
         i += 1;
     }
 }

@@ -19,8 +19,8 @@ ghost use Rattle.rules.specs.Circuit.{actOf};
 ghost use Rattle.circuit.specs.Meaning.{stateAs};
 ghost use Rattle.circuit.specs.Working.{planned, passed};
 
-// What a busy node would do: no step (21), none while the resource is occupied (22 or 23), or a move. A call enters its callee, anew, or its
-// own function once more; the arguments that it hands over are read off the table when it moves.
+// What a busy node would do: no step (21), none while the resource is occupied (22 or 23), or a move. A call enters its callee, anew, or
+// its own function once more; the arguments that it hands over are read off the table when it moves.
 pub enum Plan {
     Stuck,
     Blocked,
