@@ -148,9 +148,8 @@ fn onward(table: &[u8], cells: &Cells, status: &[u8; 512], occupant: &[u16; 32],
     store::occupant_at(occupant, decoded::owner(cells, n))
 }
 
-// Where to look after node n has begun: its first child, or itself.
-fn below(cells: &Cells, n: Node) -> Node {
-    let c = decoded::first(cells, n);
+// Where to look after node n has begun: its first child c, or itself.
+fn below(c: Node, n: Node) -> Node {
     if c.0 == 0 { n } else { c }
 }
 
@@ -199,8 +198,9 @@ pub(crate) fn take_open(
             *on = onward(table, cells, status, occupant, n).0;
         }
         _ => {
+            let c = decoded::first(cells, n);
             begin(table, cells, status, n);
-            *on = below(cells, n).0;
+            *on = below(c, n).0;
         }
     }
 }

@@ -76,6 +76,9 @@ onward-requires-3 c κs =
     let s : tie.Start = search in
     (s .pre .0, s .pre .1)
 
+first-requires : tie.Need-first-requires
+first-requires c κs = search needs
+
 below-requires : tie.Need-below-requires
 below-requires c κs = search needs
 
@@ -160,6 +163,7 @@ take-open-spec =
     value-at-requires
     finish-requires-3
     onward-requires-3
+    first-requires
     begin-requires
     below-requires
     returns
