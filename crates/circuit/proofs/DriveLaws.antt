@@ -1,13 +1,13 @@
 -- the query and the run with a budget: what is possible, and the steps picked so far
-use Prim.Native.Nat.{ℕ, _+_, _-_, _*_, _≤_, _<_}
+use Prim.Native.Nat.{ℕ, _+_, _≤_, _<_}
 use mathlib.Core.Bool.{Bool, true, false, _&&_, not}
 use mathlib.Core.Path.{_≡_, refl, subst, sym, ap, ap₂, _∙_}
 use mathlib.Core.List.{List, [], _∷_, _++_}
 use native.Mathlib.Omega.{arith}
-use native.Mathlib.Decide.{ℕ-discrete, decLt}
+use native.Mathlib.Decide.{decLt}
 use lib.Dec.{eqb, ltb}
-use lib.ListN.{length, length-append}
-use borrow.Author.Tests.{eqb-true, eqb-false, eq-eqb, ne-eqb, ltb-true, lt-ltb, not-true}
+use lib.ListN.{length-append}
+use borrow.Author.Tests.{eqb-false, ne-eqb, ltb-true, lt-ltb, not-true}
 use Rattle.table.proofs.Tests.{ltb-no}
 use Rattle.table.specs.Pick.{pick}
 use Rattle.table.specs.Syntax.{id}
@@ -22,7 +22,7 @@ use Rattle.rules.specs.Circuit.{actOf, circuitOf, stepOf, playOf, Possible}
 use Rattle.rules.specs.Runs.{standing, MainDone, Ended, gave, atRest, spent, barred, Driven, Says, Picks, DrivesAfter, Drives, Found}
 use Rattle.rules.specs.Runs.{names, nothing, unasked, FindsAfter, Finds}
 use Rattle.circuit.specs.declared.changes.Effect.{Effect}
-use Rattle.circuit.specs.Working.{Agreed, Stands, goes, FoundAt, Tried, FindsIn, EndsIn, movedOf}
+use Rattle.circuit.specs.Working.{Agreed, Stands, goes, FoundAt, Tried, FindsIn, EndsIn, movedOf, DroveTo}
 use Rattle.rules.proofs.AnyState.{done-none}
 use Rattle.rules.proofs.RunFacts.{play-state, play-nodes}
 use Rattle.circuit.proofs.StandsLaws.{kept}
@@ -41,7 +41,7 @@ pub going-spent : (rest : Bool) (n budget : ℕ) (b : Bool) → rest ≡ false �
 going-spent rest n budget b e h =
     sym (ap₂ (λ r l. not r && (l && b)) e (ltb-no n budget (λ z. omega arith)))
 
-both-true : (a b : Bool) → (a && b) ≡ true → (a ≡ true) × (b ≡ true)
+pub both-true : (a b : Bool) → (a && b) ≡ true → (a ≡ true) × (b ≡ true)
 both-true true b e = (refl, e)
 both-true false b e = let z : _≡_ {A = ℕ} 0 1 = cc in absurd (omega arith)
 
@@ -70,13 +70,9 @@ stops-spent false n budget x b e h r d i = go (decLt n budget)
         let z : true ≡ false = sym q ∙ sym e ∙ h in
         let y : _≡_ {A = ℕ} 0 1 = cc in absurd (omega arith)
 
-pub falls-waiting : (rest : Bool) (k height h : ℕ) → rest ≡ false → h ≡ height - 1
-    → 2048 * k + h + pick (eqb height 0) 0 1 < 2048 * k + height + pick rest 0 1
-falls-waiting rest k height h e f = rw e (go (ℕ-discrete height 0))
-  where
-    go : Dec (height ≡ 0) → 2048 * k + h + pick (eqb height 0) 0 1 < 2048 * k + height + 1
-    go (yes z) = rw (eq-eqb height 0 z) (omega arith)
-    go (no z) = rw (ne-eqb height 0 z) (omega arith)
+-- a turn that finds nothing is the last
+pub falls-waiting : (rest : Bool) (k : ℕ) → rest ≡ false → k + 0 < k + pick rest 0 1
+falls-waiting rest k e = rw e (omega arith)
 
 noted-taken : (r : Reply) (n : ℕ) → IsTaken r → noted r n [] ≡ n ∷ []
 noted-taken taken n h = refl
@@ -141,14 +137,6 @@ module _ (t tags : List ℕ) (ag : Agreed t tags) (s : State512) (st : Stands t 
         (x′ .0, x′ .1, stops-spent rest k budget x b eb h (λ q. r q (x′ .1 .0) (p .0) (p .1)) (λ q. x′ .0 (main-done q)) i)
     says-from rest k budget b eb h r i (barred number place) x′ = x′
 
--- the steps picked so far
-pub record DroveTo (t tags : List ℕ) (s₀ s : State512) (k : ℕ) : Type 0 where
-  pub picked : List ℕ
-  pub possible : playOf t tags s₀ picked .nodes ≡ picked
-  pub number : length picked ≡ k
-  pub state : playOf t tags s₀ picked .state ≡ s
-  pub stands : Stands t s
-
 pub drove-start : (t tags : List ℕ) (s : State512) → Stands t s → DroveTo t tags s s 0
 unfolding playOf
 drove-start t tags s st = record { picked = []; possible = refl; number = refl; state = refl; stands = st }
@@ -185,24 +173,6 @@ module _ (t tags : List ℕ) (ag : Agreed t tags) (s₀ s : State512) (k : ℕ) 
 
   pub drove-same : (n : ℕ) (f : Effect) (s′ : State512) → Tried t s n f s′ → movedOf f ≡ false → DroveTo t tags s₀ s′ k
   drove-same n f s′ tr c = subst (λ u. DroveTo t tags s₀ u k) (sym (tr .left c .0)) d
-
--- nothing is possible once a look at all nodes found nothing
-pub rests : (t : List ℕ) (s : State512) (height n : ℕ) (x : Effect) (s′ : State512) → (height ≡ 0 → FoundAt t s n) → Tried t s n x s′
-    → movedOf x ≡ false → eqb height 0 ≡ true → (m : ℕ) → IsNode t m → goes (actOf t s′ m) ≡ true → ⊥
-rests t s height n x s′ f tr c e m i g = go (ℕ-discrete n 0)
-  where
-    found : FoundAt t s n
-    found = f (eqb-true height 0 e)
-
-    g′ : goes (actOf t s m) ≡ true
-    g′ = ap (λ u. goes (actOf t u m)) (sym (tr .left c .0)) ∙ g
-
-    go : Dec (n ≡ 0) → ⊥
-    go (yes z) = found .none z m i g′
-    go (no z) =
-        let h = found .some z in
-        let y : true ≡ false = sym (h .1) ∙ tr .left c .1 (h .0) in
-        let w : _≡_ {A = ℕ} 0 1 = cc in omega arith
 
 pub picks-from : (t tags : List ℕ) (s₀ s : State512) (k budget : ℕ) (e : Ended) → DroveTo t tags s₀ s k → k ≤ budget
     → Says t tags budget k s e → Picks t tags s₀ budget (record { steps = k; ended = e; state = s })

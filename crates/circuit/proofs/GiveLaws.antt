@@ -2,13 +2,14 @@
 use Prim.Native.Nat.{ℕ, _+_, _-_, _*_, _/_, _%_, _≤_, _<_}
 use mathlib.Core.Bool.{Bool, true, false, _&&_}
 use mathlib.Core.Path.{_≡_, refl, subst, sym, ap, _∙_}
-use mathlib.Core.List.{List, map}
+use mathlib.Core.List.{List, [], map}
+use mathlib.Core.Logic.{_⊎_, inl, inr}
 use native.Mathlib.Omega.{arith}
 use native.Mathlib.Decide.{ℕ-discrete, decLt}
 use lib.Dec.{eqb, ltb}
 use lib.ListN.{length, getD, set, drop, length-set}
 use lib.Seq.{getD-set-same, getD-set-other, ext-getD, getD-drop, drop-drop}
-use borrow.Author.Tests.{eq-eqb, ne-eqb, lt-ltb}
+use borrow.Author.Tests.{eq-eqb, ne-eqb, lt-ltb, ltb-false}
 use Rattle.table.proofs.Tests.{ltb-no}
 use Rattle.table.specs.Pick.{pick}
 use Rattle.table.specs.Bytes.{nodes, next}
@@ -68,23 +69,50 @@ module _ (vs l₀ l : List ℕ) (g i : ℕ) (h : FilledTo vs l₀ l g i) (few : 
     each = λ k q. each-next k q (ℕ-discrete k (base + i));
   }
 
-pub filled-end : (vs l₀ l : List ℕ) (g i : ℕ) → FilledTo vs l₀ l g i → 8 ≤ i → l ≡ fill g vs l₀
+-- what stands at a place of the whole
+fill-at : (vs l₀ : List ℕ) (g k : ℕ) → k < length l₀
+    → getD (fill g vs l₀) k 0 ≡ pick (eqb (k / 8 + 1) g) (getD vs (k % 8) 0) (getD l₀ k 0)
 unfolding fill
-filled-end vs l₀ l g i h q = ext-getD 0 l (fill g vs l₀) (h .sized ∙ sym (length-fill g vs l₀)) (λ k r. each k (omega (arith, h .sized)))
+fill-at vs l₀ g k r = getD-alter (λ j x. pick (eqb (j / 8 + 1) g) (getD vs (j % 8) 0) x) 0 l₀ k 0 r
+    ∙ ap (λ j. pick (eqb (j / 8 + 1) g) (getD vs (j % 8) 0) (getD l₀ k 0)) plain
+  where
+    plain : 0 + k ≡ k
+    plain = omega arith
+
+-- the rest is zero before, and so are the values past the first i
+pub filled-over : (vs l₀ z l : List ℕ) (g i : ℕ) → z ≡ fill g [] l₀ → FilledTo vs z l g i
+    → ((j : ℕ) → i ≤ j → j < 8 → getD vs j 0 ≡ 0) → l ≡ fill g vs l₀
+filled-over vs l₀ z l g i ez h zero = ext-getD 0 l (fill g vs l₀) (h .sized ∙ sized ∙ sym (length-fill g vs l₀))
+    (λ k r. each k (omega (arith, h .sized, sized)) ∙ sym (fill-at vs l₀ g k (omega (arith, h .sized, sized))))
+  where
+    sized : length z ≡ length l₀
+    sized = ap length ez ∙ length-fill g [] l₀
+
+    before : (k : ℕ) → k < length l₀ → getD z k 0 ≡ pick (eqb (k / 8 + 1) g) 0 (getD l₀ k 0)
+    before k r = ap (λ m. getD m k 0) ez ∙ fill-at [] l₀ g k r
+
+    by : (k : ℕ) → k < length l₀ → (b c : Bool) → eqb (k / 8 + 1) g ≡ b → ltb (k % 8) i ≡ c
+        → pick (b && c) (getD vs (k % 8) 0) (pick b 0 (getD l₀ k 0)) ≡ pick b (getD vs (k % 8) 0) (getD l₀ k 0)
+    by k r true true eb ec = refl
+    by k r true false eb ec = sym (zero (k % 8) (ltb-false (k % 8) i ec) (omega arith))
+    by k r false c eb ec = refl
+
+    each : (k : ℕ) → k < length l₀ → getD l k 0 ≡ pick (eqb (k / 8 + 1) g) (getD vs (k % 8) 0) (getD l₀ k 0)
+    each k r = h .each k (omega (arith, sized)) ∙ ap (pick (filledBy g i k) (getD vs (k % 8) 0)) (before k r)
+        ∙ by k r (eqb (k / 8 + 1) g) (ltb (k % 8) i) refl refl
+
+pub filled-end : (vs l₀ l : List ℕ) (g i : ℕ) → FilledTo vs l₀ l g i → 8 ≤ i → l ≡ fill g vs l₀
+filled-end vs l₀ l g i h q = ext-getD 0 l (fill g vs l₀) (h .sized ∙ sym (length-fill g vs l₀))
+    (λ k r. each k (omega (arith, h .sized)) ∙ sym (fill-at vs l₀ g k (omega (arith, h .sized))))
   where
     and-true : (b : Bool) → (b && true) ≡ b
     and-true true = refl
     and-true false = refl
 
-    plain : (k : ℕ) → 0 + k ≡ k
-    plain k = omega arith
-
-    each : (k : ℕ) → k < length l₀ → getD l k 0 ≡ getD (fill g vs l₀) k 0
+    each : (k : ℕ) → k < length l₀ → getD l k 0 ≡ pick (eqb (k / 8 + 1) g) (getD vs (k % 8) 0) (getD l₀ k 0)
     each k r = h .each k r
         ∙ ap (λ b. pick b (getD vs (k % 8) 0) (getD l₀ k 0))
         (ap (λ b. eqb (k / 8 + 1) g && b) (lt-ltb (k % 8) i (omega arith)) ∙ and-true (eqb (k / 8 + 1) g))
-        ∙ sym (getD-alter (λ j x. pick (eqb (j / 8 + 1) g) (getD vs (j % 8) 0) x) 0 l₀ k 0 r
-        ∙ ap (λ j. pick (eqb (j / 8 + 1) g) (getD vs (j % 8) 0) (getD l₀ k 0)) (plain k))
 
 -- .. from the values of a chain, of which `at` comes next; those after the last value with 0
 pub record GivenTo (t value vs l₀ l : List ℕ) (g i at : ℕ) : Type 0 where
@@ -141,5 +169,13 @@ module _ (t : List ℕ) (fair : Taken t) (value : List ℕ) (c : ℕ) (low : c �
       filled = filled-next vs l₀ l g i (h .filled) few some base x eb value-is;
     }
 
-  pub given-end : (l : List ℕ) (i at : ℕ) → GivenTo t value vs l₀ l g i at → 8 ≤ i → l ≡ fill g vs l₀
-  given-end l i at h q = filled-end vs l₀ l g i (h .filled) q
+  -- at the end of the chain, or of the registers
+  pub given-end : (z l : List ℕ) (i at : ℕ) → l₀ ≡ fill g [] z → GivenTo t value vs l₀ l g i at → (at ≡ 0) ⊎ (8 ≤ i) → l ≡ fill g vs z
+  given-end z l i at ez h q = filled-over vs z l₀ l g i ez (h .filled) (λ j a b. past q j a b)
+    where
+      past : (at ≡ 0) ⊎ (8 ≤ i) → (j : ℕ) → i ≤ j → j < 8 → getD vs j 0 ≡ 0
+      past (inl e) j a b =
+          let back : i + (j - i) ≡ j = omega arith in
+          sym (ap (λ m. getD vs m 0) back) ∙ sym (getD-drop i vs (j - i) 0)
+          ∙ ap (λ m. getD m (j - i) 0) (h .tail ∙ ap (map (entry value 0)) (chain-end t fair at e))
+      past (inr e) j a b = absurd (omega arith)

@@ -15,6 +15,7 @@ pub mod LentLaws
 pub mod SearchLaws
 pub mod BeginLaws
 pub mod DriveLaws
+pub mod CourseLaws
 pub mod EntryDemand
 pub mod ReachedDemand
 pub mod Theorems

@@ -19,7 +19,9 @@ use Rattle.circuit.specs.Meaning.{stateAs}
 use Rattle.table.specs.Working.{Taken}
 use Rattle.circuit.specs.declared.changes.Effect.{Effect}
 use Rattle.circuit.specs.declared.changes.Effect.the-variants as Effect
-use Rattle.circuit.specs.Working.{leading, given, opens, Took}
+use Rattle.circuit.specs.declared.plan.Plan.the-variants as Plan
+use Rattle.table.specs.declared.Function.{Function}
+use Rattle.circuit.specs.Working.{leading, given, opens, planned, Took}
 use Rattle.rules.proofs.Demands.{lay}
 use Rattle.rules.proofs.Performed.{FairAct}
 use Rattle.rules.proofs.StepTaken.{act-fair}
@@ -56,8 +58,16 @@ module _ (t : List ℕ) (fair : Taken t) (n : ℕ) (i : IsNode t n) (a : List �
   pub turn-in : (m : ℕ) → does (turns m) ≡ actOf t s n → m ≤ 512
   turn-in m q = omega (arith, there (turns m) q .1, ok t fair .N-high)
 
-  pub enter-in : (g : ℕ) (vs : List ℕ) → does (enters g vs) ≡ actOf t s n → IsFunction t g
+  enter-in : (g : ℕ) (vs : List ℕ) → does (enters g vs) ≡ actOf t s n → IsFunction t g
   enter-in g vs q = let x = there (enters g vs) q in (x .0, x .1)
+
+  again-in : (g : ℕ) (vs : List ℕ) → does (restarts g vs) ≡ actOf t s n → IsFunction t g
+  again-in g vs q = let x = there (restarts g vs) q in (x .0, x .1)
+
+  -- a function that is entered, anew or once more
+  pub called-in : (g : Function) (anew : Bool) → planned t c n (Plan.Enters g anew) ≡ actOf t s n → IsFunction t (g .0)
+  called-in g true q = enter-in (g .0) (given t c n) q
+  called-in g false q = again-in (g .0) (given t c n) q
 
   pub leave-in : (g v : ℕ) → does (leaves g v) ≡ actOf t s n → IsFunction t g
   leave-in g v q = there (leaves g v) q
@@ -108,7 +118,5 @@ module _ (t : List ℕ) (fair : Taken t) (n : ℕ) (i : IsNode t n) (a : List �
     entered q b″ eb′ e′ ee = made (enters g (given t c n)) q a′ b″ c′ d′ e′
         (λ j. stateAs (status-is j) ((eb′ ∙ ap (λ l. write l n true) eb) j) (ec j) (registers-are j) (ee j))
 
-    pub restarted : g ≡ owner t n → does (restarts (owner t n) (given t c n)) ≡ actOf t s n → After a′ b′ c′ d′ e
-    restarted eg q = made (restarts (owner t n) (given t c n)) q a′ b′ c′ d′ e
-        ((λ j. stateAs (status-is j) (eb j) (ec j) (registers-are j) e)
-        ∙ ap (λ f. perform (nodes t) (owner t) (bodyOf t) s n (restarts f (given t c n))) eg)
+    pub restarted : does (restarts g (given t c n)) ≡ actOf t s n → After a′ b′ c′ d′ e
+    restarted q = made (restarts g (given t c n)) q a′ b′ c′ d′ e (λ j. stateAs (status-is j) (eb j) (ec j) (registers-are j) e)

@@ -1,12 +1,12 @@
 -- working definitions: what the parts of a step ask of each other, and the nodes of each function in a chain
-use Prim.Native.Nat.{ℕ, zero, suc, _-_, _≤_}
+use Prim.Native.Nat.{ℕ, zero, suc, _+_, _-_, _≤_}
 use mathlib.Core.Bool.{Bool, true, false, _&&_, _||_}
 use mathlib.Core.Path.{_≡_}
 use mathlib.Core.List.{List, [], _∷_, map}
 use lib.Dec.{eqb}
-use lib.ListN.{getD}
+use lib.ListN.{getD, length}
 use Rattle.table.specs.Pick.{pick}
-use Rattle.table.specs.Bytes.{functions, nodes, kind, first, next}
+use Rattle.table.specs.Bytes.{functions, nodes, root, kind, first, next}
 use Rattle.table.specs.Naming.{owner, children, initial}
 use Rattle.table.specs.Check.{accepted}
 use Rattle.table.specs.Expressions.{bodyOf}
@@ -14,7 +14,7 @@ use Rattle.table.specs.declared.Checked.{Checked}
 use Rattle.list.specs.Tags.{checkWith}
 use Rattle.rules.specs.State.{State512, entry}
 use Rattle.rules.specs.Step.{Act, stuck, blocked, does, Move, turns, finishes, enters, leaves, restarts, over, perform}
-use Rattle.rules.specs.Circuit.{actOf}
+use Rattle.rules.specs.Circuit.{actOf, playOf}
 use Rattle.rules.specs.Runs.{standing, Ended, Found, FindsAfter, Says, Ran, Driven}
 use Rattle.table.specs.Working.{IsNode, Taken, Read}
 use Rattle.table.specs.Survey.{verdictOf}
@@ -45,10 +45,6 @@ allDone status (n ∷ ns) = eqb (status n) 3 && allDone status ns
 abbrev pub leading : Bool → List ℕ → List ℕ
 leading defs l = pick defs (initial l) l
 
--- the next sibling; of none, none
-abbrev pub following : List ℕ → ℕ → ℕ
-following t n = pick (eqb n 0) 0 (next t n)
-
 -- the last of these nodes, d of none
 unfoldable pub lastFrom : ℕ → List ℕ → ℕ
 lastFrom d [] = d
@@ -67,9 +63,9 @@ planned t value n Plan.Stuck = stuck
 planned t value n Plan.Blocked = blocked
 planned t value n (Plan.Turns m) = does (turns (m .0))
 planned t value n (Plan.Finishes v) = does (finishes v)
-planned t value n (Plan.Enters g) = does (enters (g .0) (given t value n))
+planned t value n (Plan.Enters g true) = does (enters (g .0) (given t value n))
+planned t value n (Plan.Enters g false) = does (restarts (g .0) (given t value n))
 planned t value n (Plan.Leaves g v) = does (leaves (g .0) v)
-planned t value n Plan.Restarts = does (restarts (owner t n) (given t value n))
 
 -- node r once it is done: the value goes on
 abbrev pub passed : (status value : List ℕ) → ℕ → Act
@@ -128,6 +124,24 @@ pub record FoundAt (t : List ℕ) (s : State512) (r : ℕ) : Type 0 where
 pub record Tried (t : List ℕ) (s : State512) (n : ℕ) (e : Effect) (s′ : State512) : Type 0 where
   pub taken : movedOf e ≡ true → IsNode t n × ((m : Move) × (actOf t s n ≡ does m) × (s′ ≡ perform (nodes t) (owner t) (bodyOf t) s n m))
   pub left : movedOf e ≡ false → (s′ ≡ s) × (IsNode t n → goes (actOf t s n) ≡ false)
+  pub took : IsNode t n → Took t s n (actOf t s n) e s′
+
+-- the steps picked so far
+pub record DroveTo (t tags : List ℕ) (s₀ s : State512) (k : ℕ) : Type 0 where
+  pub picked : List ℕ
+  pub possible : playOf t tags s₀ picked .nodes ≡ picked
+  pub number : length picked ≡ k
+  pub state : playOf t tags s₀ picked .state ≡ s
+  pub stands : Stands t s
+
+-- k steps from node n on, up to a budget, while the node at `top` isn't done: they add to those picked before, a budget of 1 makes the step
+-- of n, and there is one if n has a move
+pub record Went (t : List ℕ) (top n budget : ℕ) (s : State512) (k : ℕ) (e : Effect) (s′ : State512) : Type 0 where
+  pub within : k ≤ budget
+  pub drove : (tags : List ℕ) (s₀ : State512) (j : ℕ) → Agreed t tags → top ≡ root t (functions t) → DroveTo t tags s₀ s j
+      → DroveTo t tags s₀ s′ (j + k)
+  pub once : budget ≡ 1 → Took t s n (actOf t s n) e s′
+  pub moves : goes (actOf t s n) ≡ true → 1 ≤ k
 
 -- what is true of a query's answer where table, tags and 24 are passed, and of how a run with a budget stands
 abbrev pub FindsIn : (t tags : List ℕ) → State512 → Found → Type 0

@@ -1,5 +1,5 @@
 // The query and the run with a budget, of a table and tags that were checked and a state that passed 24.
-use crate::candidates;
+use crate::course;
 use crate::groups;
 use crate::search;
 use crate::store;
@@ -9,8 +9,11 @@ use crate::types::Found;
 use table::Node;
 use table::decoded::Cells;
 ghost use mathlib.Core.Path.{_≡_};
+ghost use mathlib.Core.Bool.{not, _&&_};
+ghost use lib.Dec.{eqb, ltb};
 ghost use Prim.Native.Nat.{_≤_};
 ghost use Rattle.table.specs.Bytes.{functions, root};
+ghost use Rattle.rules.specs.State.{entry};
 ghost use Rattle.rules.specs.Runs.{Picks};
 ghost use Rattle.circuit.specs.Meaning.{foundOf, endedOf, stateAs};
 ghost use Rattle.circuit.specs.Working.{Agreed, Stands, FindsIn, EndsIn, drivenAs};
@@ -43,7 +46,16 @@ pub(crate) fn query(
     if store::status_at(status, top) == 3 {
         return Found::Nothing;
     }
-    let n = search::find(table, cells, status, second, value, registers, occupant);
+    let n = search::find(
+        table,
+        cells,
+        status,
+        second,
+        value,
+        registers,
+        occupant,
+        top,
+    );
     if n.0 == 0 {
         return Found::Nothing;
     }
@@ -63,7 +75,7 @@ fn end_of(
     top: Node,
 ) -> Ended
     requires { ⌜ Read (now table) (now cells) × Agreed (now table) (now tags) × (top .0 ≡ root (now table) (functions (now table)))
-        × (top .0 ≤ 512)
+        × (1 ≤ top .0) × (top .0 ≤ 512)
         × Stands (now table) (stateAs (now status) (now second) (now value) (now registers) (now occupant)) ⌝ }
     ensures { λ r. ⌜ EndsIn (now (table .entry)) (now (tags .entry)) (stateAs (now (status .entry)) (now (second .entry))
         (now (value .entry))
@@ -72,11 +84,34 @@ fn end_of(
     if store::status_at(status, top) == 3 {
         return Ended::Answered(store::value_at(value, top));
     }
-    let n = search::find(table, cells, status, second, value, registers, occupant);
+    let n = search::find(
+        table,
+        cells,
+        status,
+        second,
+        value,
+        registers,
+        occupant,
+        top,
+    );
     if n.0 == 0 {
         return Ended::AtRest;
     }
     Ended::Spent
+}
+
+// Whether the run goes on: main's root isn't done, a step may be possible, and the budget isn't spent.
+fn going(status: &[u8; 512], top: Node, taken: u32, budget: u32, rest: bool) -> bool
+    requires { ⌜ top .0 ≤ 512 ⌝ }
+    ensures { λ r. ⌜ r ≡ (not rest && (ltb taken budget && not (eqb (entry (now (status .entry)) 0 (top .0)) 3))) ⌝ }
+{
+    if rest {
+        return false;
+    }
+    if taken < budget {
+        return store::status_at(status, top) != 3;
+    }
+    false
 }
 
 // Possible steps, as many as the budget at most.
@@ -102,12 +137,10 @@ pub(crate) fn drive(
     let heads = g.heads;
     let links = g.links;
     let top = turn::top(table, cells);
-    let mut stack = [0u16; 1024];
-    let mut height: usize = 0;
     let mut taken: u32 = 0;
     let mut rest = false;
-    while candidates::going(status, top, taken, budget, rest) {
-        let n = candidates::candidate(
+    while going(status, top, taken, budget, rest) {
+        let n = search::find(
             table,
             cells,
             status,
@@ -115,27 +148,27 @@ pub(crate) fn drive(
             value,
             registers,
             occupant,
-            &stack,
-            height,
+            top,
         );
-        let effect = candidates::attempt(
-            table,
-            cells,
-            &heads,
-            &links,
-            status,
-            second,
-            value,
-            registers,
-            occupant,
-            n,
-        );
-        if candidates::moved(effect) {
-            taken += 1;
-            height = candidates::follow(table, cells, status, &mut stack, height, n);
+        if n.0 == 0 {
+            rest = true;
         } else {
-            rest = height == 0;
-            height = candidates::less(height);
+            let course = course::go(
+                table,
+                cells,
+                true,
+                &heads,
+                &links,
+                status,
+                second,
+                value,
+                registers,
+                occupant,
+                top,
+                budget - taken,
+                n,
+            );
+            taken += course.steps;
         }
     }
     let ended = end_of(

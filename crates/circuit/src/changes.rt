@@ -10,7 +10,7 @@ use table::decoded;
 use table::decoded::Cells;
 ghost use mathlib.Core.Path.{_≡_};
 ghost use mathlib.Core.Bool.{true, false};
-ghost use mathlib.Core.List.{List, map};
+ghost use mathlib.Core.List.{List, [], map};
 ghost use Prim.Native.Nat.{ℕ, _≤_};
 ghost use Rattle.table.specs.Bytes.{nodes, root};
 ghost use Rattle.table.specs.Naming.{owner, chain};
@@ -19,24 +19,19 @@ ghost use Rattle.rules.specs.State.{entry, write, opened, clear, fill};
 ghost use Rattle.rules.specs.Step.{mine};
 ghost use Rattle.rules.specs.Circuit.{actOf};
 ghost use Rattle.circuit.specs.Meaning.{stateAs};
-ghost use Rattle.circuit.specs.Working.{Grouped, following, opens, Took, Made};
+ghost use Rattle.circuit.specs.Working.{Grouped, opens, Took, Made};
 
-// What a register gets from the argument at `at`, and the argument after it; past the last argument, zero.
-pub struct Handed {
-    pub value: u32,
-    pub rest: Node,
-}
-
-fn hand(table: &[u8], cells: &Cells, value: &[u32; 512], at: Node) -> Handed
-    requires { ⌜ Read (now table) (now cells) × (at .0 ≤ nodes (now table)) ⌝ }
-    ensures { λ r. ⌜ (r .value ≡ entry (now (value .entry)) 0 (at .0)) × (r .rest .0 ≡ following (now (table .entry)) (at .0)) ⌝ }
+// The registers of g, all zero.
+fn blank(registers: &mut [u32; 256], g: Function)
+    requires { ⌜ (1 ≤ g .0) × (g .0 ≤ 32) ⌝ }
+    ensures { λ _. ⌜ now (registers .exit) ≡ fill (g .0) [] (now (registers .entry)) ⌝ }
 {
-    if at.0 == 0 {
-        return Handed { value: 0, rest: at };
-    }
-    Handed {
-        value: store::value_at(value, at),
-        rest: decoded::next(cells, at),
+    let f = g.0 as usize;
+    let base = 8 * (f - 1);
+    let mut i: usize = 0;
+    while i < 8 {
+        registers[base + i] = 0;
+        i += 1;
     }
 }
 
@@ -53,14 +48,17 @@ fn give(
     ensures { λ _. ⌜ now (registers .exit)
         ≡ fill (g .0) (map (entry (now (value .entry)) 0) (chain (now (table .entry)) (c .0))) (now (registers .entry)) ⌝ }
 {
+    blank(registers, g);
     let f = g.0 as usize;
     let base = 8 * (f - 1);
     let mut at = c;
     let mut i: usize = 0;
     while i < 8 {
-        let h = hand(table, cells, value, at);
-        registers[base + i] = h.value;
-        at = h.rest;
+        if at.0 == 0 {
+            return;
+        }
+        registers[base + i] = store::value_at(value, at);
+        at = decoded::next(cells, at);
         i += 1;
     }
 }
@@ -135,6 +133,26 @@ fn reset(
     store::set_status(status, r, 1);
 }
 
+// Where to look after node n is done: its next sibling if that is open, else its parent; of a root, the call that waits for it.
+fn onward(table: &[u8], cells: &Cells, status: &[u8; 512], occupant: &[u16; 32], n: Node) -> Node
+    requires { ⌜ Read (now table) (now cells) × IsNode (now table) (n .0) ⌝ }
+{
+    let on = decoded::next(cells, n);
+    if store::status_at(status, on) == 1 {
+        return on;
+    }
+    let p = decoded::parent(cells, n);
+    if p.0 != 0 {
+        return p;
+    }
+    store::occupant_at(occupant, decoded::owner(cells, n))
+}
+
+// Where to look after node n has begun: its first child c, or itself.
+fn below(c: Node, n: Node) -> Node {
+    if c.0 == 0 { n } else { c }
+}
+
 // What came of a step that was tried: none, for a cause of its own or since the resource is occupied, or the move is made.
 pub enum Effect {
     Stuck,
@@ -142,7 +160,7 @@ pub enum Effect {
     Moved,
 }
 
-// Takes the step of an open node: a constant, a parameter or a bound is done, any other opens children.
+// Takes the step of an open node: a constant, a parameter or a bound is done, any other opens children. `on` gets where to look next.
 pub(crate) fn take_open(
     table: &[u8],
     cells: &Cells,
@@ -150,7 +168,9 @@ pub(crate) fn take_open(
     second: &mut [bool; 512],
     value: &mut [u32; 512],
     registers: &[u32; 256],
+    occupant: &[u16; 32],
     n: Node,
+    on: &mut u16,
 )
     requires { ⌜ Read (now table) (now cells) × IsNode (now table) (n .0) × (entry (now status) 0 (n .0) ≡ 1) ⌝ }
     ensures { λ _. ⌜ ((e : List ℕ) → Made (now (table .entry))
@@ -159,7 +179,10 @@ pub(crate) fn take_open(
 {
     let kind = decoded::kind(cells, n);
     match kind {
-        1 => finish(status, second, value, n, decoded::word(cells, n)),
+        1 => {
+            finish(status, second, value, n, decoded::word(cells, n));
+            *on = onward(table, cells, status, occupant, n).0;
+        }
         2 => {
             let v = store::register_at(
                 registers,
@@ -167,16 +190,22 @@ pub(crate) fn take_open(
                 decoded::extra(cells, n),
             );
             finish(status, second, value, n, v);
+            *on = onward(table, cells, status, occupant, n).0;
         }
         7 => {
             let v = store::value_at(value, decoded::definiens(cells, n));
             finish(status, second, value, n, v);
+            *on = onward(table, cells, status, occupant, n).0;
         }
-        _ => begin(table, cells, status, n),
+        _ => {
+            let c = decoded::first(cells, n);
+            begin(table, cells, status, n);
+            *on = below(c, n).0;
+        }
     }
 }
 
-// Takes the step of a node that isn't open, if it has one.
+// Takes the step of a node that isn't open, if it has one. `on` gets where to look next.
 pub(crate) fn take_busy(
     table: &[u8],
     cells: &Cells,
@@ -189,6 +218,7 @@ pub(crate) fn take_busy(
     registers: &mut [u32; 256],
     occupant: &mut [u16; 32],
     n: Node,
+    on: &mut u16,
 ) -> Effect
     requires { ⌜ Read (now table) (now cells) × IsNode (now table) (n .0) × (entry (now status) 0 (n .0) ≡ 1 → ⊥)
         × (grouped ≡ true → Grouped (now table) (now heads) (now links)) ⌝ }
@@ -209,13 +239,15 @@ pub(crate) fn take_busy(
         Plan::Turns(m) => {
             store::set_status(status, m, 1);
             store::set_second(second, n, true);
+            *on = m.0;
             Effect::Moved
         }
         Plan::Finishes(v) => {
             finish(status, second, value, n, v);
+            *on = onward(table, cells, status, occupant, n).0;
             Effect::Moved
         }
-        Plan::Enters(g) => {
+        Plan::Enters(g, anew) => {
             let c = decoded::first(cells, n);
             reset(
                 table,
@@ -230,31 +262,18 @@ pub(crate) fn take_busy(
                 g,
                 c,
             );
-            store::set_second(second, n, true);
-            store::set_occupant(occupant, g, n);
+            *on = decoded::root(cells, g).0;
+            if anew {
+                store::set_second(second, n, true);
+                store::set_occupant(occupant, g, n);
+                return Effect::Moved;
+            }
             Effect::Moved
         }
         Plan::Leaves(g, v) => {
             finish(status, second, value, n, v);
             store::set_occupant(occupant, g, Node(0));
-            Effect::Moved
-        }
-        Plan::Restarts => {
-            let f = decoded::owner(cells, n);
-            let c = decoded::first(cells, n);
-            reset(
-                table,
-                cells,
-                grouped,
-                heads,
-                links,
-                status,
-                second,
-                value,
-                registers,
-                f,
-                c,
-            );
+            *on = onward(table, cells, status, occupant, n).0;
             Effect::Moved
         }
     }

@@ -19,16 +19,15 @@ ghost use Rattle.rules.specs.Circuit.{actOf};
 ghost use Rattle.circuit.specs.Meaning.{stateAs};
 ghost use Rattle.circuit.specs.Working.{planned, passed};
 
-// What a busy node would do: no step (21), none while the resource is occupied (22 or 23), or a move. The arguments that it hands over are
-// read off the table when it moves.
+// What a busy node would do: no step (21), none while the resource is occupied (22 or 23), or a move. A call enters its callee, anew, or
+// its own function once more; the arguments that it hands over are read off the table when it moves.
 pub enum Plan {
     Stuck,
     Blocked,
     Turns(Node),
     Finishes(u32),
-    Enters(Function),
+    Enters(Function, bool),
     Leaves(Function, u32),
-    Restarts,
 }
 
 // By kind.
@@ -109,7 +108,7 @@ fn again(table: &[u8], cells: &Cells, status: &[u8; 512], n: Node) -> Plan
 {
     let c = decoded::first(cells, n);
     if chain::all_done(table, cells, status, c, false) {
-        Plan::Restarts
+        Plan::Enters(decoded::owner(cells, n), false)
     } else {
         Plan::Stuck
     }
@@ -147,7 +146,7 @@ fn across(
     if store::occupant_at(occupant, g).0 != 0 {
         return Plan::Blocked;
     }
-    Plan::Enters(g)
+    Plan::Enters(g, true)
 }
 
 // The branch of an if that the condition's value takes.

@@ -1,58 +1,16 @@
 // A possible step, looked for from the first node on.
-use crate::plan;
-use crate::plan::Plan;
-use crate::store;
+use crate::course;
 use table::Node;
 use table::decoded;
 use table::decoded::Cells;
 ghost use mathlib.Core.Path.{_≡_};
-ghost use mathlib.Core.List.{List};
-ghost use Prim.Native.Nat.{ℕ};
-ghost use Rattle.table.specs.Working.{IsNode, Read};
-ghost use Rattle.rules.specs.Circuit.{actOf};
+ghost use Prim.Native.Nat.{_≤_};
+ghost use Rattle.table.specs.Working.{Read};
+ghost use Rattle.rules.specs.State.{entry};
 ghost use Rattle.circuit.specs.Meaning.{stateAs};
-ghost use Rattle.circuit.specs.Working.{planned, goes, FoundAt};
+ghost use Rattle.circuit.specs.Working.{FoundAt};
 
-// Whether a plan is a move.
-fn moves(p: Plan) -> bool
-    ensures { λ r. ⌜ ((t value : List ℕ) (n : ℕ) → r ≡ goes (planned t value n p)) ⌝ }
-{
-    match p {
-        Plan::Stuck => false,
-        Plan::Blocked => false,
-        Plan::Turns(_) => true,
-        Plan::Finishes(_) => true,
-        Plan::Enters(_) => true,
-        Plan::Leaves(_, _) => true,
-        Plan::Restarts => true,
-    }
-}
-
-// Whether node n has a move: an open one always has.
-fn moves_at(
-    table: &[u8],
-    cells: &Cells,
-    status: &[u8; 512],
-    second: &[bool; 512],
-    value: &[u32; 512],
-    occupant: &[u16; 32],
-    n: Node,
-) -> bool
-    requires { ⌜ Read (now table) (now cells) × IsNode (now table) (n .0) ⌝ }
-    ensures { λ r. ⌜ ((d : List ℕ) → r ≡ goes (actOf (now (table .entry)) (stateAs (now (status .entry)) (now (second .entry))
-        (now (value .entry)) d (now (occupant .entry))) (n .0))) ⌝ }
-{
-    let s = store::status_at(status, n);
-    if s == 1 {
-        return true;
-    }
-    if s == 2 {
-        return moves(plan::busy(table, cells, status, second, value, occupant, n));
-    }
-    false
-}
-
-// The first node that has a move, 0 if none has.
+// The first node that has a move, 0 if none has, where main's root isn't done: steps are tried on a copy of the state.
 pub(crate) fn find(
     table: &[u8],
     cells: &Cells,
@@ -61,17 +19,41 @@ pub(crate) fn find(
     value: &[u32; 512],
     registers: &[u32; 256],
     occupant: &[u16; 32],
+    top: Node,
 ) -> Node
-    requires { ⌜ Read (now table) (now cells) ⌝ }
+    requires { ⌜ Read (now table) (now cells) × (1 ≤ top .0) × (top .0 ≤ 512) × (entry (now status) 0 (top .0) ≡ 3 → ⊥) ⌝ }
     ensures { λ r. ⌜ FoundAt (now (table .entry)) (stateAs (now (status .entry)) (now (second .entry)) (now (value .entry))
         (now (registers .entry)) (now (occupant .entry))) (r .0) ⌝ }
 {
+    let heads = [0u16; 33];
+    let links = [0u16; 513];
+    let mut statuses = *status;
+    let mut seconds = *second;
+    let mut values = *value;
+    let mut inputs = *registers;
+    let mut calls = *occupant;
     let last = decoded::last(cells);
     let end = last.0;
     let mut n: u16 = 0;
     while n < end {
         n += 1;
-        if moves_at(table, cells, status, second, value, occupant, Node(n)) {
+        let course = course::go(
+            table,
+            cells,
+            false,
+            &heads,
+            &links,
+            &mut statuses,
+            &mut seconds,
+            &mut values,
+            &mut inputs,
+            &mut calls,
+            top,
+            1,
+            Node(n),
+        );
+        let effect = course.effect;
+        if course::moved(effect) {
             return Node(n);
         }
     }

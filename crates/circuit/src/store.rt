@@ -17,6 +17,15 @@ pub(crate) fn status_at(status: &[u8; 512], n: Node) -> u8
     status[k - 1]
 }
 
+// The same of a node, which has no test of 0.
+pub(crate) fn status_of(status: &[u8; 512], n: Node) -> u8
+    requires { ⌜ (1 ≤ n .0) × (n .0 ≤ 512) ⌝ }
+    ensures { λ r. ⌜ r ≡ entry (now (status .entry)) 0 (n .0) ⌝ }
+{
+    let k = n.0 as usize;
+    status[k - 1]
+}
+
 pub(crate) fn second_at(second: &[bool; 512], n: Node) -> bool
     requires { ⌜ n .0 ≤ 512 ⌝ }
     ensures { λ r. ⌜ r ≡ entry (now (second .entry)) false (n .0) ⌝ }

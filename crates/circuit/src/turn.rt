@@ -1,6 +1,6 @@
 // A step asked at a number, of a table and tags that were checked and a state that passed 24: 12, 20, then 21 to 23.
-use crate::changes;
 use crate::changes::Effect;
+use crate::course;
 use crate::store;
 use crate::types::Answer;
 use table::Node;
@@ -30,7 +30,8 @@ fn why_blocked(tags: &[u8], n: Node) -> u8
 // Main's root.
 pub(crate) fn top(table: &[u8], cells: &Cells) -> Node
     requires { ⌜ Read (now table) (now cells) ⌝ }
-    ensures { λ r. ⌜ (r .0 ≡ root (now (table .entry)) (functions (now (table .entry)))) × (r .0 ≤ 512) ⌝ }
+    ensures { λ r. ⌜ (r .0 ≡ root (now (table .entry)) (functions (now (table .entry)))) × (r .0 ≤ 512)
+        × (1 ≤ r .0) ⌝ }
 {
     let main = decoded::main(cells);
     decoded::root(cells, main)
@@ -82,11 +83,7 @@ pub(crate) fn turn(
     if store::status_at(status, root) == 3 {
         return Answer::Refused(20, n);
     }
-    if store::status_at(status, n) == 1 {
-        changes::take_open(table, cells, status, second, value, registers, n);
-        return told(status, value, root);
-    }
-    let effect = changes::take_busy(
+    let course = course::go(
         table,
         cells,
         grouped,
@@ -97,8 +94,11 @@ pub(crate) fn turn(
         value,
         registers,
         occupant,
+        root,
+        1,
         n,
     );
+    let effect = course.effect;
     match effect {
         Effect::Stuck => Answer::Refused(21, n),
         Effect::Blocked => Answer::Refused(why_blocked(tags, n), n),

@@ -2,15 +2,14 @@
 mod Loop
 mod Turns
 use native.Mathlib.Omega.{arith}
-use borrow.Author.Needs.{needs}
-use mathlib.Core.Path.{refl, sym, _∙_}
+use mathlib.Core.Path.{refl}
 use Rattle.circuit.specs.Meaning.{endedOf}
 use Rattle.circuit.proofs.DriveLaws.{says-from, picks-from}
 use Rattle.circuit.proofs.budget.drive.Statement.{statement}
 use Rattle.circuit.proofs.budget.drive.Tie as tie
 use Rattle.circuit.proofs.budget.drive.Proof.Loop.{Inv-loop, μ-loop, loop-holds, Start, Top, Head, Turn, Pick}
 use Rattle.circuit.proofs.budget.drive.Proof.Loop.{start, top, head, turn, first, state, going}
-use Rattle.circuit.proofs.budget.drive.Proof.Turns.{loop-less, loop-again, loop-less-2, loop-again-2}
+use Rattle.circuit.proofs.budget.drive.Proof.Turns.{picked, loop-less, loop-again, loop-less-2, loop-again-2}
 
 -- the groups, read before the loop
 abbrev grouped : Top → tie.After-group Inv-loop μ-loop
@@ -31,45 +30,43 @@ going-requires c κs =
     let t : Top = search in
     t .top .ensures .1
 
-candidate-requires : tie.Need-candidate-requires Inv-loop μ-loop
-candidate-requires c κs =
-    let h : Head = search in
-    let t = top h in
-    (start t .pre .0, h .loop .inv .0)
+find-requires : tie.Need-find-requires Inv-loop μ-loop
+find-requires c κs =
+    let u : Turn = search in
+    let t = top (head u) in
+    (start t .pre .0, t .top .ensures .2, t .top .ensures .1, going u .undone)
 
-attempt-requires : tie.Need-attempt-requires Inv-loop μ-loop
-attempt-requires c κs =
+sub-go : tie.Need-sub-go Inv-loop μ-loop
+sub-go c =
+    let u : Turn = search in
+    omega (arith, going u .room)
+
+go-requires : tie.Need-go-requires Inv-loop μ-loop
+go-requires c κs =
+    let some : tie.Else2 Inv-loop μ-loop = search in
     let p : Pick = search in
-    let t = top (head (turn p)) in
-    (start t .pre .0, grouped t .group .ensures)
-
-moved-requires : tie.Need-moved-requires Inv-loop μ-loop
-moved-requires c κs = search needs
+    let u = turn p in
+    let t = top (head u) in (
+      start t .pre .0,
+      λ e. grouped t .group .ensures,
+      p .find .ensures .some (some .if2 .left) .0,
+      t .top .ensures .2,
+      t .top .ensures .1,
+      going u .undone,
+      omega (arith, going u .room),
+    )
 
 add-taken : tie.Need-add-taken Inv-loop μ-loop
 add-taken c =
-    let t : Turn = search in
-    let h = head t in
-    omega (arith, going t .room, h .loop .inv .1, h .loop .inv .4)
-
-follow-requires : tie.Need-follow-requires Inv-loop μ-loop
-follow-requires c κs =
-    let done : tie.Then2 Inv-loop μ-loop = search in
-    let asked : tie.After-moved Inv-loop μ-loop = search in
-    let tried : tie.After-attempt Inv-loop μ-loop = search in
-    let p : Pick = search in
-    let h = head (turn p) in
-    let t = top h in
-    (start t .pre .0, tried .attempt .ensures .taken (sym (asked .moved .ensures) ∙ done .if2 .taken) .0, h .loop .inv .0)
-
-less-requires : tie.Need-less-requires Inv-loop μ-loop
-less-requires c κs = search needs
+    let gone : tie.After-go Inv-loop μ-loop = search in
+    let u = turn (picked gone) in
+    omega (arith, going u .room, gone .go .ensures .within, head u .loop .inv .3)
 
 end-of-requires : tie.Need-end-of-requires Inv-loop μ-loop
 end-of-requires c κs =
     let h : Head = search in
     let t = top h in
-    (start t .pre .0, start t .pre .1, t .top .ensures .0, t .top .ensures .1, h .loop .inv .2 .stands)
+    (start t .pre .0, start t .pre .1, t .top .ensures .0, t .top .ensures .2, t .top .ensures .1, h .loop .inv .1 .stands)
 
 returns : tie.Need-returns Inv-loop μ-loop
 returns c =
@@ -79,9 +76,9 @@ returns c =
     let h : Head = search in
     let s = first h in
     let l = h .loop in
-    let says = says-from _ _ (s .pre .1) (state h) (l .inv .2 .stands) _ _ (top h .top .ensures .0) refl _ _ _ _
-    (asked .going .ensures) (over .if1 .left) (l .inv .3) (l .inv .1) (endedOf (ended .end-of .result)) (ended .end-of .ensures) in
-    picks-from _ _ _ (state h) _ _ _ (l .inv .2) (l .inv .1) says
+    let says = says-from _ _ (s .pre .1) (state h) (l .inv .1 .stands) _ _ (top h .top .ensures .0) refl _ _ _ _
+    (asked .going .ensures) (over .if1 .left) (l .inv .2) (l .inv .0) (endedOf (ended .end-of .result)) (ended .end-of .ensures) in
+    picks-from _ _ _ (state h) _ _ _ (l .inv .1) (l .inv .0) says
 
 pub drive-spec : {M : Type 1} → statement M
 drive-spec =
@@ -93,14 +90,12 @@ drive-spec =
     top-requires
     loop-holds
     going-requires
-    candidate-requires
-    attempt-requires
-    moved-requires
-    add-taken
-    follow-requires
+    find-requires
     loop-less
     loop-again
-    less-requires
+    sub-go
+    go-requires
+    add-taken
     loop-less-2
     loop-again-2
     end-of-requires

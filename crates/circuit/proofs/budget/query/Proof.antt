@@ -1,4 +1,5 @@
 -- `budget::query` meets its contract: none once main's root is done, else the first node that has a move.
+use mathlib.Core.Path.{_∙_}
 use Rattle.rules.specs.State.{State512}
 use Rattle.circuit.specs.Meaning.{stateAs}
 use Rattle.circuit.proofs.DriveLaws.{query-done, query-none, query-some}
@@ -23,7 +24,12 @@ returns c =
     query-done _ _ (s .pre .1) (state s) (s .pre .2) _ _ (top .top .ensures .0) (at .status-at .ensures) (c .if1 .taken)
 
 find-requires : tie.Need-find-requires
-find-requires c κs = search needs
+find-requires c κs =
+    let on : tie.Else1 = search in
+    let at : tie.After-status-at = search in
+    let top : tie.After-top = search in
+    let s : tie.Start = search in
+    (s .pre .0, top .top .ensures .2, top .top .ensures .1, λ e. on .if1 .left (at .status-at .ensures ∙ e))
 
 returns-2 : tie.Need-returns-2
 returns-2 c =

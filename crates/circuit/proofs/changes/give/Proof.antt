@@ -3,8 +3,13 @@
 use borrow.Author.Needs.{needs}
 use native.Mathlib.Omega.{arith}
 use mathlib.Core.List.{map}
-use mathlib.Core.Path.{refl}
+use mathlib.Core.Logic.{inl, inr}
+use mathlib.Core.Path.{refl, sym, ap, _∙_}
 use Prim.Native.Nat.{_-_, _≤_}
+use borrow.Author.Tests.{ne-eqb}
+use Rattle.table.specs.Pick.{pick}
+use Rattle.table.specs.Bytes.{next}
+use Rattle.table.proofs.Reading.{told}
 use Rattle.table.specs.Naming.{chain}
 use Rattle.rules.specs.State.{entry}
 use Rattle.circuit.proofs.ChainLaws.{ok}
@@ -31,6 +36,11 @@ Turn = tie.In-loop Inv-loop μ-loop
 few : (s : Start) → s .args .g .0 ≤ 32
 few s = omega (arith, s .pre .1 .1, ok _ (s .pre .0 .taken) .F-high)
 
+blank-requires : tie.Need-blank-requires Inv-loop μ-loop
+blank-requires c κs =
+    let s : Start = search in
+    (s .pre .1 .0, few s)
+
 cast-f : tie.Need-cast-f Inv-loop μ-loop
 cast-f c = search needs
 
@@ -45,11 +55,22 @@ loop-holds c =
     let s : Start = search in
     (omega arith, given-start _ (s .pre .0 .taken) _ _ (s .pre .2) _ _)
 
-hand-requires : tie.Need-hand-requires Inv-loop μ-loop
-hand-requires c κs =
+-- where the chain ends, the rest is zero
+returns : tie.Need-returns Inv-loop μ-loop
+returns c =
+    let zeros : tie.After-blank Inv-loop μ-loop = search in
     let l : Head = search in
     let s : Start = search in
-    (s .pre .0, l .loop .inv .1 .inside)
+    given-end _ (s .pre .0 .taken) _ _ (s .pre .2) _ _ _ _ _ _ (zeros .blank .ensures) (l .loop .inv .1) (inl (c .if1 .taken))
+
+value-at-requires : tie.Need-value-at-requires Inv-loop μ-loop
+value-at-requires c κs =
+    let l : Head = search in
+    let s : Start = search in
+    omega (arith, l .loop .inv .1 .inside, ok _ (s .pre .0 .taken) .N-high)
+
+next-requires : tie.Need-next-requires Inv-loop μ-loop
+next-requires c κs = search needs
 
 add-registers : tie.Need-add-registers Inv-loop μ-loop
 add-registers c = omega (arith, few (search))
@@ -68,20 +89,25 @@ loop-less c = omega arith
 
 loop-again : tie.Need-loop-again Inv-loop μ-loop
 loop-again c =
-    let h : tie.After-hand Inv-loop μ-loop = search in
+    let on : tie.After-next Inv-loop μ-loop = search in
+    let v : tie.After-value-at Inv-loop μ-loop = search in
+    let some : tie.Else1 Inv-loop μ-loop = search in
     let t : Turn = search in
     let l : Head = search in
-    let s : Start = search in (
+    let s : Start = search in
+    let p = s .pre in
+    let e = told _ _ (p .0) _ (omega (arith, some .if1 .left), l .loop .inv .1 .inside) 5 _ (omega arith) (on .next .ensures) in (
       omega arith,
-      given-next _ (s .pre .0 .taken) _ _ (s .pre .2) _ _ _ _ _ (l .loop .inv .1) (t .loop-test .taken) (s .pre .1 .0) _ _ _ refl
-          (h .hand .ensures .0) (h .hand .ensures .1),
+      given-next _ (p .0 .taken) _ _ (p .2) _ _ _ _ _ (l .loop .inv .1) (t .loop-test .taken) (p .1 .0) _ _ _ refl (v .value-at .ensures)
+          (e ∙ sym (ap (λ b. pick b 0 (next (s .args .table .now) (l .loop .at .0))) (ne-eqb _ 0 (some .if1 .left)))),
     )
 
-returns : tie.Need-returns Inv-loop μ-loop
-returns c =
+returns-2 : tie.Need-returns-2 Inv-loop μ-loop
+returns-2 c =
+    let zeros : tie.After-blank Inv-loop μ-loop = search in
     let l : Head = search in
     let s : Start = search in
-    given-end _ (s .pre .0 .taken) _ _ (s .pre .2) _ _ _ _ _ (l .loop .inv .1) (omega arith)
+    given-end _ (s .pre .0 .taken) _ _ (s .pre .2) _ _ _ _ _ _ (zeros .blank .ensures) (l .loop .inv .1) (inr (omega arith))
 
 pub give-spec : {M : Type 1} → statement M
 give-spec =
@@ -89,15 +115,18 @@ give-spec =
     (tie.spec
     Inv-loop
     μ-loop
+    blank-requires
     cast-f
     sub-base
     mul-base
     loop-holds
-    hand-requires
+    returns
+    value-at-requires
     add-registers
     mul-registers
     element-write-registers
+    next-requires
     add-i
     loop-less
     loop-again
-    returns)
+    returns-2)

@@ -8,7 +8,7 @@ use Rattle.circuit.proofs.TakeLaws.{turn-in, leave-in}
 use borrow.Author.Needs.{needs}
 use Rattle.circuit.proofs.changes.take_busy.Statement.{statement}
 use Rattle.circuit.proofs.changes.take_busy.Tie as tie
-use Rattle.circuit.proofs.changes.take_busy.Proof.Returns.{start, start-first2, firsts, firsts2, own-there, act, entered-in}
+use Rattle.circuit.proofs.changes.take_busy.Proof.Returns.{start, firsts, act, entered-in}
 use Rattle.circuit.proofs.changes.take_busy.Proof.Returns.{returns, returns-2, returns-3, returns-4, returns-5, returns-6, returns-7}
 use Rattle.circuit.proofs.changes.take_busy.Proof.Returns.{returns-8}
 
@@ -51,6 +51,11 @@ enum-known-p-2 c = search needs
 finish-requires : tie.Need-finish-requires
 finish-requires c κs = n-high (search)
 
+onward-requires : tie.Need-onward-requires
+onward-requires c κs =
+    let s : tie.Start = search in
+    (s .pre .0, s .pre .1)
+
 enum-known-p-3 : tie.Need-enum-known-p-3
 enum-known-p-3 c = search needs
 
@@ -72,6 +77,9 @@ set-occupant-requires c κs =
     let p : tie.After-busy = search in
     omega (arith, entered-in enters .1, ok _ (start p .pre .0 .taken) .F-high)
 
+root-requires : tie.Need-root-requires
+root-requires c κs = search needs
+
 enum-known-p-4 : tie.Need-enum-known-p-4
 enum-known-p-4 c = search needs
 
@@ -90,21 +98,10 @@ set-occupant-requires-2 c κs =
           .F-high,
     )
 
-enum-told-3 : tie.Need-enum-told-3
-enum-told-3 c = search needs
-
-owner-requires : tie.Need-owner-requires
-owner-requires c κs = search needs
-
-first-requires-2 : tie.Need-first-requires-2
-first-requires-2 c κs = search needs
-
-reset-requires-2 : tie.Need-reset-requires-2
-reset-requires-2 c κs =
-    let first : tie.After-first2 = search in
-    let own : tie.After-owner = search in
-    let s = start-first2 first in
-    (s .pre .0, s .pre .3, own-there own, first-in _ (s .pre .0 .taken) _ (s .pre .1) _ (firsts2 first))
+onward-requires-2 : tie.Need-onward-requires-2
+onward-requires-2 c κs =
+    let s : tie.Start = search in
+    (s .pre .0, s .pre .1)
 
 pub take-busy-spec : {M : Type 1} → statement M
 take-busy-spec =
@@ -120,19 +117,18 @@ take-busy-spec =
     set-second-requires
     enum-known-p-2
     finish-requires
+    onward-requires
     enum-known-p-3
     first-requires
     reset-requires
+    root-requires
     set-second-requires-2
     set-occupant-requires
+    returns-2
     enum-known-p-4
     finish-requires-2
     set-occupant-requires-2
-    enum-told-3
-    owner-requires
-    first-requires-2
-    reset-requires-2
-    returns-2
+    onward-requires-2
     returns-3
     returns-4
     returns-5

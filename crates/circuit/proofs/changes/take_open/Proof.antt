@@ -61,6 +61,27 @@ begin-requires c κs =
     let s : tie.Start = search in
     (s .pre .0, s .pre .1)
 
+onward-requires : tie.Need-onward-requires
+onward-requires c κs =
+    let s : tie.Start = search in
+    (s .pre .0, s .pre .1)
+
+onward-requires-2 : tie.Need-onward-requires-2
+onward-requires-2 c κs =
+    let s : tie.Start = search in
+    (s .pre .0, s .pre .1)
+
+onward-requires-3 : tie.Need-onward-requires-3
+onward-requires-3 c κs =
+    let s : tie.Start = search in
+    (s .pre .0, s .pre .1)
+
+first-requires : tie.Need-first-requires
+first-requires c κs = search needs
+
+below-requires : tie.Need-below-requires
+below-requires c κs = search needs
+
 definiens-requires : tie.Need-definiens-requires
 definiens-requires c κs = search needs
 
@@ -80,7 +101,8 @@ returns c =
     let k : tie.At-match-keys1 = search in
     let s : tie.Start = search in
     let p = s .pre in
-    let w = c .finish .ensures in
+    let done : tie.After-finish = search in
+    let w = done .finish .ensures in
     λ e. finished _ (p .0 .taken) _ (p .1) _ _ _ _ e _ _ _ _ (w .0) (w .1) (w .2)
     (acts-open _ (p .0 .taken) _ (p .1) _ _ _ _ e _ (p .2) (open-const _ _ _ _ _ (kinded (search)) (k .match .keys1) _
     (told-word _ _ (p .0) _ (p .1) _ (x .word .ensures))))
@@ -93,7 +115,8 @@ returns-2 c =
     let k : tie.At-match-keys2 = search in
     let s : tie.Start = search in
     let p = s .pre in
-    let w = c .finish2 .ensures in
+    let done : tie.After-finish2 = search in
+    let w = done .finish2 .ensures in
     λ e. finished _ (p .0 .taken) _ (p .1) _ _ _ _ e _ _ _ _ (w .0) (w .1) (w .2)
     (acts-open _ (p .0 .taken) _ (p .1) _ _ _ _ e _ (p .2) (open-param _ _ _ _ _ (kinded (search)) (k .match .keys2) _ _ _
     (told _ _ (p .0) _ (p .1) 1 _ (omega arith) (x .extra .ensures)) (told _ _ (p .0) _ (p .1) 6 _ (omega arith) (o .owner .ensures))
@@ -106,7 +129,8 @@ returns-3 c =
     let k : tie.At-match-keys3 = search in
     let s : tie.Start = search in
     let p = s .pre in
-    let w = c .finish3 .ensures in
+    let done : tie.After-finish3 = search in
+    let w = done .finish3 .ensures in
     let i = bound-in _ (p .0 .taken) _ (p .1) (sym (kinded (search)) ∙ k .match .keys3) in
     λ e. finished _ (p .0 .taken) _ (p .1) _ _ _ _ e _ _ _ _ (w .0) (w .1) (w .2)
     (acts-open _ (p .0 .taken) _ (p .1) _ _ _ _ e _ (p .2) (open-bound _ _ _ _ _ (kinded (search)) (k .match .keys3) _ _
@@ -114,11 +138,13 @@ returns-3 c =
 
 returns-4 : tie.Need-returns-4
 returns-4 c =
+    let begun-now : tie.After-begin = search in
     let k : tie.At-match-rest = search in
     let s : tie.Start = search in
     let p = s .pre in
     λ e. begun _ (p .0 .taken) _ (p .1) _ _ _ _ e (acts-open _ (p .0 .taken) _ (p .1) _ _ _ _ e _ (p .2)
-    (open-other _ _ _ _ _ (kinded (search)) (k .match .rest .0 .0 .1) (k .match .rest .0 .1) (k .match .rest .1))) _ (c .begin .ensures)
+    (open-other _ _ _ _ _ (kinded (search)) (k .match .rest .0 .0 .1) (k .match .rest .0 .1) (k .match .rest .1))) _
+    (begun-now .begin .ensures)
 
 pub take-open-spec : {M : Type 1} → statement M
 take-open-spec =
@@ -127,14 +153,19 @@ take-open-spec =
     kind-requires
     word-requires
     finish-requires
+    onward-requires
     owner-requires
     extra-requires
     register-at-requires
     finish-requires-2
+    onward-requires-2
     definiens-requires
     value-at-requires
     finish-requires-3
+    onward-requires-3
+    first-requires
     begin-requires
+    below-requires
     returns
     returns-2
     returns-3

@@ -1,26 +1,28 @@
--- `search::find` meets its contract. The invariant: no node up to n has a move. The measure is the nodes left.
+-- `search::find` meets its contract. The invariant: no node up to n has a move, and the copy is the state. The measure is the nodes left.
 use borrow.Author.Needs.{needs}
 use native.Mathlib.Omega.{arith}
-use mathlib.Core.Path.{_≡_}
-use Prim.Native.Nat.{_+_, _-_, _≤_}
+use mathlib.Core.Path.{_≡_, refl, sym, ap, _∙_}
+use Prim.Native.Nat.{ℕ, _+_, _-_, _≤_}
 use Rattle.table.specs.Bytes.{nodes}
 use Rattle.table.specs.Working.{IsNode}
 use Rattle.table.proofs.Reading.{told-last}
-use Rattle.rules.specs.State.{State512}
+use Rattle.rules.specs.State.{State512, entry}
 use Rattle.rules.specs.Circuit.{actOf}
 use Rattle.circuit.specs.Meaning.{stateAs}
 use Rattle.circuit.specs.Working.{goes}
 use Rattle.circuit.proofs.ChainLaws.{ok}
-use Rattle.circuit.proofs.SearchLaws.{NoneTo, none-start, none-more, found-none, found-here}
+use Rattle.circuit.proofs.SearchLaws.{NoneTo, none-start, none-more, found-none, found-here, went-goes, went-same}
 use Rattle.circuit.proofs.search.find.Statement.{statement}
 use Rattle.circuit.proofs.search.find.Tie as tie
 
 abbrev Inv-loop : tie.InvT-loop
-Inv-loop table cells status second value registers occupant end n₀ n =
-    (n ≤ end) × NoneTo table (stateAs status second value registers occupant) n × (end ≡ nodes table)
+Inv-loop table cells status second value registers occupant top heads links statuses₀ seconds₀ values₀ inputs₀ calls₀ end n₀ statuses
+    seconds values inputs calls n = (n ≤ end) × NoneTo table (stateAs status second value registers occupant) n × (end ≡ nodes table)
+    × (stateAs statuses seconds values inputs calls ≡ stateAs status second value registers occupant)
 
 abbrev μ-loop : tie.MeasureT-loop
-μ-loop table cells status second value registers occupant end n₀ n = end - n
+μ-loop table cells status second value registers occupant top heads links statuses₀ seconds₀ values₀ inputs₀ calls₀ end n₀ statuses
+    seconds values inputs calls n = end - n
 
 abbrev Start : Type 0
 Start = tie.Start Inv-loop μ-loop
@@ -43,16 +45,25 @@ begin c = search
 node : (c : Turn) → IsNode (begin c .args .table .now) (head c .loop .n + 1)
 node c = (omega arith, omega (arith, c .loop-test .taken, head c .loop .inv .2))
 
--- what is told is whether the node moves
-abbrev Told : Type 0
-Told = tie.After-moves-at Inv-loop μ-loop
+-- what came of the step of a node, on a copy of the state, and whether the node moves
+abbrev Went : Type 0
+Went = tie.After-go Inv-loop μ-loop
 
-abbrev turn : Told → Turn
+abbrev Told : Type 0
+Told = tie.After-moved Inv-loop μ-loop
+
+abbrev went : Told → Went
+went c = search
+
+abbrev turn : Went → Turn
 turn c = search
 
-moving : (c : Told) → let t = turn c in
-    c .moves-at .result ≡ goes (actOf (begin t .args .table .now) (state (begin t)) (head t .loop .n + 1))
-moving c = c .moves-at .ensures _
+moving : (c : Told) → let t = turn (went c) in
+    c .moved .result ≡ goes (actOf (begin t .args .table .now) (state (begin t)) (head t .loop .n + 1))
+moving c =
+    let w = went c in
+    let t = turn w in
+    c .moved .ensures ∙ went-goes _ (state (begin t)) _ (head t .loop .inv .3) _ _ _ _ _ (w .go .ensures)
 
 last-requires : tie.Need-last-requires Inv-loop μ-loop
 last-requires c κs = search needs
@@ -61,20 +72,33 @@ loop-holds : tie.Need-loop-holds Inv-loop μ-loop
 loop-holds c =
     let last : tie.After-last Inv-loop μ-loop = search in
     let s : Start = search in
-    (omega arith, none-start _ (state s), told-last _ _ (s .pre) _ (last .last .ensures))
+    (omega arith, none-start _ (state s), told-last _ _ (s .pre .0) _ (last .last .ensures), refl)
 
 add-n : tie.Need-add-n Inv-loop μ-loop
-add-n c = omega (arith, node c .1, ok _ (begin c .pre .taken) .N-high)
+add-n c = omega (arith, node c .1, ok _ (begin c .pre .0 .taken) .N-high)
 
-moves-at-requires : tie.Need-moves-at-requires Inv-loop μ-loop
-moves-at-requires c κs =
+go-requires : tie.Need-go-requires Inv-loop μ-loop
+go-requires c κs =
     let t : Turn = search in
-    (begin t .pre, node t)
+    let s = begin t in
+    let l = head t .loop in (
+      s .pre .0,
+      λ e. absurd (let z : _≡_ {A = ℕ} 0 1 = cc in omega arith),
+      node t,
+      s .pre .1,
+      s .pre .2,
+      λ e. s .pre .3 (sym (ap (λ u. entry (u .status) 0 (s .args .top .0)) (l .inv .3)) ∙ e),
+      omega arith,
+    )
+
+moved-requires : tie.Need-moved-requires Inv-loop μ-loop
+moved-requires c κs = search needs
 
 returns : tie.Need-returns Inv-loop μ-loop
 returns c =
     let told : Told = search in
-    found-here _ (state (begin (turn told))) _ (node (turn told)) _ (moving told) (c .if1 .taken)
+    let t = turn (went told) in
+    found-here _ (state (begin t)) _ (node t) _ (moving told) (c .if1 .taken)
 
 loop-less : tie.Need-loop-less Inv-loop μ-loop
 loop-less c = omega arith
@@ -82,9 +106,14 @@ loop-less c = omega arith
 loop-again : tie.Need-loop-again Inv-loop μ-loop
 loop-again c =
     let told : Told = search in
-    let t = turn told in
-    let l = head t .loop in
-    (omega (arith, l .inv .0, t .loop-test .taken), none-more _ (state (begin t)) _ (l .inv .1) _ (moving told) (c .if1 .left), l .inv .2)
+    let w = went told in
+    let t = turn w in
+    let l = head t .loop in (
+      omega (arith, l .inv .0, t .loop-test .taken),
+      none-more _ (state (begin t)) _ (l .inv .1) _ (moving told) (c .if1 .left),
+      l .inv .2,
+      went-same _ (state (begin t)) _ (l .inv .3) _ _ _ _ _ (w .go .ensures) (sym (told .moved .ensures) ∙ c .if1 .left),
+    )
 
 returns-2 : tie.Need-returns-2 Inv-loop μ-loop
 returns-2 c =
@@ -101,7 +130,8 @@ find-spec =
     last-requires
     loop-holds
     add-n
-    moves-at-requires
+    go-requires
+    moved-requires
     returns
     loop-less
     loop-again

@@ -24,7 +24,8 @@ returns c =
     let t = s .args .table .now in
     let i : IsFunction t (functions t) = (p .F-low, omega arith) in
     let e = told-root _ _ (s .pre) _ (subst (IsFunction t) (sym f) i) _ (c .root .ensures) ∙ ap (root t) f in
-    (e, omega (arith, e, p .linking .roots _ i .1, p .N-high))
+    let r = p .linking .roots _ i in
+    (e, omega (arith, e, r .1, p .N-high), omega (arith, e, r .0))
 
 pub top-spec : {M : Type 1} → statement M
 top-spec = tie.close (tie.spec main-requires root-requires returns)

@@ -3,13 +3,11 @@ use Rattle.table.proofs.Reading.{told-last}
 use native.Mathlib.Omega.{arith}
 use borrow.Author.Needs.{needs}
 use mathlib.Core.Path.{_≡_, refl, sym, _∙_}
-use Prim.Native.Nat.{_≤_}
 use Rattle.table.specs.Working.{IsNode}
 use Rattle.rules.specs.State.{State512}
 use Rattle.rules.specs.Step.{Act, Stepped}
 use Rattle.rules.specs.Circuit.{actOf, circuitOf}
 use Rattle.circuit.specs.Meaning.{stateAs}
-use Rattle.circuit.proofs.ChainLaws.{ok}
 use Rattle.circuit.proofs.TurnLaws.{turn-zero, turn-past, turn-over, turn-on, Out, out-stuck, out-held, out-moved}
 use Rattle.circuit.proofs.turn.turn.Statement.{statement}
 use Rattle.circuit.proofs.turn.turn.Tie as tie
@@ -88,53 +86,32 @@ returns-3 c =
     turn-over _ _ (s .pre .0 .taken) (state s) _ (some .if1 .left) (node in-table .1) (s .pre .2) _ _ (top .top .ensures .0)
     (at .status-at .ensures) (c .if3 .taken)
 
--- n is at most 512
-n-high : (c : tie.Else2) → start c .args .n .0 ≤ 512
-n-high c = omega (arith, node c .1, ok _ (start c .pre .0 .taken) .N-high)
-
-status-at-requires-2 : tie.Need-status-at-requires-2
-status-at-requires-2 c κs = n-high (search)
-
-take-open-requires : tie.Need-take-open-requires
-take-open-requires c κs =
-    let is : tie.Then4 = search in
-    let at : tie.After-status-at2 = search in
-    let in-table : tie.Else2 = search in
-    let s = start in-table in
-    (s .pre .0, node in-table, sym (at .status-at2 .ensures) ∙ is .if4 .taken)
-
-told-requires : tie.Need-told-requires
-told-requires c κs =
-    let top : tie.After-top = search in
-    top .top .ensures .1
-
-returns-4 : tie.Need-returns-4
-returns-4 c =
-    let took : tie.After-take-open = search in
+go-requires : tie.Need-go-requires
+go-requires c κs =
     let going : tie.Else3 = search in
+    let at : tie.After-status-at = search in
     let top : tie.After-top = search in
-    let s = start (there going) in
-    out-moved _ (s .args .tags .now) (s .pre .0 .taken) (state s) (s .args .n .0) _ _ (act s) (took .take-open .ensures _) refl _
-    (top .top .ensures .0) _ (c .told .ensures) ∙ sym (on going)
-
-take-busy-requires : tie.Need-take-busy-requires
-take-busy-requires c κs =
-    let not-open : tie.Else4 = search in
-    let at : tie.After-status-at2 = search in
     let in-table : tie.Else2 = search in
-    let s = start in-table in
-    (s .pre .0, node in-table, λ e. not-open .if4 .left (at .status-at2 .ensures ∙ e), s .pre .1)
+    let s = start in-table in (
+      s .pre .0,
+      s .pre .1,
+      node in-table,
+      top .top .ensures .2,
+      top .top .ensures .1,
+      λ e. going .if3 .left (at .status-at .ensures ∙ e),
+      omega arith,
+    )
 
 enum-told : tie.Need-enum-told
 enum-told c = search needs
 
-returns-5 : tie.Need-returns-5
-returns-5 c =
+returns-4 : tie.Need-returns-4
+returns-4 c =
     let is : tie.After-enum-told = search in
-    let took : tie.After-take-busy = search in
+    let took : tie.After-go = search in
     let going : tie.Else3 = search in
     let s = start (there going) in
-    out-stuck _ (s .args .tags .now) (s .pre .0 .taken) (state s) (s .args .n .0) _ _ (act s) (took .take-busy .ensures)
+    out-stuck _ (s .args .tags .now) (s .pre .0 .taken) (state s) (s .args .n .0) _ _ (act s) (took .go .ensures .once refl)
     (is .enum-told .given .1)
     ∙ sym (on going)
 
@@ -144,34 +121,34 @@ enum-told-2 c = search needs
 why-blocked-requires : tie.Need-why-blocked-requires
 why-blocked-requires c κs = search needs
 
-returns-6 : tie.Need-returns-6
-returns-6 c =
+returns-5 : tie.Need-returns-5
+returns-5 c =
     let is : tie.After-enum-told2 = search in
-    let took : tie.After-take-busy = search in
+    let took : tie.After-go = search in
     let going : tie.Else3 = search in
     let s = start (there going) in
-    out-held _ (s .args .tags .now) (s .pre .0 .taken) (state s) (s .args .n .0) _ _ (act s) (took .take-busy .ensures)
+    out-held _ (s .args .tags .now) (s .pre .0 .taken) (state s) (s .args .n .0) _ _ (act s) (took .go .ensures .once refl)
     (is .enum-told2 .given .1) _
     (c .why-blocked .ensures) ∙ sym (on going)
 
 enum-told-3 : tie.Need-enum-told-3
 enum-told-3 c = search needs
 
-told-requires-2 : tie.Need-told-requires-2
-told-requires-2 c κs =
+told-requires : tie.Need-told-requires
+told-requires c κs =
     let top : tie.After-top = search in
     top .top .ensures .1
 
-returns-7 : tie.Need-returns-7
-returns-7 c =
+returns-6 : tie.Need-returns-6
+returns-6 c =
     let is : tie.After-enum-told3 = search in
-    let took : tie.After-take-busy = search in
+    let took : tie.After-go = search in
     let going : tie.Else3 = search in
     let top : tie.After-top = search in
     let s = start (there going) in
-    out-moved _ (s .args .tags .now) (s .pre .0 .taken) (state s) (s .args .n .0) _ _ (act s) (took .take-busy .ensures)
+    out-moved _ (s .args .tags .now) (s .pre .0 .taken) (state s) (s .args .n .0) _ _ (act s) (took .go .ensures .once refl)
     (is .enum-told3 .given .1) _
-    (top .top .ensures .0) _ (c .told2 .ensures) ∙ sym (on going)
+    (top .top .ensures .0) _ (c .told .ensures) ∙ sym (on going)
 
 pub turn-spec : {M : Type 1} → statement M
 turn-spec =
@@ -183,16 +160,12 @@ turn-spec =
     top-requires
     status-at-requires
     returns-3
-    status-at-requires-2
-    take-open-requires
-    told-requires
-    returns-4
-    take-busy-requires
+    go-requires
     enum-told
     enum-told-2
     why-blocked-requires
     enum-told-3
-    told-requires-2
+    told-requires
+    returns-4
     returns-5
-    returns-6
-    returns-7)
+    returns-6)

@@ -1,29 +1,29 @@
 -- the invariant and the measure of the run, the places that its answers name and what holds there, and where its loop begins
 use native.Mathlib.Omega.{arith}
 use mathlib.Core.Path.{_≡_}
-use Prim.Native.Nat.{ℕ, _+_, _-_, _*_, _≤_, _<_}
+use Prim.Native.Nat.{ℕ, _+_, _-_, _≤_, _<_}
 use mathlib.Core.Bool.{true}
 use Rattle.table.specs.Pick.{pick}
 use Rattle.table.specs.Working.{IsNode}
 use Rattle.rules.specs.State.{State512, entry}
 use Rattle.rules.specs.Circuit.{actOf}
 use Rattle.circuit.specs.Meaning.{stateAs}
-use Rattle.circuit.specs.Working.{goes}
-use Rattle.circuit.proofs.DriveLaws.{DroveTo, drove-start, Going, goes-on}
+use Rattle.circuit.specs.Working.{goes, DroveTo}
+use Rattle.circuit.proofs.DriveLaws.{drove-start, Going, goes-on}
 use Rattle.circuit.proofs.budget.drive.Tie as tie
 
 abbrev pub Inv-loop : tie.InvT-loop
-Inv-loop table cells tags status₀ second₀ value₀ registers₀ occupant₀ budget heads links top stack₀ height₀ taken₀ rest₀ status second value
-    registers occupant stack height taken rest = (height ≤ 1024) × (taken ≤ budget) × DroveTo table tags
-    (stateAs status₀ second₀ value₀ registers₀ occupant₀) (stateAs status second value registers occupant) taken ×
+Inv-loop table cells tags status₀ second₀ value₀ registers₀ occupant₀ budget heads links top taken₀ rest₀ status second value registers
+    occupant taken rest = (taken ≤ budget) × DroveTo table tags (stateAs status₀ second₀ value₀ registers₀ occupant₀)
+    (stateAs status second value registers occupant) taken ×
     (rest ≡ true → (n : ℕ) → IsNode table n → goes (actOf table (stateAs status second value registers occupant) n) ≡ true → ⊥) ×
     (budget < 4294967296)
 
 abbrev pub μ-loop : tie.MeasureT-loop
-μ-loop table cells tags status₀ second₀ value₀ registers₀ occupant₀ budget heads links top stack₀ height₀ taken₀ rest₀ status second value
-    registers occupant stack height taken rest = 2048 * (budget - taken) + height + pick rest 0 1
+μ-loop table cells tags status₀ second₀ value₀ registers₀ occupant₀ budget heads links top taken₀ rest₀ status second value registers
+    occupant taken rest = budget - taken + pick rest 0 1
 
--- the start, main's root read, the loop's head, a turn and its candidate
+-- the start, main's root read, the loop's head, a turn and what it found
 abbrev pub Start : Type 0
 Start = tie.Start Inv-loop μ-loop
 
@@ -37,7 +37,7 @@ abbrev pub Turn : Type 0
 Turn = tie.Then1 Inv-loop μ-loop
 
 abbrev pub Pick : Type 0
-Pick = tie.After-candidate Inv-loop μ-loop
+Pick = tie.After-find Inv-loop μ-loop
 
 -- the way back, from each to the one before
 abbrev pub start : Top → Start
@@ -69,7 +69,6 @@ going c =
 pub loop-holds : tie.Need-loop-holds Inv-loop μ-loop
 loop-holds c =
     let s : Start = search in (
-      omega arith,
       omega arith,
       drove-start _ _ _ (s .pre .2),
       λ e. absurd (let z : _≡_ {A = ℕ} 0 1 = cc in omega arith),

@@ -1,53 +1,50 @@
--- a turn of the run: a step taken, or a candidate that is none
+-- a turn of the run: nothing is possible, or a course of steps is taken
 use native.Mathlib.Omega.{arith}
-use mathlib.Core.Path.{_≡_, refl, sym, _∙_}
-use Prim.Native.Nat.{ℕ, _-_}
-use Rattle.circuit.proofs.DriveLaws.{falls-waiting, drove-next, drove-same, rests}
+use mathlib.Core.Path.{_≡_}
+use Prim.Native.Nat.{ℕ, _≤_}
+use Rattle.circuit.proofs.DriveLaws.{falls-waiting}
 use Rattle.circuit.proofs.budget.drive.Tie as tie
-use Rattle.circuit.proofs.budget.drive.Proof.Loop.{Inv-loop, μ-loop, Turn, Pick, first, top, head, turn, state, going}
+use Rattle.circuit.proofs.budget.drive.Proof.Loop.{Inv-loop, μ-loop, Turn, Pick, first, top, head, turn, going}
 
--- the candidate of an attempt
-abbrev picked : tie.After-attempt Inv-loop μ-loop → Pick
+-- the search before a course
+abbrev pub picked : tie.After-go Inv-loop μ-loop → Pick
 picked c = search
+
+abbrev some : tie.After-go Inv-loop μ-loop → tie.Else2 Inv-loop μ-loop
+some c = search
+
+-- the node found has a move, so that the course has a step
+pub steps : (c : tie.After-go Inv-loop μ-loop) → 1 ≤ c .go .result .steps
+steps c = c .go .ensures .moves (picked c .find .ensures .some (some c .if2 .left) .1)
 
 pub loop-less : tie.Need-loop-less Inv-loop μ-loop
 loop-less c =
     let t : Turn = search in
-    omega (arith, going t .room, c .follow .ensures)
+    falls-waiting _ _ (going t .awake)
 
 pub loop-again : tie.Need-loop-again Inv-loop μ-loop
 loop-again c =
-    let done : tie.Then2 Inv-loop μ-loop = search in
-    let asked : tie.After-moved Inv-loop μ-loop = search in
-    let tried : tie.After-attempt Inv-loop μ-loop = search in
-    let p = picked tried in
-    let t = turn p in
-    let h = head t in (
-      c .follow .ensures,
-      omega (arith, going t .room),
-      drove-next _ _ (first h .pre .1) _ _ _ (h .loop .inv .2) _ _ (top h .top .ensures .0) refl (going t .undone) _ _ _
-          (tried .attempt .ensures) (sym (asked .moved .ensures) ∙ done .if2 .taken),
-      λ e. absurd (let y = going t .awake in let z : _≡_ {A = ℕ} 0 1 = cc in omega arith),
-      h .loop .inv .4,
+    let p : Pick = search in
+    let h = head (turn p) in (
+      h .loop .inv .0,
+      h .loop .inv .1,
+      λ e. p .find .ensures .none (c .if2 .taken),
+      h .loop .inv .3,
     )
 
 pub loop-less-2 : tie.Need-loop-less-2 Inv-loop μ-loop
 loop-less-2 c =
-    let t : Turn = search in
-    let h = head t in
-    falls-waiting _ (first h .args .budget - h .loop .taken) _ _ (going t .awake) (c .less .ensures)
+    let gone : tie.After-go Inv-loop μ-loop = search in
+    let t = turn (picked gone) in
+    omega (arith, going t .room, steps gone, gone .go .ensures .within)
 
 pub loop-again-2 : tie.Need-loop-again-2 Inv-loop μ-loop
 loop-again-2 c =
-    let left : tie.Else2 Inv-loop μ-loop = search in
-    let asked : tie.After-moved Inv-loop μ-loop = search in
-    let tried : tie.After-attempt Inv-loop μ-loop = search in
-    let p = picked tried in
-    let h = head (turn p) in (
-      omega (arith, c .less .ensures, h .loop .inv .0),
-      h .loop .inv .1,
-      drove-same _ _ (first h .pre .1) _ _ _ (h .loop .inv .2) _ _ _ (tried .attempt .ensures)
-          (sym (asked .moved .ensures) ∙ left .if2 .left),
-      rests _ (state h) _ _ _ _ (p .candidate .ensures) (tried .attempt .ensures) (sym (asked .moved .ensures) ∙ left .if2 .left),
-      h .loop .inv .4,
+    let gone : tie.After-go Inv-loop μ-loop = search in
+    let t = turn (picked gone) in
+    let h = head t in (
+      omega (arith, going t .room, gone .go .ensures .within),
+      gone .go .ensures .drove _ _ _ (first h .pre .1) (top h .top .ensures .0) (h .loop .inv .1),
+      λ e. absurd (let y = going t .awake in let z : _≡_ {A = ℕ} 0 1 = cc in omega arith),
+      h .loop .inv .3,
     )

@@ -1,4 +1,4 @@
--- `candidates::attempt` meets its contract: what is no node has no step.
+-- `course::attempt` meets its contract: what is no node has no step.
 use native.Mathlib.Omega.{arith}
 use mathlib.Core.Path.{sym, _∙_}
 use Rattle.table.specs.Working.{IsNode}
@@ -8,8 +8,8 @@ use Rattle.circuit.specs.declared.changes.Effect.the-variants as Effect
 use Rattle.circuit.proofs.ChainLaws.{ok}
 use Rattle.circuit.proofs.SearchLaws.{tried-none, tried-node}
 use borrow.Author.Needs.{needs}
-use Rattle.circuit.proofs.candidates.attempt.Statement.{statement}
-use Rattle.circuit.proofs.candidates.attempt.Tie as tie
+use Rattle.circuit.proofs.course.attempt.Statement.{statement}
+use Rattle.circuit.proofs.course.attempt.Tie as tie
 
 abbrev start : tie.Else2 → tie.Start
 start c = search
@@ -52,7 +52,7 @@ take-busy-requires c κs =
     let not-open : tie.Else3 = search in
     let at : tie.After-status-at = search in
     let n : tie.Else2 = search in
-    (start n .pre .0, node n, λ e. not-open .if3 .left (at .status-at .ensures ∙ e), λ e. start n .pre .1)
+    (start n .pre .0, node n, λ e. not-open .if3 .left (at .status-at .ensures ∙ e), start n .pre .1)
 
 returns-4 : tie.Need-returns-4
 returns-4 c = tried-node _ (stateAs _ _ _ _ _) _ _ _ (node (search)) (c .take-busy .ensures)

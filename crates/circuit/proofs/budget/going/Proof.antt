@@ -1,8 +1,8 @@
--- `candidates::going` meets its contract: by the budget left.
+-- `budget::going` meets its contract: by the budget left.
 use borrow.Author.Needs.{needs}
 use Rattle.circuit.proofs.DriveLaws.{going-rest, going-on, going-spent}
-use Rattle.circuit.proofs.candidates.going.Statement.{statement}
-use Rattle.circuit.proofs.candidates.going.Tie as tie
+use Rattle.circuit.proofs.budget.going.Statement.{statement}
+use Rattle.circuit.proofs.budget.going.Tie as tie
 
 returns : tie.Need-returns
 returns c =
