@@ -83,7 +83,7 @@ fn kind_fits(
     if word < call {
         return false;
     }
-    let most = (((owner.0 as u32) + tail - 1) as u64) * call
+    let most = ((owner.0 as u64) + (tail as u64) - 1) * call
         + (rule(rules, kind, kinds::WORDS) as u64) * 4294967295;
     word <= most
 }

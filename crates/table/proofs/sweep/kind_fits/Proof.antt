@@ -62,9 +62,6 @@ add-most c = search needs
 sub-most : tie.Need-sub-most
 sub-most c = search needs
 
-cast-most-2 : tie.Need-cast-most-2
-cast-most-2 c = search needs
-
 mul-most : tie.Need-mul-most
 mul-most c =
     let k : tie.After-rule3 = search in
@@ -73,8 +70,8 @@ mul-most c =
 rule-requires-4 : tie.Need-rule-requires-4
 rule-requires-4 c κs = search needs
 
-cast-most-3 : tie.Need-cast-most-3
-cast-most-3 c = search needs
+cast-most-2 : tie.Need-cast-most-2
+cast-most-2 c = search needs
 
 mul-most-2 : tie.Need-mul-most-2
 mul-most-2 c = search needs
@@ -123,10 +120,9 @@ kind-fits-spec =
     cast-most
     add-most
     sub-most
-    cast-most-2
     mul-most
     rule-requires-4
-    cast-most-3
+    cast-most-2
     mul-most-2
     add-most-2
     returns-3)
