@@ -25,25 +25,23 @@ upto-more f x₀ x i v l u e = record { done = λ j h. done j h (ℕ-discrete j 
     left : (j : ℕ) → i + 1 ≤ j → getD (set x i v) j 0 ≡ getD x₀ j 0
     left j h = getD-set-other x i j v 0 (λ p. omega (arith, p)) ∙ u .left j (omega arith)
 
--- i entries from base on are those of y, the others are as they were
-pub record Part (base : ℕ) (y x₀ x : List ℕ) (i : ℕ) : Type 0 where
-  pub done : (j : ℕ) → j < i → getD x (base + j) 0 ≡ getD y j 0
+-- i entries from base on are what f says, the others are as they were
+pub record Part (base : ℕ) (f : ℕ → ℕ) (x₀ x : List ℕ) (i : ℕ) : Type 0 where
+  pub done : (j : ℕ) → j < i → getD x (base + j) 0 ≡ f j
   pub before : (j : ℕ) → j < base → getD x j 0 ≡ getD x₀ j 0
   pub past : (j : ℕ) → base + i ≤ j → getD x j 0 ≡ getD x₀ j 0
 
-pub part-none : (base : ℕ) (y x : List ℕ) → Part base y x x 0
-part-none base y x = record { done = λ j h. absurd (omega arith); before = λ j h _. getD x j 0; past = λ j h _. getD x j 0 }
+pub part-none : (base : ℕ) (f : ℕ → ℕ) (x : List ℕ) → Part base f x x 0
+part-none base f x = record { done = λ j h. absurd (omega arith); before = λ j h _. getD x j 0; past = λ j h _. getD x j 0 }
 
-pub part-more : (base : ℕ) (y x₀ x : List ℕ) (i : ℕ) → base + i < length x → Part base y x₀ x i
-    → Part base y x₀ (set x (base + i) (getD y i 0)) (i + 1)
-part-more base y x₀ x i l u = record {
+pub part-more : (base : ℕ) (f : ℕ → ℕ) (x₀ x : List ℕ) (i : ℕ) → base + i < length x → Part base f x₀ x i
+    → Part base f x₀ (set x (base + i) (f i)) (i + 1)
+part-more base f x₀ x i l u = record {
   done = λ j h. done j h (ℕ-discrete j i);
-  before = λ j h. getD-set-other x (base + i) j (getD y i 0) 0 (λ p. omega (arith, p)) ∙ u .before j h;
-  past = λ j h. getD-set-other x (base + i) j (getD y i 0) 0 (λ p. omega (arith, p)) ∙ u .past j (omega arith);
+  before = λ j h. getD-set-other x (base + i) j (f i) 0 (λ p. omega (arith, p)) ∙ u .before j h;
+  past = λ j h. getD-set-other x (base + i) j (f i) 0 (λ p. omega (arith, p)) ∙ u .past j (omega arith);
 }
   where
-    done : (j : ℕ) → j < i + 1 → Dec (j ≡ i) → getD (set x (base + i) (getD y i 0)) (base + j) 0 ≡ getD y j 0
-    done j h (yes p) =
-        ap (λ k. getD (set x (base + i) (getD y i 0)) (base + k) 0) p ∙ getD-set-same x (base + i) (getD y i 0) 0 l
-        ∙ ap (λ k. getD y k 0) (sym p)
-    done j h (no p) = getD-set-other x (base + i) (base + j) (getD y i 0) 0 (λ q. p (omega (arith, q))) ∙ u .done j (omega arith)
+    done : (j : ℕ) → j < i + 1 → Dec (j ≡ i) → getD (set x (base + i) (f i)) (base + j) 0 ≡ f j
+    done j h (yes p) = ap (λ k. getD (set x (base + i) (f i)) (base + k) 0) p ∙ getD-set-same x (base + i) (f i) 0 l ∙ ap f (sym p)
+    done j h (no p) = getD-set-other x (base + i) (base + j) (f i) 0 (λ q. p (omega (arith, q))) ∙ u .done j (omega arith)

@@ -11,7 +11,7 @@ use lib.ListN.{length, getD, set, replicate, length-set}
 use lib.Seq.{getD-set-same, getD-set-other}
 use borrow.Author.Tests.{eq-eqb, ne-eqb}
 use Rattle.list.specs.Arbiters.{Test}
-use Rattle.list.specs.Working.{bitAt, packed, Bit, Adds, PutAt, Kept}
+use Rattle.list.specs.Working.{bitAt, packed, Bit, Adds, PutAt, Kept, WordPut}
 use Rattle.list.specs.Tags.{tagged}
 use Rattle.list.proofs.BitLaws.{or-bit, pow-bit, zero-bit, zeros-at, tagged-bit, byte-bit}
 use Rattle.list.proofs.Entrywise.{Part}
@@ -126,7 +126,7 @@ put-row x g n l k b = record { size = length-set x (8 * g + (n - 1) / 64) _ ∙ 
         ∙ one-more x q low inside (512 * h + m) (omega (arith, c .0)) ∙ ap (λ p. packed x (512 * h + m) || p) (apart g n h m b c)
 
 -- a set that was copied into the rows
-pub kept-by : (g : ℕ) (y x₀ x : List ℕ) → length x ≡ 520 → Part (8 * g) y x₀ x 8 → Kept g y x₀ x
+pub kept-by : (g : ℕ) (y x₀ x : List ℕ) → length x ≡ 520 → Part (8 * g) (λ j. getD y j 0) x₀ x 8 → Kept g y x₀ x
 kept-by g y x₀ x l p = record {
   size = l;
   same = λ m b. packed-row x g m (b .0) ∙ ap (λ z. bitAt z ((m - 1) % 64)) (p .done ((m - 1) / 64) (word-of m b)) ∙ sym (packed-bit y m);
@@ -138,9 +138,31 @@ kept-by g y x₀ x l p = record {
     outside h m e b (yes d) = p .before (8 * h + (m - 1) / 64) (omega (arith, word-of m b))
     outside h m e b (no d) = p .past (8 * h + (m - 1) / 64) (omega (arith, word-of m b))
 
--- eight bytes of each word, the lowest first
-pub bytes-of : (words x : List ℕ) → ((j : ℕ) → j < 64 → getD x j 0 ≡ getD words (j / 8) 0 / 2 ^ (8 * (j % 8)) % 256) → (m : ℕ) → Bit m
-    → tagged x m ≡ packed words m
+-- a word whose eight bytes were written into a set
+pub word-put : (i w : ℕ) (x₀ x : List ℕ) → length x ≡ 64 → Part (8 * i) (λ j. w / 2 ^ (8 * j) % 256) x₀ x 8 → WordPut i w x₀ x
+word-put i w x₀ x l p = record { size = l; same = p .done; other = λ j e. outside j e (decLt j (8 * i)) }
+  where
+    outside : (j : ℕ) → (j / 8 ≡ i → ⊥) → Dec (j < 8 * i) → getD x j 0 ≡ getD x₀ j 0
+    outside j e (yes d) = p .before j d
+    outside j e (no d) = p .past j (omega (arith, e))
+
+-- the first i words in bytes, eight of each word, the lowest first
+abbrev pub Bytes : (words x : List ℕ) (i : ℕ) → Type 0
+Bytes words x i = (j : ℕ) → j < 8 * i → getD x j 0 ≡ getD words (j / 8) 0 / 2 ^ (8 * (j % 8)) % 256
+
+pub bytes-more : (words x₀ x : List ℕ) (i : ℕ) → Bytes words x₀ i → WordPut i (getD words i 0) x₀ x → Bytes words x (i + 1)
+bytes-more words x₀ x i b p j h = go (ℕ-discrete (j / 8) i)
+  where
+    place : (j : ℕ) → j ≡ 8 * (j / 8) + j % 8
+    place j = omega arith
+
+    go : Dec (j / 8 ≡ i) → getD x j 0 ≡ getD words (j / 8) 0 / 2 ^ (8 * (j % 8)) % 256
+    go (yes e) =
+        ap (λ k. getD x k 0) (place j ∙ ap (λ k. 8 * k + j % 8) e) ∙ p .same (j % 8) (omega arith)
+        ∙ ap (λ k. getD words k 0 / 2 ^ (8 * (j % 8)) % 256) (sym e)
+    go (no e) = p .other j e ∙ b j (omega (arith, e))
+
+pub bytes-of : (words x : List ℕ) → Bytes words x 8 → (m : ℕ) → Bit m → tagged x m ≡ packed words m
 bytes-of words x h m b =
     tagged-bit x m (b .0) ∙ ap (λ y. bitAt y ((m - 1) % 8)) (h ((m - 1) / 8) (omega arith))
     ∙ byte-bit (getD words ((m - 1) / 8 / 8) 0) (8 * ((m - 1) / 8 % 8)) ((m - 1) % 8) (omega arith)

@@ -1,5 +1,5 @@
 -- what the parts of the walk ask of each other: packed sets, the sites of each function, and what the walk keeps
-use Prim.Native.Nat.{ℕ, _+_, _-_, _*_, _/_, _%_, _^_, _≤_}
+use Prim.Native.Nat.{ℕ, _+_, _-_, _*_, _/_, _%_, _^_, _<_, _≤_}
 use mathlib.Core.Bool.{Bool, true, false, _&&_, _||_}
 use mathlib.Core.Path.{_≡_}
 use mathlib.Core.List.{List, [], _++_}
@@ -112,6 +112,12 @@ pub record MetBy (set : List ℕ) (once twice : ℕ) (rows rows′ : List ℕ) :
   pub size : length rows′ ≡ 520
   pub bits : (m : ℕ) → Bit m → packed rows′ m ≡ packed rows m || (packed set m && sharedOf set rows once twice m)
   pub other : (h m : ℕ) → 1 ≤ h → Bit m → packed rows′ (512 * h + m) ≡ packed rows (512 * h + m)
+
+-- a set in bytes whose word i was written: it has the eight bytes of x, the lowest first, and the others are as they were
+pub record WordPut (i x : ℕ) (set set′ : List ℕ) : Type 0 where
+  pub size : length set′ ≡ 64
+  pub same : (j : ℕ) → j < 8 → getD set′ (8 * i + j) 0 ≡ x / 2 ^ (8 * j) % 256
+  pub other : (j : ℕ) → (j / 8 ≡ i → ⊥) → getD set′ j 0 ≡ getD set j 0
 
 -- a function whose body has been walked
 abbrev pub Seen : List ℕ → ℕ → Type 0

@@ -9,7 +9,21 @@ ghost use Prim.Native.Nat.{ℕ, _<_};
 ghost use lib.ListN.{length, getD};
 ghost use Rattle.table.specs.Working.{Read};
 ghost use Rattle.list.specs.Tags.{tagged, listed};
-ghost use Rattle.list.specs.Working.{packed, Bit};
+ghost use Rattle.list.specs.Working.{packed, Bit, WordPut};
+
+// Writes x as word i of the set, in eight bytes, the lowest first.
+fn put_word(set: &mut [u8; 64], i: usize, x: u64)
+    requires { ⌜ (length (now set) ≡ 64) × (i < 8) ⌝ }
+    ensures { λ _. ⌜ WordPut i x (now (set .entry)) (now (set .exit)) ⌝ }
+{
+    let mut j: usize = 0;
+    while j < 8 {
+        let k = (8 * j) as u16;
+        let y = x >> k;
+        set[8 * i + j] = (y % 256) as u8;
+        j += 1;
+    }
+}
 
 // Set 0 of the rows as bytes.
 fn bytes(rows: &Rows) -> [u8; 64]
@@ -18,11 +32,8 @@ fn bytes(rows: &Rows) -> [u8; 64]
 {
     let mut set = [0u8; 64];
     let mut i: usize = 0;
-    while i < 64 {
-        let x = rows[i / 8];
-        let k = (8 * (i % 8)) as u16;
-        let y = x >> k;
-        set[i] = (y % 256) as u8;
+    while i < 8 {
+        put_word(&mut set, i, rows[i]);
         i += 1;
     }
     set

@@ -4,14 +4,14 @@ use mathlib.Core.Path.{_≡_, subst}
 use Prim.Native.Nat.{_-_, _*_, _≤_}
 use native.Mathlib.Omega.{arith}
 use borrow.Author.Needs.{needs}
-use lib.ListN.{length, length-set}
+use lib.ListN.{length, getD, length-set}
 use Rattle.list.proofs.WordLaws.{kept-by}
 use Rattle.list.proofs.Entrywise.{Part, part-none, part-more}
 use Rattle.list.proofs.bits.keep.Statement.{statement}
 use Rattle.list.proofs.bits.keep.Tie as tie
 
 abbrev Inv-loop : tie.InvT-loop
-Inv-loop rows₀ k set base i₀ rows i = (i ≤ 8) × (length rows ≡ 520) × Part base set rows₀ rows i
+Inv-loop rows₀ k set base i₀ rows i = (i ≤ 8) × (length rows ≡ 520) × Part base (λ j. getD set j 0) rows₀ rows i
 
 abbrev μ-loop : tie.MeasureT-loop
 μ-loop rows₀ k set base i₀ rows i = 8 - i
