@@ -13,17 +13,18 @@ use borrow.Author.Tests.{eq-eqb, ne-eqb, lt-ltb, le-leb}
 use Rattle.table.specs.Pick.{pick}
 use Rattle.table.specs.Bytes.{functions, nodes, params, spare, root, first, next}
 use Rattle.table.specs.Find.{highest}
-use Rattle.table.specs.Naming.{mentions, rootOf, namer, parent, chain, children}
+use Rattle.table.specs.Naming.{mentions, rootOf, namer, owner, parent, chain, children}
 use Rattle.table.specs.Check.{rootFits, recordFits, forward, linked}
 use Rattle.table.specs.Working.{IsNode, IsFunction, Framed, Linked}
 use Rattle.table.specs.Sweep.{rank, mentionsTo, Handed, hand, Links, RootFits, RootsFit, Kin, Kids}
 use Rattle.table.proofs.FindLaws.{both, pair, orl, orr, same, highest-bound, highest-passes, highest-hit}
 use Rattle.table.proofs.Passed.{in-range}
 use Rattle.table.proofs.Loops.{highest-more, blank-at}
-use Rattle.table.proofs.Links.{namer-names, link}
-use Rattle.table.proofs.Family.{parent-top, parent-down, parent-along, parent-first, parent-next, first-node, next-node}
+use Rattle.table.proofs.Links.{namer-names, namer-lower, link}
+use Rattle.table.proofs.Family.{owner-top, owner-down, parent-top, parent-down, parent-along, parent-first, parent-next}
+use Rattle.table.proofs.Family.{first-node, next-node}
 use Rattle.table.proofs.Tree.{chain-none, chain-some}
-use Rattle.table.proofs.HandLaws.{rank-step, kin-here}
+use Rattle.table.proofs.HandLaws.{rank-step, root-some, kin-here}
 use Rattle.table.proofs.HandSteps.{handed-link, still-named, next-on, first-on}
 
 -- a function's record, from what was read of it
@@ -61,6 +62,7 @@ lastRank t k p = let m = highest (λ m. eqb (parent t m) p) k in pick (eqb m 0) 
 pub record LinkedTo (t : List ℕ) (k : ℕ) (kin kids : List ℕ) : Type 0 where
   pub handed : Handed t (functions t) k kin
   pub named : (v : ℕ) → 1 ≤ v → v ≤ k → getD kin v 0 ≡ 0 → ⊥
+  pub owned : (v : ℕ) → 1 ≤ v → v ≤ k → 1 ≤ owner t v
   pub on : (v : ℕ) → 1 ≤ v → v ≤ k → T (forward t v (first t v)) × T (forward t v (next t v))
   pub size : length kids ≡ 513
   pub left : (p : ℕ) → IsNode t p → getD kids p 0 ≡ lastRank t k p
@@ -70,6 +72,7 @@ unfolding lastRank highest
 linked-none t kin kids h e = record {
   handed = h;
   named = λ v a b. absurd (omega arith);
+  owned = λ v a b. absurd (omega arith);
   on = λ v a b. absurd (omega arith);
   size = ap length e ∙ length-replicate {A = ℕ} 513 0;
   left = λ p i. ap (λ x. getD x p 0) e ∙ blank-at {A = ℕ} 513 p 0;
@@ -98,16 +101,33 @@ forward-by t n m b f = go (ℕ-discrete m 0)
     go (no z) = rw (ne-eqb m 0 z, lt-ltb n m (f z), le-leb m (nodes t) b) tt
 
 module _ (t kin kin′ kids : List ℕ) (fr : Framed t) (k : ℕ) (i : IsNode t (k + 1)) (h : LinkedTo t k kin kids)
-    (l : Links t (k + 1) kin kin′) (u r : ℕ) (eu : u ≡ parent t (k + 1)) (er : r ≡ rank t (k + 1)) where
-  pub linked-more : LinkedTo t (k + 1) kin′ (set kids u r)
-  linked-more = record {
+    (l : Links t (k + 1) kin kin′) where
+  -- it is part of a function, as what names it is
+  pub own-owned : 1 ≤ owner t (k + 1)
+  own-owned = go (ℕ-discrete (namer t (k + 1)) 0)
+    where
+      go : Dec (namer t (k + 1) ≡ 0) → 1 ≤ owner t (k + 1)
+      go (yes q) =
+          let z = root-some t (k + 1) k (i .0) (omega arith) (omega (arith, i .1)) (λ e. l .named (h .handed .told (k + 1) i ∙ e)) q in
+          omega (arith, owner-top t (k + 1) (i .0) q)
+      go (no q) =
+          let below = h .owned (namer t (k + 1)) (omega arith) (omega (arith, namer-lower t (k + 1) (i .0))) in
+          omega (arith, owner-down t (k + 1) (i .0) (namer t (k + 1)) (omega arith) refl)
+
+  pub linked-more : (u r : ℕ) → u ≡ parent t (k + 1) → r ≡ rank t (k + 1) → LinkedTo t (k + 1) kin′ (set kids u r)
+  linked-more u r eu er = record {
     handed = handed-link t kin kin′ fr k i (h .handed) (h .named) l;
     named = still-named t kin kin′ fr k i (h .handed) (h .named) l;
+    owned = λ v a b. part v a b (ℕ-discrete v (k + 1));
     on = λ v a b. ahead v a b (ℕ-discrete v (k + 1));
     size = length-set kids u r ∙ h .size;
     left = λ p j. put p j (ℕ-discrete u p);
   }
     where
+      part : (v : ℕ) → 1 ≤ v → v ≤ k + 1 → Dec (v ≡ k + 1) → 1 ≤ owner t v
+      part v a b (yes e) = rw e own-owned
+      part v a b (no e) = h .owned v a (omega arith)
+
       ahead : (v : ℕ) → 1 ≤ v → v ≤ k + 1 → Dec (v ≡ k + 1) → T (forward t v (first t v)) × T (forward t v (next t v))
       ahead v a b (yes e) = rw e (
         forward-by t (k + 1) (first t (k + 1)) (l .first-in) (first-on t kin kin′ fr k i (h .handed) (h .named) l),
@@ -239,15 +259,11 @@ module _ (t kin kids : List ℕ) (h : LinkedTo t (nodes t) kin kids) (rf : Roots
         (λ z. h .named n (i .0) (i .1) (h .handed .told n i ∙ z));
   }
 
-  all-kids : Kids t (set kids 0 0)
-  all-kids = record {
-    size = length-set kids 0 0 ∙ h .size;
-    none = getD-set-same kids 0 0 0 (omega (arith, h .size));
-    each = λ n i. getD-set-other kids 0 n 0 0 (λ e. omega (arith, e, i .0)) ∙ h .left n i ∙ last-rank t linking n i;
-  }
+  all-kids : Kids t kids
+  all-kids = record { size = h .size; each = λ n i. h .left n i ∙ last-rank t linking n i }
 
 pub all-linked : (t kin kids : List ℕ) (k : ℕ) → k ≡ nodes t → LinkedTo t k kin kids → RootsFit t (functions t)
-    → Linked t × Kin t kin × Kids t (set kids 0 0)
+    → Linked t × Kin t kin × Kids t kids
 all-linked t kin kids k e h rf =
     let all = subst (λ n. LinkedTo t n kin kids) e h in
     (linking t kin kids all rf, all-kin t kin kids all rf, all-kids t kin kids all rf)

@@ -77,23 +77,25 @@ module _ (t : List ℕ) where
   zero-kin f e = ap (λ b. pick b 0 (f + 65536)) (eq-eqb f 0 e)
 
   -- once all lower nodes have handed on, a node has its kin
-  pub kin-here : (n k : ℕ) → 1 ≤ n → n ≤ k + 1 → k ≤ nodes t → (kinTo t (functions t) k n ≡ 0 → ⊥) → kinTo t (functions t) k n ≡ kinOf t n
-  unfolding kinTo rootOf
-  kin-here n k i e b z = go (ℕ-discrete (namer t n) 0)
-    where
-      by : kinTo t (functions t) k n ≡ pick (eqb (namer t n) 0) (rootKin (rootOf t n)) (handed t (namer t n) n)
-      by = ap (λ m. pick (eqb m 0) (rootKin (rootOf t n)) (handed t m n)) (namer-by n k e b)
+  module _ (n k : ℕ) (i : 1 ≤ n) (e : n ≤ k + 1) (b : k ≤ nodes t) (z : kinTo t (functions t) k n ≡ 0 → ⊥) where
+    by : kinTo t (functions t) k n ≡ pick (eqb (namer t n) 0) (rootKin (rootOf t n)) (handed t (namer t n) n)
+    unfolding kinTo rootOf
+    by = ap (λ m. pick (eqb m 0) (rootKin (rootOf t n)) (handed t m n)) (namer-by n k e b)
 
-      go : Dec (namer t n ≡ 0) → kinTo t (functions t) k n ≡ kinOf t n
-      go (no q) = by ∙ ap (λ b. pick b (rootKin (rootOf t n)) (handed t (namer t n) n)) (ne-eqb (namer t n) 0 q)
-          ∙ sym (kin-down n (namer t n) i refl q)
-      go (yes q) = top ∙ sym (kin-top n i q some)
-        where
-          top : kinTo t (functions t) k n ≡ rootKin (rootOf t n)
-          top = by ∙ ap (λ b. pick b (rootKin (rootOf t n)) (handed t (namer t n) n)) (eq-eqb (namer t n) 0 q)
+    top : namer t n ≡ 0 → kinTo t (functions t) k n ≡ rootKin (rootOf t n)
+    top q = by ∙ ap (λ b. pick b (rootKin (rootOf t n)) (handed t (namer t n) n)) (eq-eqb (namer t n) 0 q)
 
-          some : rootOf t n ≡ 0 → ⊥
-          some e = z (top ∙ zero-kin (rootOf t n) e)
+    -- what nothing names but has its kin is a root
+    pub root-some : namer t n ≡ 0 → rootOf t n ≡ 0 → ⊥
+    root-some q e = z (top q ∙ zero-kin (rootOf t n) e)
+
+    pub kin-here : kinTo t (functions t) k n ≡ kinOf t n
+    kin-here = go (ℕ-discrete (namer t n) 0)
+      where
+        go : Dec (namer t n ≡ 0) → kinTo t (functions t) k n ≡ kinOf t n
+        go (no q) = by ∙ ap (λ b. pick b (rootKin (rootOf t n)) (handed t (namer t n) n)) (ne-eqb (namer t n) 0 q)
+            ∙ sym (kin-down n (namer t n) i refl q)
+        go (yes q) = top q ∙ sym (kin-top n i q (root-some q))
 
   -- function and rank are small
   owner-small : (k n : ℕ) → n ≤ k → 1 ≤ n → owner t n ≤ functions t

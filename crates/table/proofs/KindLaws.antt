@@ -1,13 +1,14 @@
 -- the fields that a kind allows, arm by arm
 use Prim.Native.Nat.{ℕ, _≤_, _<_}
-use mathlib.Core.Bool.{false, _&&_}
-use mathlib.Core.Path.{_≡_}
+use mathlib.Core.Bool.{true, false, _&&_}
+use mathlib.Core.Path.{_≡_, sym, _∙_}
 use mathlib.Core.Logic.{_⊎_, inl, inr}
 use native.Mathlib.Omega.{arith}
-use native.Mathlib.Decide.{ℕ-discrete}
+use native.Mathlib.Decide.{ℕ-discrete, decLe}
 use lib.Dec.{eqb, leb}
 use borrow.Author.Tests.{ne-eqb}
 use Rattle.table.specs.Check.{fields}
+use Rattle.table.proofs.Tests.{never}
 
 module _ (k e w c : ℕ) where
   pub leaf : (k ≡ 1) ⊎ (k ≡ 7) → fields k e w c ≡ (eqb e 0 && eqb c 0)
@@ -50,6 +51,13 @@ module _ (k e w c : ℕ) where
       other : {j : ℕ} → k ≡ j → (k < 1) ⊎ (7 < k) → (1 ≤ j) × (j ≤ 7) → ⊥
       other p (inl l) r = omega (arith, r .0)
       other p (inr l) r = omega (arith, r .1)
+
+  pub kind-known : fields k e w c ≡ true → k ≤ 7
+  kind-known h = go (decLe k 7)
+    where
+      go : Dec (k ≤ 7) → k ≤ 7
+      go (yes q) = q
+      go (no q) = never (sym (unknown (inr (omega arith))) ∙ h)
 
   -- what the arms before leave
   pub past-four : 1 ≤ k → ((k ≡ 1) ⊎ (k ≡ 7) → ⊥) → (k ≡ 2 → ⊥) → (k ≡ 3 → ⊥) → (k ≡ 4 → ⊥) → 5 ≤ k

@@ -2,15 +2,14 @@
 use Prim.Native.Nat.{ℕ, zero, suc, _+_, _*_, _≤_}
 use mathlib.Core.Bool.{Bool, true, false}
 use mathlib.Core.Path.{_≡_, refl}
-use mathlib.Core.Logic.{inr}
 use mathlib.Core.List.{List}
 use native.Mathlib.Omega.{arith}
-use native.Mathlib.Decide.{decLe}
 use lib.Dec.{T, eqb, leb, eqb→eq, leb→le}
 use lib.ListN.{length}
 use Rattle.table.specs.Bytes.{functions, nodes, params, spare, root, kind, extra, word, first}
 use Rattle.table.specs.Working.{IsNode, IsFunction, Linked}
-use Rattle.table.proofs.KindLaws.{unknown}
+use Rattle.table.proofs.KindLaws.{kind-known}
+use Rattle.table.proofs.Tests.{T-true}
 use Rattle.table.proofs.FindLaws.{both, lowest-passes, all-passes}
 use Rattle.table.specs.Check.{Verdict, accepted, refused, among, sizes, whole, rootFits, linked, recordFits, formed, calleeFits}
 use Rattle.table.specs.Check.{counted, scoped, tailed, stage, checkOf}
@@ -38,11 +37,7 @@ params-small t ok f i = leb→le (params t f) 8 (both (leb (params t f) 8) (eqb 
 
 pub kind-small : (t : List ℕ) → Passed t → (n : ℕ) → IsNode t n → kind t n ≤ 7
 unfolding formed
-kind-small t ok n i = go (decLe (kind t n) 7)
-  where
-    go : Dec (kind t n ≤ 7) → kind t n ≤ 7
-    go (yes h) = h
-    go (no h) = absurd (rw (unknown (kind t n) (extra t n) (word t n) (first t n) (inr (omega arith))) at (ok .forms n i))
+kind-small t ok n i = kind-known (kind t n) (extra t n) (word t n) (first t n) (T-true _ (ok .forms n i))
 
 -- one number passed
 refused-not : (k p F N : ℕ) → refused k p ≡ accepted F N → ⊥

@@ -17,7 +17,7 @@ use Rattle.table.specs.Working.{IsNode, Framed, Linked}
 use Rattle.table.specs.Sweep.{rank, around, tailReach, tailFrom, isLet, downOf, KindFits}
 use Rattle.table.proofs.CountLaws.{counts-by}
 use Rattle.table.proofs.FindLaws.{both, back-step}
-use Rattle.table.proofs.Tests.{true-T, and-no, and-yes}
+use Rattle.table.proofs.Tests.{and-no, and-yes}
 use Rattle.table.proofs.Links.{first-named}
 use Rattle.table.proofs.Family.{parent-lower, parent-top, parent-down, parent-node, tail-top, tail-down}
 use Rattle.table.proofs.Tree.{chain-none, chain-some}
@@ -59,19 +59,22 @@ module _ (t : List ℕ) where
 
   -- what is around a child, from what its parent handed down
   pub scope-told : (n o p e l : ℕ) → 1 ≤ n → o ≡ around t (parent t n) → p ≡ parent t n → e ≡ one (eqb (next t n) 0)
-      → l ≡ one (isLet t (parent t n)) → o + (p - o) * (e * l) ≡ around t n
+      → l ≡ one (isLet t (parent t n)) → o * (1 - e * l) + p * (e * l) ≡ around t n
   scope-told n o p e l i eo ep ee el = rw (ee, el) (go (ℕ-discrete (parent t n) 0))
     where
       most : o ≤ p
       most = omega (arith, eo, ep, around-most (parent t n))
 
-      by : (a b : Bool) → around t n ≡ pick (a && b) (parent t n) (around t (parent t n)) → o + (p - o) * (one b * one a) ≡ around t n
-      by true true q = omega (arith, q, ep, most)
+      by : (a b : Bool) → around t n ≡ pick (a && b) (parent t n) (around t (parent t n))
+          → o * (1 - one b * one a) + p * (one b * one a) ≡ around t n
+      by true true q = omega (arith, q, ep)
       by true false q = omega (arith, q, eo)
       by false true q = omega (arith, q, eo)
       by false false q = omega (arith, q, eo)
 
-      go : Dec (parent t n ≡ 0) → o + (p - o) * (one (eqb (next t n) 0) * one (isLet t (parent t n))) ≡ around t n
+      go : Dec (parent t n ≡ 0)
+          → o * (1 - one (eqb (next t n) 0) * one (isLet t (parent t n))) + p * (one (eqb (next t n) 0) * one (isLet t (parent t n)))
+          ≡ around t n
       go (yes z) = rw (eq-eqb (parent t n) 0 z) (by false (eqb (next t n) 0) (top (eqb (kind t (parent t n)) 6 && eqb (next t n) 0)
           (around-step n i)))
         where
@@ -190,7 +193,7 @@ module _ (t : List ℕ) (fr : Framed t) (lk : Linked t) (n : ℕ) (i : IsNode t 
           (lt-leb 1025 (rank t n + 0) (omega (arith, small)))
       go (no a) (no b) d = rw (ne-eqb (kind t p) 5 a, ne-eqb (kind t p) 6 b) (lt-leb 2048 reach (omega (arith, far)))
 
-  pub tail-told : ((p ≡ 0 → ⊥) → T (counted t p)) → one (leb (tailFrom t p) reach) ≡ one (tail t n)
+  pub tail-told : ((m : ℕ) → IsNode t m → T (counted t m)) → one (leb (tailFrom t p) reach) ≡ one (tail t n)
   unfolding tailFrom
   tail-told c = ap one (go (ℕ-discrete p 0))
     where
@@ -201,21 +204,16 @@ module _ (t : List ℕ) (fr : Framed t) (lk : Linked t) (n : ℕ) (i : IsNode t 
           ∙ by (tail t p) ∙ sym (tail-down t n (i .0) z)
         where
           by : (b : Bool) → leb (tailReach (kind t p) + pick b 0 2048) reach ≡ (tailChild t p n && b)
-          by true = ap (λ x. leb x reach) (omega arith) ∙ child-told z (c z) ∙ sym (and-yes (tailChild t p n))
+          by true = ap (λ x. leb x reach) (omega arith) ∙ child-told z (c p (parent-node t lk n i z)) ∙ sym (and-yes (tailChild t p n))
           by false = lt-leb _ reach (omega (arith, far)) ∙ sym (and-no (tailChild t p n))
 
 -- 7, from what was read of a node and of its callee
 pub counted-told : (t : List ℕ) (n k e w a j : ℕ) → k ≡ kind t n → e ≡ extra t n → w ≡ word t n → j ≡ length (children t n)
-    → (k ≡ 4 → a ≡ params t w) → within (countsOf k e a) j ≡ true → T (counted t n)
+    → (k ≡ 4 → a ≡ params t w) → within (countsOf k e a) j ≡ counted t n
 unfolding counted
-counted-told t n k e w a j ek ee ew ej ea h =
-    true-T (counted t n) (sym same ∙ h)
-  where
-    same : within (countsOf k e a) j ≡ counted t n
-    same = ap (λ c. within c j) (counts-by k e a (params t w) ea) ∙ rw (ek, ee, ew, ej)
+counted-told t n k e w a j ek ee ew ej ea = ap (λ c. within c j) (counts-by k e a (params t w) ea) ∙ rw (ek, ee, ew, ej)
 
 -- and the rest of 5 to 9
 pub fits-here : (t : List ℕ) (n k e w o p q : ℕ) → k ≡ kind t n → e ≡ extra t n → w ≡ word t n → o ≡ owner t n → p ≡ params t o
-    → q ≡ one (tail t n) → KindFits k e w o p q
-    → KindFits (kind t n) (extra t n) (word t n) (owner t n) (params t (owner t n)) (one (tail t n))
-fits-here t n k e w o p q ek ee ew eo ep eq f = rw (sym ek, sym ee, sym ew, sym eq, sym eo, sym ep) f
+    → KindFits k e w o p q → KindFits (kind t n) (extra t n) (word t n) (owner t n) (params t (owner t n)) q
+fits-here t n k e w o p q ek ee ew eo ep f = rw (sym ek, sym ee, sym ew, sym eo, sym ep) f

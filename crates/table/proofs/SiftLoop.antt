@@ -11,24 +11,25 @@ use borrow.Author.Tests.{eq-eqb, ne-eqb}
 use Rattle.table.specs.declared.sweep.Sifting.{Sifting}
 use Rattle.table.specs.Pick.{Range}
 use Rattle.table.specs.Find.{one}
-use Rattle.table.specs.Bytes.{nodes, kind}
-use Rattle.table.specs.Naming.{children}
-use Rattle.table.specs.Sweep.{Kids, downOf, NodeFits, boundFits, BoundsTo, Sifts, Sifted}
+use Rattle.table.specs.Bytes.{functions, nodes, kind}
+use Rattle.table.specs.Naming.{parent, tail}
+use Rattle.table.specs.Sweep.{RootsFit, downOf, Whole, NodeFits, boundFits, BoundsTo, Sifts, Sifted}
+use Rattle.table.proofs.Loops.{blank-at}
+use Rattle.table.proofs.Family.{parent-lower}
+use Rattle.table.proofs.HandEnd.{LinkedTo, all-linked}
 use Rattle.table.proofs.SiftLaws.{down-none}
 
--- after the nodes up to k: they have handed down, and the others still have the numbers of their children
+-- after the nodes up to k: what they hand down is at hand, if the table is whole
 pub record SiftedTo (t : List ℕ) (k : ℕ) (offspring bounds : List ℕ) (count : ℕ) : Type 0 where
   pub size : length offspring ≡ 513
-  pub handed : (n : ℕ) → n ≤ k → getD offspring n 0 ≡ downOf t n
-  pub left : (n : ℕ) → k < n → n ≤ nodes t → getD offspring n 0 ≡ length (children t n)
+  pub handed : Whole t → (n : ℕ) → n ≤ k → getD offspring n 0 ≡ downOf t n
   pub fits : (n : ℕ) → 1 ≤ n → n ≤ k → NodeFits t n
   pub bounded : BoundsTo t k bounds count
 
-pub sifted-none : (t offspring bounds : List ℕ) → Kids t offspring → bounds ≡ replicate 513 0 → SiftedTo t 0 offspring bounds 0
+pub sifted-none : (t offspring bounds : List ℕ) → offspring ≡ replicate 513 0 → bounds ≡ replicate 513 0 → SiftedTo t 0 offspring bounds 0
 sifted-none t offspring bounds h e = record {
-  size = h .size;
-  handed = λ n i. let z : n ≡ 0 = omega arith in rw z (h .none ∙ sym (down-none t));
-  left = λ n a b. h .each n (omega arith, b);
+  size = ap length h ∙ length-replicate {A = ℕ} 513 0;
+  handed = λ w n i. let z : n ≡ 0 = omega arith in rw z (ap (λ x. getD x 0 0) h ∙ blank-at {A = ℕ} 513 0 0 ∙ sym (down-none t));
   fits = λ n a b. absurd (omega arith);
   bounded = record {
     size = ap length e ∙ length-replicate {A = ℕ} 513 0;
@@ -86,28 +87,35 @@ module _ (t : List ℕ) (k : ℕ) (bounds : List ℕ) (count : ℕ) (h : BoundsT
           ∙ ap one (ne-eqb _ 7 q))) (bounds-without q)
 
 module _ (t : List ℕ) (k : ℕ) (offspring bounds : List ℕ) (count : ℕ) (h : SiftedTo t k offspring bounds count) (room : k < 512)
-    (r : Sifting) (s : Sifts t (k + 1) r) where
+    (x : ℕ) (up : x ≡ getD offspring (parent t (k + 1)) 0) (r : Sifting) (s : Sifts t (k + 1) x r) where
+  inherits : Whole t → (s .ending ≡ one (tail t (k + 1))) × (r .down ≡ downOf t (k + 1))
+  inherits w = s .heir w (up ∙ h .handed w (parent t (k + 1)) (omega (arith, parent-lower t (k + 1) (omega arith))))
+
   pub sifted-more : SiftedTo t (k + 1) (set offspring (k + 1) (r .down)) (set bounds count (k + 1)) (count + r .bound)
   sifted-more = record {
     size = length-set offspring (k + 1) _ ∙ h .size;
-    handed = λ n a. told n a (ℕ-discrete n (k + 1));
-    left = λ n a b. getD-set-other offspring (k + 1) n _ 0 (λ e. omega (arith, e, a)) ∙ h .left n (omega arith) b;
+    handed = λ w n a. told w n a (ℕ-discrete n (k + 1));
     fits = λ n a b. each n a b (ℕ-discrete n (k + 1));
     bounded = bounds-more t k bounds count (h .bounded) room _ (s .bound);
   }
     where
-      told : (n : ℕ) → n ≤ k + 1 → Dec (n ≡ k + 1) → getD (set offspring (k + 1) (r .down)) n 0 ≡ downOf t n
-      told n a (yes q) = rw q (getD-set-same offspring (k + 1) (r .down) 0 (omega (arith, h .size)) ∙ s .down)
-      told n a (no q) = getD-set-other offspring (k + 1) n (r .down) 0 q ∙ h .handed n (omega arith)
+      told : Whole t → (n : ℕ) → n ≤ k + 1 → Dec (n ≡ k + 1) → getD (set offspring (k + 1) (r .down)) n 0 ≡ downOf t n
+      told w n a (yes q) = rw q (getD-set-same offspring (k + 1) (r .down) 0 (omega (arith, h .size)) ∙ inherits w .1)
+      told w n a (no q) = getD-set-other offspring (k + 1) n (r .down) 0 q ∙ h .handed w n (omega arith)
 
       each : (n : ℕ) → 1 ≤ n → n ≤ k + 1 → Dec (n ≡ k + 1) → NodeFits t n
-      each n a b (yes q) = rw q (s .fits)
+      each n a b (yes q) = rw q (record { ending = s .ending; fits = s .fits; tails = λ w. inherits w .0 })
       each n a b (no q) = h .fits n a (omega arith)
 
-pub sifted-all : (t : List ℕ) (k : ℕ) (offspring bounds : List ℕ) (count : ℕ) → k ≡ nodes t → SiftedTo t k offspring bounds count
-    → Sifted t offspring bounds count
-sifted-all t k offspring bounds count e h = record {
-  fits = λ n i. h .fits n (i .0) (omega (arith, i .1, e));
-  handed = record { told = λ n b. h .handed n (omega (arith, e)) };
-  bounded = subst (λ n. BoundsTo t n bounds count) e (h .bounded);
-}
+pub sifted-all : (t kin kids : List ℕ) (k : ℕ) (offspring bounds : List ℕ) (count : ℕ) → k ≡ nodes t → LinkedTo t k kin kids
+    → RootsFit t (functions t) → SiftedTo t k offspring bounds count → Sifted t kin kids offspring bounds count
+sifted-all t kin kids k offspring bounds count e l rf h =
+    let all = all-linked t kin kids k e l rf in
+    record {
+      links = all .0;
+      kindred = all .1;
+      children = all .2;
+      fits = λ n i. h .fits n (i .0) (omega (arith, i .1, e));
+      handed = λ w. record { told = λ n b. h .handed w n (omega (arith, e)) };
+      bounded = subst (λ n. BoundsTo t n bounds count) e (h .bounded);
+    }

@@ -1,7 +1,7 @@
 -- what the loops of the sweep found together: the check accepts the table
 use Prim.Native.Nat.{ℕ}
 use mathlib.Core.Bool.{Bool, true, false, _&&_, _||_, not}
-use mathlib.Core.Path.{_≡_, refl, ap, _∙_}
+use mathlib.Core.Path.{_≡_, refl, sym, ap, _∙_}
 use mathlib.Core.List.{List}
 use native.Mathlib.Omega.{arith}
 use native.Mathlib.Decide.{ℕ-discrete}
@@ -12,8 +12,8 @@ use Rattle.table.specs.Find.{one, lowest}
 use Rattle.table.specs.Bytes.{functions, nodes, params, kind, extra, word, first}
 use Rattle.table.specs.Naming.{owner, tail, inScope, children}
 use Rattle.table.specs.Check.{among, rootFits, linked, recordFits, fields, formed, calleeFits, countsOf, counted, scoped, tailed}
-use Rattle.table.specs.Working.{IsNode, Framed, Linked, Taken, checkNodes}
-use Rattle.table.specs.Sweep.{RootsFit, NodeFits, boundFits, BoundsFit}
+use Rattle.table.specs.Working.{IsNode, Framed, Taken, checkNodes}
+use Rattle.table.specs.Sweep.{RootsFit, Whole, NodeFits, boundFits, BoundsFit}
 use Rattle.table.proofs.Tests.{true-T, T-true}
 use Rattle.table.proofs.FindLaws.{both, pair, passes-lowest, passes-all}
 use Rattle.table.proofs.Passed.{goes-on}
@@ -31,7 +31,7 @@ leaf-or k e w c a b d h = go (ℕ-discrete k 1) (ℕ-discrete k 2) (ℕ-discrete
     go (no p) (no q) (yes r) = ap (fields k e w) (d r) ∙ h
     go (no p) (no q) (no r) = rw (ne-eqb k 1 p, ne-eqb k 2 q, ne-eqb k 7 r) (rw (ne-eqb k 1 p, ne-eqb k 2 q, ne-eqb k 7 r) at h)
 
-module _ (t : List ℕ) (fr : Framed t) (lk : Linked t) (rf : RootsFit t (functions t)) (fits : (n : ℕ) → IsNode t n → NodeFits t n)
+module _ (t : List ℕ) (fr : Framed t) (wh : Whole t) (rf : RootsFit t (functions t)) (fits : (n : ℕ) → IsNode t n → NodeFits t n)
     (bf : BoundsFit t) where
   -- no child where the kind allows none
   childless : (n : ℕ) (k : ℕ) → IsNode t n → kind t n ≡ k → countsOf k (extra t n) (params t (word t n)) .high ≡ 0 → first t n ≡ 0
@@ -39,9 +39,10 @@ module _ (t : List ℕ) (fr : Framed t) (lk : Linked t) (rf : RootsFit t (functi
   childless n k i e z =
       let c = countsOf (kind t n) (extra t n) (params t (word t n)) in
       let l = length (children t n) in
-      let h = both (leb (c .low) l) (leb l (c .high)) (fits n i .counts) .1 in
+      let h = both (leb (c .low) l) (leb l (c .high)) (wh .counts n i) .1 in
       let most = leb→le l (c .high) h in
-      no-more t lk (first t n) (first-or t lk n i) (omega (arith, most, ap (λ k. countsOf k (extra t n) (params t (word t n)) .high) e, z))
+      let same = ap (λ k. countsOf k (extra t n) (params t (word t n)) .high) e in
+      no-more t (wh .links) (first t n) (first-or t (wh .links) n i) (omega (arith, most, same, z))
 
   formed-all : (n : ℕ) → IsNode t n → T (formed t n)
   unfolding formed countsOf
@@ -77,7 +78,8 @@ module _ (t : List ℕ) (fr : Framed t) (lk : Linked t) (rf : RootsFit t (functi
 
       go : Dec (kind t n ≡ 4) → Dec (word t n ≡ owner t n) → T (not (eqb (kind t n) 4 && eqb (word t n) (owner t n)) || tail t n)
       go (yes e) (yes f) =
-          rw (eq-eqb (kind t n) 4 e, eq-eqb (word t n) (owner t n) f, yes-one (tail t n) (fits n i .fits .ends e f)) tt
+          let ends = sym (fits n i .tails wh) ∙ fits n i .fits .ends e f in
+          rw (eq-eqb (kind t n) 4 e, eq-eqb (word t n) (owner t n) f, yes-one (tail t n) ends) tt
       go (yes e) (no f) = rw (eq-eqb (kind t n) 4 e, ne-eqb (word t n) (owner t n) f) tt
       go (no e) f = rw (ne-eqb (kind t n) 4 e) tt
 
@@ -89,10 +91,10 @@ module _ (t : List ℕ) (fr : Framed t) (lk : Linked t) (rf : RootsFit t (functi
   swept-taken =
       nodes-checked t fr
       (T-true _ (passes-all (rootFits t) (functions t) (λ f a b. rf f a b .inside)))
-      (none-fails (linked t) (lk .links))
+      (none-fails (linked t) (wh .links .links))
       (T-true _ (passes-all (recordFits t) (functions t) (λ f a b. rf f a b .fits)))
       ∙ goes-on 5 true _ _ tt (none-fails (formed t) formed-all)
       ∙ goes-on 6 true _ _ tt (none-fails (calleeFits t) callees-all)
-      ∙ goes-on 7 true _ _ tt (none-fails (counted t) (λ n i. fits n i .counts))
+      ∙ goes-on 7 true _ _ tt (none-fails (counted t) (wh .counts))
       ∙ goes-on 8 true _ _ tt (none-fails (scoped t) scopes-all)
       ∙ goes-on 9 true _ _ tt (none-fails (tailed t) tails-all)

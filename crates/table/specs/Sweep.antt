@@ -77,10 +77,9 @@ pub record Kin (t kin : List ℕ) : Type 0 where
   pub size : length kin ≡ 513
   pub each : (n : ℕ) → IsNode t n → getD kin n 0 ≡ kinOf t n
 
-pub record Kids (t offspring : List ℕ) : Type 0 where
-  pub size : length offspring ≡ 513
-  pub none : getD offspring 0 0 ≡ 0
-  pub each : (n : ℕ) → IsNode t n → getD offspring n 0 ≡ length (children t n)
+pub record Kids (t kids : List ℕ) : Type 0 where
+  pub size : length kids ≡ 513
+  pub each : (n : ℕ) → IsNode t n → getD kids n 0 ≡ length (children t n)
 
 -- the innermost let whose body is or contains n, 0 if none
 unfoldable pub around : List ℕ → ℕ → ℕ
@@ -111,10 +110,16 @@ pub record KindFits (kind extra word owner params tail : ℕ) : Type 0 where
   pub param : kind ≡ 2 → extra < params
   pub small : extra < 16
 
--- 5 to 9 at a node, but for bounds
+-- 4 and 7 at all nodes; only of such a table is told what a node hands down
+pub record Whole (t : List ℕ) : Type 0 where
+  pub links : Linked t
+  pub counts : (n : ℕ) → IsNode t n → T (counted t n)
+
+-- 5, 6, 8 and 9 at a node, but for bounds; `ending` is whether it was taken to be in tail position
 pub record NodeFits (t : List ℕ) (n : ℕ) : Type 0 where
-  pub fits : KindFits (kind t n) (extra t n) (word t n) (owner t n) (params t (owner t n)) (one (tail t n))
-  pub counts : T (counted t n)
+  pub ending : ℕ
+  pub fits : KindFits (kind t n) (extra t n) (word t n) (owner t n) (params t (owner t n)) ending
+  pub tails : Whole t → ending ≡ one (tail t n)
 
 unfoldable pub boundFits : List ℕ → ℕ → Bool
 boundFits t n = not (eqb (kind t n) 7) || inScope t (word t n) n
@@ -141,31 +146,32 @@ pub record BoundsTo (t : List ℕ) (k : ℕ) (bounds : List ℕ) (count : ℕ) :
   pub nodes : (i : ℕ) → i < count → Range k (getD bounds i 0)
   pub all : ((i : ℕ) → i < count → T (boundFits t (getD bounds i 0))) → (n : ℕ) → 1 ≤ n → n ≤ k → T (boundFits t n)
 
--- node n, with its kin and the number of its children, and what its parent handed down
-pub record Siftable (t : List ℕ) (base n own kids inherited : ℕ) : Type 0 where
+-- node n, with its kin
+pub record Siftable (t : List ℕ) (base n own : ℕ) : Type 0 where
   pub place : At t base n
-  pub links : Linked t
   pub roots : RootsFit t (functions t)
   pub kin : own ≡ kinOf t n
-  pub children : kids ≡ length (children t n)
-  pub parent-counted : (parent t n ≡ 0 → ⊥) → T (counted t (parent t n))
-  pub handed : inherited ≡ downOf t (parent t n)
+  pub owned : 1 ≤ owner t n
 
--- what sifting a node tells: where it passed, what it hands down and whether it is a bound
-pub record Sifts (t : List ℕ) (n : ℕ) (r : Sifting) : Type 0 where
-  pub fits : NodeFits t n
-  pub down : r .down ≡ downOf t n
+-- what sifting a node tells: where it passed, whether it is a bound, and what it hands down if what its parent handed down is right
+pub record Sifts (t : List ℕ) (n inherited : ℕ) (r : Sifting) : Type 0 where
+  pub ending : ℕ
+  pub fits : KindFits (kind t n) (extra t n) (word t n) (owner t n) (params t (owner t n)) ending
+  pub heir : Whole t → inherited ≡ downOf t (parent t n) → (ending ≡ one (tail t n)) × (r .down ≡ downOf t n)
   pub bound : r .bound ≡ one (eqb (kind t n) 7)
 
--- all nodes sifted, and their bounds put aside
-pub record Sifted (t offspring bounds : List ℕ) (count : ℕ) : Type 0 where
+-- all nodes sifted, their kin handed on and their bounds put aside
+pub record Sifted (t kin kids offspring bounds : List ℕ) (count : ℕ) : Type 0 where
+  pub links : Linked t
+  pub kindred : Kin t kin
+  pub children : Kids t kids
   pub fits : (n : ℕ) → IsNode t n → NodeFits t n
-  pub handed : HandedDown t offspring
+  pub handed : Whole t → HandedDown t offspring
   pub bounded : BoundsTo t (nodes t) bounds count
 
-abbrev pub SiftedBy : (t offspring bounds : List ℕ) → Residue → Type 0
-SiftedBy t offspring bounds (Passed count) = Sifted t offspring bounds count
-SiftedBy t offspring bounds Failed = Unit {0}
+abbrev pub SiftedBy : (t kin kids offspring bounds : List ℕ) → Residue → Type 0
+SiftedBy t kin kids offspring bounds (Passed count) = Sifted t kin kids offspring bounds count
+SiftedBy t kin kids offspring bounds Failed = Unit {0}
 
 -- what a kind asks, as `fields` has it, and tells its children: 1 is yes; a parameter's extra and a call's word are asked for elsewhere
 abbrev pub ruleOf : (kind : ℕ) → Rule

@@ -84,15 +84,18 @@ fn passes(table: &[u8], kin: &mut [u32; 513]) -> bool
     if !linking::roots(table, kin) {
         return false;
     }
-    // Of each node's children: how many they are, and once it is sifted what they inherit.
+    let rules = kinds::rules();
+    let mut kids = [0u16; 513];
     let mut offspring = [0u32; 513];
-    if !linking::links(table, kin, &mut offspring) {
-        return false;
-    }
     let mut bounds = [0u16; 513];
-    let residue = sweep::sift(table, kin, &mut offspring, &mut bounds);
+    let residue = sweep::sift(table, &rules, kin, &mut kids, &mut offspring, &mut bounds);
     match residue {
-        Residue::Passed(count) => scope::all_fit(table, kin, &offspring, &bounds, count),
+        Residue::Passed(count) => {
+            if !sweep::all_counted(table, &rules, &kids) {
+                return false;
+            }
+            scope::all_fit(table, kin, &offspring, &bounds, count)
+        }
         Residue::Failed => false,
     }
 }

@@ -1,4 +1,4 @@
-// Who names each node, in one pass: a node's kin (its function, parent and rank in one number) is handed to it by the root or link that
+// Who names each node: a node's kin (its function, parent and rank in one number) is handed to it by the root or link that
 // names it, and nothing may be named twice. Place 0 takes what an absent link is handed, and is cleared.
 use crate::Function;
 use crate::Node;
@@ -9,8 +9,8 @@ ghost use mathlib.Core.Bool.{true};
 ghost use Prim.Native.Nat.{_+_, _*_, _/_, _%_, _<_};
 ghost use lib.ListN.{length, getD, replicate};
 ghost use Rattle.table.specs.Bytes.{functions, nodes};
-ghost use Rattle.table.specs.Working.{Framed, IsFunction, At, Linked};
-ghost use Rattle.table.specs.Sweep.{Handed, RootFits, RootsFit, Links, Kin, Kids};
+ghost use Rattle.table.specs.Working.{Framed, IsFunction, At};
+ghost use Rattle.table.specs.Sweep.{Handed, RootFits, RootsFit, Links};
 
 // The function and the parent that a node's kin holds.
 pub(crate) fn owner(own: u32) -> Function
@@ -72,7 +72,7 @@ pub(crate) fn roots(table: &[u8], kin: &mut [u32; 513]) -> bool
 }
 
 // Node n, which has its kin, hands on to its next and its first.
-fn hand_on(table: &[u8], base: usize, last: Node, n: Node, kin: &mut [u32; 513]) -> bool
+pub(crate) fn hand_on(table: &[u8], base: usize, last: Node, n: Node, kin: &mut [u32; 513]) -> bool
     requires { ⌜ At (now table) base (n .0) × (last .0 ≡ nodes (now table)) × (length (now kin) ≡ 513)
         × (getD (now kin) (n .0) 0 < 67108864) ⌝ }
     ensures { λ r. ⌜ (r ≡ true → Links (now (table .entry)) (n .0) (now (kin .entry)) (now (kin .exit))) ⌝ }
@@ -99,29 +99,5 @@ fn hand_on(table: &[u8], base: usize, last: Node, n: Node, kin: &mut [u32; 513])
     }
     kin[first.0 as usize] = own % 64 + 64 * (n.0 as u32) + 65536;
     kin[0] = 0;
-    true
-}
-
-// All nodes hand on. The last child of a node is the last to leave its rank among the numbers of children.
-pub(crate) fn links(table: &[u8], kin: &mut [u32; 513], offspring: &mut [u32; 513]) -> bool
-    requires { ⌜ Framed (now table) × Handed (now table) (functions (now table)) 0 (now kin)
-        × RootsFit (now table) (functions (now table)) × (now offspring ≡ replicate 513 0) ⌝ }
-    ensures { λ r. ⌜ (r ≡ true → Linked (now (table .entry)) × Kin (now (table .entry)) (now (kin .exit))
-        × Kids (now (table .entry)) (now (offspring .exit))) ⌝ }
-{
-    let base = frame::base(table);
-    let last = frame::last_node(table);
-    let end = last.0;
-    let mut n: u16 = 0;
-    while n < end {
-        n += 1;
-        let own = kin[n as usize];
-        if !hand_on(table, base, last, Node(n), kin) {
-            return false;
-        }
-        let up = parent(own);
-        offspring[up.0 as usize] = own / 65536;
-    }
-    offspring[0] = 0;
     true
 }

@@ -13,7 +13,7 @@ ghost use Rattle.table.specs.Find.{one};
 ghost use Rattle.table.specs.Bytes.{nodes, word};
 ghost use Rattle.table.specs.Naming.{inScope};
 ghost use Rattle.table.specs.Working.{IsNode, Framed, At, Linked};
-ghost use Rattle.table.specs.Sweep.{around, Kin, HandedDown, Encloses, Outward, Sifted, BoundsFit};
+ghost use Rattle.table.specs.Sweep.{around, Kin, HandedDown, Encloses, Outward, BoundsFit, BoundsTo};
 
 fn same(a: Node, b: Node) -> u16
     ensures { λ r. ⌜ (r ≡ one (eqb (a .0) (b .0))) × (r ≤ 1) ⌝ }
@@ -106,8 +106,8 @@ pub(crate) fn all_fit(
     bounds: &[u16; 513],
     count: usize,
 ) -> bool
-    requires { ⌜ Framed (now table) × Linked (now table) × Kin (now table) (now kin)
-        × Sifted (now table) (now offspring) (now bounds) count ⌝ }
+    requires { ⌜ Framed (now table) × Linked (now table) × Kin (now table) (now kin) × HandedDown (now table) (now offspring)
+        × BoundsTo (now table) (nodes (now table)) (now bounds) count ⌝ }
     ensures { λ r. ⌜ (r ≡ true → BoundsFit (now (table .entry))) ⌝ }
 {
     let base = frame::base(table);

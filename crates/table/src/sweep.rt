@@ -7,14 +7,16 @@ use crate::linking;
 use crate::records;
 ghost use mathlib.Core.Path.{_≡_};
 ghost use mathlib.Core.Bool.{true, false};
-ghost use Prim.Native.Nat.{_+_, _-_, _*_, _%_, _≤_, _<_};
-ghost use lib.Dec.{eqb, leb};
-ghost use lib.ListN.{replicate};
+ghost use Prim.Native.Nat.{ℕ, _+_, _-_, _*_, _%_, _≤_, _<_};
+ghost use lib.Dec.{T, eqb, leb};
+ghost use lib.ListN.{length, replicate};
 ghost use Rattle.table.specs.Find.{one};
 ghost use Rattle.table.specs.Bytes.{functions, params};
-ghost use Rattle.table.specs.Check.{countsOf, within};
-ghost use Rattle.table.specs.Working.{Framed, IsFunction, Linked};
-ghost use Rattle.table.specs.Sweep.{ruleAt, kindRules, operationRules, KindFits, Siftable, Sifts, SiftedBy, RootsFit, Kin, Kids};
+ghost use Rattle.table.specs.Naming.{children};
+ghost use Rattle.table.specs.Check.{countsOf, within, counted};
+ghost use Rattle.table.specs.Working.{IsNode, IsFunction, Framed, At};
+ghost use Rattle.table.specs.Sweep.{ruleAt, kindRules, operationRules, Handed, RootsFit, Kids, KindFits, NodeFits};
+ghost use Rattle.table.specs.Sweep.{Siftable, Sifts, SiftedBy};
 
 // A node sifted, in numbers that specs/Sweep names.
 pub struct Sifting {
@@ -131,27 +133,17 @@ pub(crate) fn let_in(down: u32) -> Node
 // The innermost let around a node: its parent, where it is that let's body (1), else what is around its parent (0). In 32 bits, as what
 // comes in and goes out is: so LLVM has no number to widen.
 fn innermost(outer: Node, up: Node, body: u32) -> Node
-    requires { ⌜ (outer .0 ≤ up .0) × (body ≤ 1) ⌝ }
-    ensures { λ r. ⌜ r .0 ≡ outer .0 + (up .0 - outer .0) * body ⌝ }
+    requires { ⌜ (outer .0 < 1024) × (up .0 < 1024) × (body ≤ 1) ⌝ }
+    ensures { λ r. ⌜ r .0 ≡ outer .0 * (1 - body) + up .0 * body ⌝ }
 {
-    let out = outer.0 as u32;
-    let inner = (out + ((up.0 as u32) - out) * body) as u16;
+    let inner = ((outer.0 as u32) * (1 - body) + (up.0 as u32) * body) as u16;
     Node(inner)
 }
 
-// Node n, with its kin and the number of its children, and what its parent handed down.
-fn node(
-    table: &[u8],
-    base: usize,
-    rules: &[u16; 64],
-    operations: &[u16; 16],
-    n: Node,
-    own: u32,
-    kids: u32,
-    inherited: u32,
-) -> Sifting
-    requires { ⌜ Siftable (now table) base (n .0) own kids inherited × (now rules ≡ kindRules 8) × (now operations ≡ operationRules 11) ⌝ }
-    ensures { λ r. ⌜ (r .passed ≡ true → Sifts (now (table .entry)) (n .0) r) ⌝ }
+// Node n, with its kin and what its parent handed down.
+fn node(table: &[u8], base: usize, rules: &[u16; 64], n: Node, own: u32, inherited: u32) -> Sifting
+    requires { ⌜ Siftable (now table) base (n .0) own × (now rules ≡ kindRules 8) ⌝ }
+    ensures { λ r. ⌜ (r .passed ≡ true → Sifts (now (table .entry)) (n .0) inherited r) ⌝ }
 {
     let kind = records::kind(table, base, n);
     if 7 < kind {
@@ -166,11 +158,6 @@ fn node(
     if !kind_fits(rules, kind, extra, word, owner, params, tail) {
         return failed();
     }
-    let call = rule(rules, kind, kinds::CALL);
-    let args = arguments(table, call as usize, word as usize);
-    if !counted(rules, operations, kind, extra, call, args, kids) {
-        return failed();
-    }
     let body = end * (inherited / 1024 % 2);
     let scope = innermost(let_in(inherited), linking::parent(own), body);
     let down = (scope.0 as u32) + 1024 * (rule(rules, kind, kinds::REACH) + 4096 - 4096 * tail);
@@ -181,44 +168,82 @@ fn node(
     }
 }
 
-// All nodes; bounds are put aside.
+// All nodes, each handing on its kin; bounds are put aside. The last child of a node is the last to leave its rank among the numbers of
+// children. Kin is handed on and nodes are sifted in one loop: each waits for what the node before it wrote, and so they wait at once.
 pub(crate) fn sift(
     table: &[u8],
-    kin: &[u32; 513],
+    rules: &[u16; 64],
+    kin: &mut [u32; 513],
+    kids: &mut [u16; 513],
     offspring: &mut [u32; 513],
     bounds: &mut [u16; 513],
 ) -> Residue
-    requires { ⌜ Framed (now table) × Linked (now table) × RootsFit (now table) (functions (now table)) × Kin (now table) (now kin)
-        × Kids (now table) (now offspring) × (now bounds ≡ replicate 513 0) ⌝ }
-    ensures { λ r. ⌜ SiftedBy (now (table .entry)) (now (offspring .exit)) (now (bounds .exit)) r ⌝ }
+    requires { ⌜ Framed (now table) × (now rules ≡ kindRules 8) × Handed (now table) (functions (now table)) 0 (now kin)
+        × RootsFit (now table) (functions (now table)) × (now kids ≡ replicate 513 0) × (now offspring ≡ replicate 513 0)
+        × (now bounds ≡ replicate 513 0) ⌝ }
+    ensures { λ r. ⌜ SiftedBy (now (table .entry)) (now (kin .exit)) (now (kids .exit)) (now (offspring .exit)) (now (bounds .exit)) r ⌝ }
 {
-    let rules = kinds::rules();
-    let operations = kinds::operations();
     let base = frame::base(table);
-    let end = frame::last_node(table).0;
+    let last = frame::last_node(table);
+    let end = last.0;
     let mut count: usize = 0;
     let mut n: u16 = 0;
     while n < end {
         n += 1;
         let at = n as usize;
         let own = kin[at];
+        if !linking::hand_on(table, base, last, Node(n), kin) {
+            return Residue::Failed;
+        }
         let up = linking::parent(own);
-        let r = node(
-            table,
-            base,
-            &rules,
-            &operations,
-            Node(n),
-            own,
-            offspring[at],
-            offspring[up.0 as usize],
-        );
+        let r = node(table, base, rules, Node(n), own, offspring[up.0 as usize]);
         if !r.passed {
             return Residue::Failed;
         }
+        kids[up.0 as usize] = (own / 65536) as u16;
         offspring[at] = r.down;
         bounds[count] = n;
         count += r.bound as usize;
     }
     Residue::Passed(count)
+}
+
+// 7 at node n, which has so many children.
+fn node_counted(
+    table: &[u8],
+    base: usize,
+    rules: &[u16; 64],
+    operations: &[u16; 16],
+    n: Node,
+    kids: u16,
+) -> bool
+    requires { ⌜ At (now table) base (n .0) × (now rules ≡ kindRules 8) × (now operations ≡ operationRules 11)
+        × RootsFit (now table) (functions (now table)) × NodeFits (now table) (n .0) × (kids ≡ length (children (now table) (n .0))) ⌝ }
+    ensures { λ r. ⌜ r ≡ counted (now (table .entry)) (n .0) ⌝ }
+{
+    let kind = records::kind(table, base, n);
+    let extra = records::extra(table, base, n) as u32;
+    let word = records::word(table, base, n) as usize;
+    let call = rule(rules, kind, kinds::CALL);
+    let args = arguments(table, call as usize, word);
+    counted(rules, operations, kind, extra, call, args, kids as u32)
+}
+
+// 7 at all nodes.
+pub(crate) fn all_counted(table: &[u8], rules: &[u16; 64], kids: &[u16; 513]) -> bool
+    requires { ⌜ Framed (now table) × (now rules ≡ kindRules 8) × RootsFit (now table) (functions (now table)) × Kids (now table) (now kids)
+        × ((n : ℕ) → IsNode (now table) n → NodeFits (now table) n) ⌝ }
+    ensures { λ r. ⌜ (r ≡ true → (n : ℕ) → IsNode (now (table .entry)) n → T (counted (now (table .entry)) n)) ⌝ }
+{
+    let operations = kinds::operations();
+    let base = frame::base(table);
+    let end = frame::last_node(table).0;
+    let mut n: u16 = 0;
+    while n < end {
+        n += 1;
+        if !node_counted(table, base, rules, &operations, Node(n), kids[n as usize]) {
+            return false;
+        }
+    }
+    true
 }

@@ -3,8 +3,7 @@ use borrow.Author.Needs.{needs}
 use borrow.Author.Tests.{not-false}
 use mathlib.Core.Path.{refl, subst}
 use Rattle.table.specs.Bytes.{functions}
-use Rattle.table.specs.Working.{Linked}
-use Rattle.table.specs.Sweep.{Handed, RootsFit, Kin, Kids, SiftedBy}
+use Rattle.table.specs.Sweep.{Handed, RootsFit, Whole, Sifted, SiftedBy}
 use Rattle.table.proofs.Tests.{never}
 use Rattle.table.proofs.SweepEnd.{swept-taken}
 use Rattle.table.proofs.passes.Statement.{statement}
@@ -24,26 +23,34 @@ rooted : (c : Rooted) → let t = start c .args .table .now in
     Handed t (functions t) 0 (roots c .roots .last .1 .0) × RootsFit t (functions t)
 rooted c = roots c .roots .ensures (not-false _ (c .if1 .left))
 
--- and all nodes
-abbrev Joined : Type 0
-Joined = tie.Else2
-
-abbrev before : Joined → Rooted
-before c = search
-
-abbrev links : Joined → tie.After-links
-links c = search
-
-joined : (c : Joined) → let t = start (before c) .args .table .now in
-    Linked t × Kin t (links c .links .last .1 .0) × Kids t (links c .links .last .1 .1 .0)
-joined c = links c .links .ensures (not-false _ (c .if2 .left))
-
--- and sifted
+-- and all nodes sifted
 abbrev Told : Type 0
 Told = tie.After-residue
 
-abbrev sifts : Told → tie.After-sift
-sifts c = search
+module _ (c : Told) where
+  abbrev first : Rooted
+  first = search
+
+  abbrev sifts : tie.After-sift
+  sifts = search
+
+  sifted : let left = sifts .sift .last .1 .1 in
+      Sifted (start first .args .table .now) (left .0) (left .1 .0) (left .1 .1 .0) (left .1 .1 .1 .0) (c .residue .given .0 .0)
+  sifted = subst (SiftedBy _ _ _ _ _) (c .residue .given .1) (sifts .sift .ensures)
+
+-- and counted
+abbrev Counted : Type 0
+Counted = tie.Else2
+
+module _ (c : Counted) where
+  abbrev told : Told
+  told = search
+
+  abbrev counts : tie.After-all-counted
+  counts = search
+
+  whole : Whole (start (first told) .args .table .now)
+  whole = record { links = sifted told .links; counts = counts .all-counted .ensures (not-false _ (c .if2 .left)) }
 
 roots-requires : tie.Need-roots-requires
 roots-requires c κs = search needs
@@ -51,45 +58,47 @@ roots-requires c κs = search needs
 returns : tie.Need-returns
 returns c = never
 
-links-requires : tie.Need-links-requires
-links-requires c κs =
-    let s : tie.Start = search in
-    let r : Rooted = search in
-    let h = rooted r in
-    (s .pre .0, h .0, h .1, refl)
-
-returns-2 : tie.Need-returns-2
-returns-2 c = never
+rules-requires : tie.Need-rules-requires
+rules-requires c κs = search needs
 
 sift-requires : tie.Need-sift-requires
 sift-requires c κs =
     let s : tie.Start = search in
-    let m : Joined = search in
-    let h = joined m in
-    let r = rooted (before m) in
-    (s .pre .0, h .0, r .1, h .1, h .2, refl)
+    let rules : tie.After-rules = search in
+    let h = rooted (search) in
+    (s .pre .0, rules .rules .ensures, h .0, h .1, refl, refl, refl)
 
 enum-known-residue : tie.Need-enum-known-residue
 enum-known-residue c = search needs
 
+all-counted-requires : tie.Need-all-counted-requires
+all-counted-requires c κs =
+    let s : tie.Start = search in
+    let rules : tie.After-rules = search in
+    let g : Told = search in
+    let d = sifted g in
+    (s .pre .0, rules .rules .ensures, rooted (first g) .1, d .children, d .fits)
+
+returns-2 : tie.Need-returns-2
+returns-2 c = never
+
 all-fit-requires : tie.Need-all-fit-requires
 all-fit-requires c κs =
-    let m : Joined = search in
-    let h = joined m in
-    let g : Told = search in
-    (start (before m) .pre .0, h .0, h .1, subst (SiftedBy _ _ _) (g .residue .given .1) (sifts g .sift .ensures))
+    let s : tie.Start = search in
+    let w : Counted = search in
+    let d = sifted (told w) in
+    (s .pre .0, d .links, d .kindred, d .handed (whole w), d .bounded)
 
 enum-told : tie.Need-enum-told
 enum-told c = search needs
 
 returns-3 : tie.Need-returns-3
 returns-3 c e =
-    let m : Joined = search in
-    let h = joined m in
-    let g : Told = search in
+    let s : tie.Start = search in
+    let w : Counted = search in
+    let d = sifted (told w) in
     let f : tie.After-all-fit = search in
-    let d = subst (SiftedBy _ _ _) (g .residue .given .1) (sifts g .sift .ensures) in
-    (swept-taken _ (start (before m) .pre .0) (h .0) (rooted (before m) .1) (d .fits) (f .all-fit .ensures e), h .1)
+    (swept-taken _ (s .pre .0) (whole w) (rooted (first (told w)) .1) (d .fits) (f .all-fit .ensures e), d .kindred)
 
 returns-4 : tie.Need-returns-4
 returns-4 c e = never e
@@ -100,10 +109,11 @@ passes-spec =
     (tie.spec
     roots-requires
     returns
-    links-requires
-    returns-2
+    rules-requires
     sift-requires
     enum-known-residue
+    all-counted-requires
+    returns-2
     all-fit-requires
     enum-told
     returns-3

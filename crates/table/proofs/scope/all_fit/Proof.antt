@@ -37,7 +37,7 @@ module _ (c : Turn) where
   l = search
 
   node : IsNode (s .args .table .now) (getD (s .args .bounds .now) (l .loop .i) 0)
-  node = s .pre .3 .bounded .nodes (l .loop .i) (c .loop-test .taken)
+  node = s .pre .4 .nodes (l .loop .i) (c .loop-test .taken)
 
 base-requires : tie.Need-base-requires Inv-loop μ-loop
 base-requires c κs = search needs
@@ -54,7 +54,7 @@ mul-t10 c = search needs
 element-copy-out-t13 : tie.Need-element-copy-out-t13 Inv-loop μ-loop
 element-copy-out-t13 c =
     let t : Turn = search in
-    omega (arith, t .loop-test .taken, s t .pre .3 .bounded .few, s t .pre .0 .N-high)
+    omega (arith, t .loop-test .taken, s t .pre .4 .few, s t .pre .0 .N-high)
 
 bound-fits-requires : tie.Need-bound-fits-requires Inv-loop μ-loop
 bound-fits-requires c κs =
@@ -66,7 +66,7 @@ bound-fits-requires c κs =
       last .last-node .ensures,
       s t .pre .1,
       s t .pre .2,
-      s t .pre .3 .handed,
+      s t .pre .3,
     )
 
 returns : tie.Need-returns Inv-loop μ-loop
@@ -94,7 +94,7 @@ returns-2 : tie.Need-returns-2 Inv-loop μ-loop
 returns-2 c e n i =
     let s : Start = search in
     let l : Head = search in
-    s .pre .3 .bounded .all (λ j h. l .loop .inv .1 j (omega (arith, c .loop-test .left))) n (i .0) (i .1)
+    s .pre .4 .all (λ j h. l .loop .inv .1 j (omega (arith, c .loop-test .left))) n (i .0) (i .1)
 
 pub all-fit-spec : {M : Type 1} → statement M
 all-fit-spec =

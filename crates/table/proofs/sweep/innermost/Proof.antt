@@ -6,11 +6,12 @@ use borrow.Author.Needs.{needs}
 use Rattle.table.proofs.sweep.innermost.Statement.{statement}
 use Rattle.table.proofs.sweep.innermost.Tie as tie
 
-more : (s : tie.Start) → let a = s .args in (a .up .0 - a .outer .0) * a .body ≤ a .up .0 - a .outer .0
-more s = flag-times _ _ (s .pre .1)
+module _ (s : tie.Start) where
+  outer : s .args .outer .0 * (1 - s .args .body) ≤ s .args .outer .0
+  outer = flag-times _ _ (omega arith)
 
-cast-out : tie.Need-cast-out
-cast-out c = search needs
+  inner : s .args .up .0 * s .args .body ≤ s .args .up .0
+  inner = flag-times _ _ (s .pre .2)
 
 cast-inner : tie.Need-cast-inner
 cast-inner c = search needs
@@ -19,16 +20,23 @@ sub-inner : tie.Need-sub-inner
 sub-inner c = search needs
 
 mul-inner : tie.Need-mul-inner
-mul-inner c = record { fits = omega (arith, more (search)) }
-
-add-inner : tie.Need-add-inner
-add-inner c = record { fits = omega (arith, more (search)) }
+mul-inner c = record { fits = omega (arith, outer (search)) }
 
 cast-inner-2 : tie.Need-cast-inner-2
-cast-inner-2 c = omega (arith, more (search))
+cast-inner-2 c = search needs
+
+mul-inner-2 : tie.Need-mul-inner-2
+mul-inner-2 c = record { fits = omega (arith, inner (search)) }
+
+add-inner : tie.Need-add-inner
+add-inner c = record { fits = omega (arith, outer (search), inner (search)) }
+
+cast-inner-3 : tie.Need-cast-inner-3
+cast-inner-3 c = omega (arith, outer (search), inner (search))
 
 returns : tie.Need-returns
 returns c = search needs
 
 pub innermost-spec : {M : Type 1} → statement M
-innermost-spec = tie.close (tie.spec cast-out cast-inner sub-inner mul-inner add-inner cast-inner-2 returns)
+innermost-spec =
+    tie.close (tie.spec cast-inner sub-inner mul-inner cast-inner-2 mul-inner-2 add-inner cast-inner-3 returns)

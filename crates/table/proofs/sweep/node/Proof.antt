@@ -8,13 +8,12 @@ use Rattle.table.specs.Find.{one}
 use Rattle.table.specs.Bytes.{next}
 use Rattle.table.specs.Naming.{owner, parent, tail}
 use Rattle.table.specs.Working.{IsNode, IsFunction}
-use Rattle.table.specs.Sweep.{rank, around, isLet, KindFits, Siftable}
+use Rattle.table.specs.Sweep.{rank, around, downOf, Whole, Siftable}
 use Rattle.table.proofs.Tests.{never}
-use Rattle.table.proofs.Family.{owner-in, parent-lower}
+use Rattle.table.proofs.Family.{owner-few, parent-lower}
 use Rattle.table.proofs.HandEnd.{params-few}
-use Rattle.table.proofs.RuleLaws.{one-yes, one-most, flag-times, rule-small}
-use Rattle.table.proofs.SiftLaws.{around-most, scope-told, down-told, down-around, down-let, down-from}
-use Rattle.table.proofs.SiftLaws.{tail-told, counted-told, fits-here}
+use Rattle.table.proofs.RuleLaws.{one-most, flag-times, rule-small}
+use Rattle.table.proofs.SiftLaws.{scope-told, down-told, down-around, down-let, down-from, tail-told, fits-here}
 use Rattle.table.proofs.HandLaws.{kin-owner, kin-parent, kin-rank, rank-small}
 use borrow.Author.Needs.{needs}
 use Rattle.table.proofs.sweep.node.Statement.{statement}
@@ -46,7 +45,7 @@ module _ (c : Read) where
   abbrev nexts : tie.After-next
   nexts = search
 
-  abbrev node : Siftable (s .args .table .now) (s .args .base) (s .args .n .0) (s .args .own) (s .args .kids) (s .args .inherited)
+  abbrev node : Siftable (s .args .table .now) (s .args .base) (s .args .n .0) (s .args .own)
   node = s .pre .0
 
   is : IsNode (s .args .table .now) (s .args .n .0)
@@ -68,7 +67,7 @@ module _ (c : Read) where
   ranked = omega (arith, rank-small (s .args .table .now) (s .args .n .0) (s .args .n .0) (omega arith) (is .0), small)
 
   function : IsFunction (s .args .table .now) (owners .owner .result .0)
-  function = subst (IsFunction _) (sym owns) (owner-in _ (node .links) _ is)
+  function = subst (IsFunction _) (sym owns) (node .owned, owner-few _ _)
 
   end-told : c .ending .result ≡ one (eqb (next (s .args .table .now) (s .args .n .0)) 0)
   end-told = c .ending .ensures ∙ ap (λ m. one (eqb m 0)) (nexts .next .ensures)
@@ -83,11 +82,8 @@ module _ (c : Read) where
   up-small : parent (s .args .table .now) (s .args .n .0) ≤ 512
   up-small = omega (arith, parent-lower (s .args .table .now) (s .args .n .0) (is .0), small)
 
-  outer : s .args .inherited % 1024 ≡ around (s .args .table .now) (parent (s .args .table .now) (s .args .n .0))
-  outer = down-around _ _ up-small _ (node .handed)
-
-  lets : s .args .inherited / 1024 % 2 ≡ one (isLet (s .args .table .now) (parent (s .args .table .now) (s .args .n .0)))
-  lets = down-let _ _ up-small _ (node .handed)
+  abbrev Inherits : Type 0
+  Inherits = s .args .inherited ≡ downOf (s .args .table .now) (parent (s .args .table .now) (s .args .n .0))
 
   ends-let : c .ending .result * (s .args .inherited / 1024 % 2) ≤ 1
   ends-let = omega (arith, flag-times (c .ending .result) (s .args .inherited / 1024 % 2) (omega arith), end-most)
@@ -102,61 +98,28 @@ read c = search
 abbrev tails : Fitting → tie.After-tail-at
 tails c = search
 
-tail-known : (p : Fitting) → tails p .tail-at .result ≡ one (tail (s (read p) .args .table .now) (s (read p) .args .n .0))
-tail-known p =
+tail-known : (p : Fitting) → Whole (s (read p) .args .table .now) → Inherits (read p)
+    → tails p .tail-at .result ≡ one (tail (s (read p) .args .table .now) (s (read p) .args .n .0))
+tail-known p w e =
     let r = read p in
     tails p .tail-at .ensures
-    ∙ ap₂ (λ x y. one (leb x y)) (down-from _ _ (up-small r) _ (node r .handed)) (ap₂ (λ x y. x + 1024 * y) (ranks r) (end-told r))
-    ∙ tail-told _ (node r .place .framed) (node r .links) _ (is r) (node r .parent-counted)
+    ∙ ap₂ (λ x y. one (leb x y)) (down-from _ _ (up-small r) _ e) (ap₂ (λ x y. x + 1024 * y) (ranks r) (end-told r))
+    ∙ tail-told _ (node r .place .framed) (w .links) _ (is r) (w .counts)
 
 tail-most : (p : Fitting) → tails p .tail-at .result ≤ 1
-tail-most p = let r = read p in
-    omega (arith, tail-known p, one-most (tail (s r .args .table .now) (s r .args .n .0)))
+tail-most p = let r = read p in omega (
+  arith,
+  tails p .tail-at .ensures,
+  one-most (leb (s r .args .inherited / 2048) (s r .args .own / 65536 + 1024 * r .ending .result)),
+)
 
 params-told : (p : Fitting) → p .params .result ≤ 8
 params-told p = let r = read p in omega (arith, p .params .ensures, params-few _ (node r .roots) _ (function r))
 
--- and that it is a call or none
-abbrev Called : Type 0
-Called = tie.After-rule
-
-abbrev fitting : Called → Fitting
-fitting c = search
-
-abbrev fitted : Called → tie.After-kind-fits
-fitted c = search
-
-abbrev passed : Called → tie.Else2
-passed c = search
-
-fits : (k : Called) → let p = fitting k in let r = read p in
-    KindFits (of r .kind .result) (extras r .extra .result) (words r .word .result) (owners r .owner .result .0) (p .params .result)
-    (tails p .tail-at .result)
-fits k = fitted k .kind-fits .ensures (not-false _ (passed k .if2 .left))
-
-call-most : (k : Called) → k .rule .result ≤ 1
-call-most k = omega (arith, k .rule .ensures, one-most (eqb (of (read (fitting k)) .kind .result) 4))
-
-callee : (k : Called) → k .rule .result ≡ 1
-    → IsFunction (s (read (fitting k)) .args .table .now) (words (read (fitting k)) .word .result)
-callee k e =
-    let i = fits k .callee (one-yes _ 4 (sym (k .rule .ensures) ∙ e)) in
-    (i .0, omega (arith, i .1, function (read (fitting k)) .1))
-
--- the places before, from what is handed down
-abbrev called : tie.After-arguments → Called
-called c = search
-
-abbrev argued : tie.Else3 → tie.After-arguments
-argued c = search
-
-abbrev reading : tie.Else3 → Read
-reading c = read (fitting (called (argued c)))
-
--- what is around it
+-- what is around it, where it fits
 module _ (c : tie.After-innermost) where
-  abbrev counted : tie.Else3
-  counted = search
+  abbrev fitting : Fitting
+  fitting = search
 
   abbrev outers : tie.After-let-in
   outers = search
@@ -165,23 +128,33 @@ module _ (c : tie.After-innermost) where
   ups = search
 
   abbrev r : Read
-  r = reading counted
+  r = read fitting
 
-  around-told : c .innermost .result .0 ≡ around (s r .args .table .now) (s r .args .n .0)
-  around-told =
+  around-told : Inherits r → c .innermost .result .0 ≡ around (s r .args .table .now) (s r .args .n .0)
+  around-told e =
       c .innermost .ensures
-      ∙ scope-told _ _ _ _ _ _ (is r .0) (outers .let-in .ensures ∙ outer r) (ups .parent .ensures ∙ up r) (end-told r) (lets r)
+      ∙ scope-told _ _ _ _ _ _ (is r .0) (outers .let-in .ensures ∙ down-around _ _ (up-small r) _ e) (ups .parent .ensures ∙ up r)
+      (end-told r) (down-let _ _ (up-small r) _ e)
 
-  scope-small : c .innermost .result .0 ≤ 512
-  scope-small = omega (arith, around-told, around-most (s r .args .table .now) (s r .args .n .0), small r)
+  scope-small : c .innermost .result .0 < 2048
+  scope-small =
+      let b = r .ending .result * (s r .args .inherited / 1024 % 2) in
+      omega (
+        arith,
+        c .innermost .ensures,
+        outers .let-in .ensures,
+        ups .parent .ensures,
+        flag-times (outers .let-in .result .0) (1 - b) (omega arith),
+        flag-times (ups .parent .result .0) b (ends-let r),
+      )
 
-abbrev inner : tie.After-rule2 → tie.After-innermost
+abbrev inner : tie.After-rule → tie.After-innermost
 inner c = search
 
-abbrev fitted-at : tie.After-rule2 → Fitting
-fitted-at c = fitting (called (argued (counted (inner c))))
+abbrev fitted-at : tie.After-rule → Fitting
+fitted-at c = fitting (inner c)
 
-abbrev read-at : tie.After-rule2 → Read
+abbrev read-at : tie.After-rule → Read
 read-at c = r (inner c)
 
 kind-requires : tie.Need-kind-requires
@@ -248,41 +221,10 @@ returns-2 c e =
     let f : tie.After-failed2 = search in
     never (sym (f .failed2 .ensures) ∙ e)
 
-rule-requires : tie.Need-rule-requires
-rule-requires c κs = search needs
-
-cast-arguments : tie.Need-cast-arguments
-cast-arguments c = search needs
-
-arguments-requires : tie.Need-arguments-requires
-arguments-requires c κs =
-    let k : Called = search in
-    let r = read (fitting k) in
-    (node r .place .framed, call-most k, λ e. callee k e)
-
-counted-requires : tie.Need-counted-requires
-counted-requires c κs =
-    let a : tie.After-arguments = search in
-    let k : Called = search in
-    let r = read (fitting k) in (
-      s r .pre .1,
-      s r .pre .2,
-      kinds r,
-      fits k .small,
-      k .rule .ensures,
-      λ e. omega (arith, a .arguments .ensures e, params-few _ (node r .roots) _ (callee k e)),
-    )
-
-failed-requires-3 : tie.Need-failed-requires-3
-failed-requires-3 c κs = search needs
-
-returns-3 : tie.Need-returns-3
-returns-3 c e =
-    let f : tie.After-failed3 = search in
-    never (sym (f .failed3 .ensures) ∙ e)
-
 mul-body : tie.Need-mul-body
-mul-body c = record { fits = omega (arith, ends-let (reading c)) }
+mul-body c =
+    let p : Fitting = search in
+    record { fits = omega (arith, ends-let (read p)) }
 
 let-in-requires : tie.Need-let-in-requires
 let-in-requires c κs = search needs
@@ -294,24 +236,21 @@ innermost-requires : tie.Need-innermost-requires
 innermost-requires c κs =
     let out : tie.After-let-in = search in
     let up-at : tie.After-parent = search in
-    let r = reading (search) in
-    let t = s r .args .table .now in (
-      omega (arith, out .let-in .ensures, up-at .parent .ensures, outer r, up r, around-most t (parent t (s r .args .n .0))),
-      ends-let r,
-    )
+    let p : Fitting = search in
+    (omega (arith, out .let-in .ensures), omega (arith, up-at .parent .ensures), ends-let (read p))
 
 cast-down : tie.Need-cast-down
 cast-down c = search needs
 
-rule-requires-2 : tie.Need-rule-requires-2
-rule-requires-2 c κs =
+rule-requires : tie.Need-rule-requires
+rule-requires c κs =
     let k : tie.After-innermost = search in
     (s (r k) .pre .1, kinds (r k), omega arith)
 
 add-down : tie.Need-add-down
 add-down c =
     let r = read-at c in
-    record { fits = omega (arith, c .rule2 .ensures, rule-small (of r .kind .result) 3) }
+    record { fits = omega (arith, c .rule .ensures, rule-small (of r .kind .result) 3) }
 
 mul-down : tie.Need-mul-down
 mul-down c = record { fits = omega (arith, tail-most (fitted-at c)) }
@@ -322,39 +261,35 @@ sub-down c = omega (arith, tail-most (fitted-at c))
 mul-down-2 : tie.Need-mul-down-2
 mul-down-2 c =
     let r = read-at c in
-    record { fits = omega (arith, c .rule2 .ensures, rule-small (of r .kind .result) 3) }
+    record { fits = omega (arith, c .rule .ensures, rule-small (of r .kind .result) 3) }
 
 add-down-2 : tie.Need-add-down-2
 add-down-2 c =
     let r = read-at c in
-    record { fits = omega (arith, scope-small (inner c), c .rule2 .ensures, rule-small (of r .kind .result) 3) }
+    record { fits = omega (arith, scope-small (inner c), c .rule .ensures, rule-small (of r .kind .result) 3) }
 
-rule-requires-3 : tie.Need-rule-requires-3
-rule-requires-3 c κs = let r = read-at c in (s r .pre .1, kinds r, omega arith)
+rule-requires-2 : tie.Need-rule-requires-2
+rule-requires-2 c κs = let r = read-at c in (s r .pre .1, kinds r, omega arith)
 
-returns-4 : tie.Need-returns-4
-returns-4 c e =
-    let d : tie.After-rule2 = search in
+returns-3 : tie.Need-returns-3
+returns-3 c e =
+    let d : tie.After-rule = search in
+    let f : tie.After-kind-fits = search in
+    let g : tie.Else2 = search in
     let p = fitted-at d in
     let r = read p in
-    let m : tie.Else3 = search in
-    let n : tie.After-counted = search in
-    let a : tie.After-arguments = search in
-    let k = called a in
     let tail = tails p .tail-at .result in
     let scope = inner d .innermost .result .0 in
-    let kids = counted-told _ _ _ _ _ _ _ (of r .kind .ensures) (extras r .extra .ensures) (words r .word .ensures) (node r .children)
-    (λ e. a .arguments .ensures (k .rule .ensures ∙ ap (λ x. one (eqb x 4)) e))
-    (sym (n .counted .ensures) ∙ not-false _ (m .if3 .left)) in
     record {
-      fits = record {
-        fits = fits-here _ _ _ _ _ _ _ _ (of r .kind .ensures) (extras r .extra .ensures) (words r .word .ensures) (owns r)
-            (p .params .ensures) (tail-known p) (fits k);
-        counts = kids;
-      };
-      down = ap (λ x. scope + 1024 * (x + 4096 - 4096 * tail)) (d .rule2 .ensures)
-          ∙ down-told _ _ scope (of r .kind .result) tail (is r .0) (around-told (inner d)) (of r .kind .ensures) (tail-known p);
-      bound = c .rule3 .ensures ∙ ap (λ x. one (eqb x 7)) (of r .kind .ensures);
+      ending = tail;
+      fits = fits-here _ _ _ _ _ _ _ _ (of r .kind .ensures) (extras r .extra .ensures) (words r .word .ensures) (owns r)
+          (p .params .ensures) (f .kind-fits .ensures (not-false _ (g .if2 .left)));
+      heir = λ w e. (
+        tail-known p w e,
+        ap (λ x. scope + 1024 * (x + 4096 - 4096 * tail)) (d .rule .ensures)
+            ∙ down-told _ _ scope (of r .kind .result) tail (is r .0) (around-told (inner d) e) (of r .kind .ensures) (tail-known p w e),
+      );
+      bound = c .rule2 .ensures ∙ ap (λ x. one (eqb x 7)) (of r .kind .ensures);
     }
 
 pub node-spec : {M : Type 1} → statement M
@@ -379,22 +314,16 @@ node-spec =
     kind-fits-requires
     failed-requires-2
     returns-2
-    rule-requires
-    cast-arguments
-    arguments-requires
-    counted-requires
-    failed-requires-3
-    returns-3
     mul-body
     let-in-requires
     parent-requires
     innermost-requires
     cast-down
-    rule-requires-2
+    rule-requires
     add-down
     mul-down
     sub-down
     mul-down-2
     add-down-2
-    rule-requires-3
-    returns-4)
+    rule-requires-2
+    returns-3)

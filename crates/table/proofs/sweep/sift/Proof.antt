@@ -1,30 +1,32 @@
--- `sweep::sift` meets its contract: each turn sifts a node.
--- The invariant: the nodes up to n are sifted, and the others have the numbers of their children. The measure is the nodes left.
+-- `sweep::sift` meets its contract: each turn hands a node's kin on and sifts the node.
+-- The invariant: the nodes up to n handed on, left their ranks and are sifted. The measure is the nodes left.
 use native.Mathlib.Omega.{arith}
 use borrow.Author.Needs.{needs}
 use borrow.Author.Tests.{not-false}
 use Prim.Native.Nat.{ℕ, _+_, _-_, _/_, _%_, _≤_, _<_}
 use mathlib.Core.Path.{_≡_, ap, _∙_}
 use mathlib.Core.List.{List}
+use lib.Dec.{eqb}
 use lib.ListN.{getD}
 use Rattle.table.specs.Bytes.{nodes, kind}
 use Rattle.table.specs.Naming.{parent}
-use Rattle.table.specs.Working.{IsNode}
-use Rattle.table.specs.Sweep.{kinOf, downOf, Sifts}
-use lib.Dec.{eqb}
+use Rattle.table.specs.Working.{IsNode, At}
+use Rattle.table.specs.Sweep.{kinOf, Links, Sifts}
 use Rattle.table.proofs.RuleLaws.{one-most}
 use Rattle.table.proofs.Family.{parent-lower}
-use Rattle.table.proofs.HandLaws.{kin-parent}
+use Rattle.table.proofs.HandLaws.{kin-parent, kin-rank}
+use Rattle.table.proofs.HandSteps.{own-kin, own-small}
+use Rattle.table.proofs.HandEnd.{LinkedTo, linked-none, linked-more, own-owned}
 use Rattle.table.proofs.SiftLoop.{SiftedTo, sifted-none, sifted-more, sifted-all}
 use Rattle.table.proofs.sweep.sift.Statement.{statement}
 use Rattle.table.proofs.sweep.sift.Tie as tie
 
 abbrev Inv-loop : tie.InvT-loop
-Inv-loop table kin offspring₀ bounds₀ rules operations base end count₀ n₀ offspring bounds count n =
-    (n ≤ end) × (end ≡ nodes table) × SiftedTo table n offspring bounds count
+Inv-loop table rules kin₀ kids₀ offspring₀ bounds₀ base last end count₀ n₀ kin kids offspring bounds count n =
+    (n ≤ end) × (end ≡ nodes table) × LinkedTo table n kin kids × SiftedTo table n offspring bounds count
 
 abbrev μ-loop : tie.MeasureT-loop
-μ-loop table kin offspring₀ bounds₀ rules operations base end count₀ n₀ offspring bounds count n = end - n
+μ-loop table rules kin₀ kids₀ offspring₀ bounds₀ base last end count₀ n₀ kin kids offspring bounds count n = end - n
 
 abbrev Start : Type 0
 Start = tie.Start Inv-loop μ-loop
@@ -35,13 +37,16 @@ Head = tie.At-loop Inv-loop μ-loop
 abbrev Turn : Type 0
 Turn = tie.In-loop Inv-loop μ-loop
 
--- a turn: n + 1 is a node, and what its parent handed down is at hand
+-- a turn: n + 1 is a node
 module _ (c : Turn) where
   abbrev s : Start
   s = search
 
   abbrev l : Head
   l = search
+
+  abbrev based : tie.After-base Inv-loop μ-loop
+  based = search
 
   abbrev table : List ℕ
   table = s .args .table .now
@@ -52,42 +57,60 @@ module _ (c : Turn) where
   node : IsNode table n
   node = (omega arith, omega (arith, l .loop .inv .1, c .loop-test .taken))
 
+  place : At table (based .base .result) n
+  place = record { framed = s .pre .0; start = based .base .ensures; low = node .0; high = node .1 }
+
   abbrev own : ℕ
-  own = getD (s .args .kin .now) n 0
+  own = getD (l .loop .kin) n 0
 
-  kin : own ≡ kinOf table n
-  kin = s .pre .3 .each n node
+-- the node has handed on, so it has its kin
+abbrev Handing : Type 0
+Handing = tie.Else1 Inv-loop μ-loop
 
-  up : own / 64 % 1024 ≡ parent table n
-  up = kin-parent _ (s .pre .0) _ node _ kin
+module _ (c : Handing) where
+  abbrev turn : Turn
+  turn = search
 
-  above : own / 64 % 1024 < n
-  above = omega (arith, up, parent-lower table n (node .0))
+  abbrev handed : tie.After-hand-on Inv-loop μ-loop
+  handed = search
 
-  inside : own / 64 % 1024 < 513
-  inside = omega (arith, above, node .1, s .pre .0 .N-high)
+  links : Links (table turn) (n turn) (l turn .loop .kin) (handed .hand-on .last .1 .1 .1 .1 .0)
+  links = handed .hand-on .ensures (not-false _ (c .if1 .left))
 
--- the node has passed
+  kin : own turn ≡ kinOf (table turn) (n turn)
+  kin = let h = l turn .loop .inv .2 in own-kin _ _ _ (s turn .pre .0) _ (node turn) (h .handed) (h .named) links
+
+  up : own turn / 64 % 1024 ≡ parent (table turn) (n turn)
+  up = kin-parent _ (s turn .pre .0) _ (node turn) _ kin
+
+  inside : own turn / 64 % 1024 < 513
+  inside = omega (arith, up, parent-lower (table turn) (n turn) (node turn .0), node turn .1, s turn .pre .0 .N-high)
+
+-- and has passed
 abbrev Passing : Type 0
-Passing = tie.Else1 Inv-loop μ-loop
+Passing = tie.Else2 Inv-loop μ-loop
 
-abbrev turn : Passing → Turn
-turn c = search
+module _ (c : Passing) where
+  abbrev handing : Handing
+  handing = search
 
-abbrev told : Passing → tie.After-node Inv-loop μ-loop
-told c = search
+  abbrev told : tie.After-node Inv-loop μ-loop
+  told = search
 
-sifts : (c : Passing) → Sifts (table (turn c)) (n (turn c)) (told c .node .result)
-sifts c = told c .node .ensures (not-false _ (c .if1 .left))
+  abbrev ups : tie.After-parent Inv-loop μ-loop
+  ups = search
 
-bound-few : (c : Passing) → told c .node .result .bound ≤ 1
-bound-few c = omega (arith, sifts c .bound, one-most (eqb (kind (table (turn c)) (n (turn c))) 7))
+  abbrev t : Turn
+  t = turn handing
 
-rules-requires : tie.Need-rules-requires Inv-loop μ-loop
-rules-requires c κs = search needs
+  abbrev inherited : ℕ
+  inherited = getD (l t .loop .offspring) (ups .parent .result .0) 0
 
-operations-requires : tie.Need-operations-requires Inv-loop μ-loop
-operations-requires c κs = search needs
+  sifts : Sifts (table t) (n t) inherited (told .node .result)
+  sifts = told .node .ensures (not-false _ (c .if2 .left))
+
+  bound-few : told .node .result .bound ≤ 1
+  bound-few = omega (arith, sifts .bound, one-most (eqb (kind (table t) (n t)) 7))
 
 base-requires : tie.Need-base-requires Inv-loop μ-loop
 base-requires c κs = search needs
@@ -99,7 +122,7 @@ loop-holds : tie.Need-loop-holds Inv-loop μ-loop
 loop-holds c =
     let s : Start = search in
     let last : tie.After-last-node Inv-loop μ-loop = search in
-    (omega arith, last .last-node .ensures, sifted-none _ _ _ (s .pre .4) (s .pre .5))
+    (omega arith, last .last-node .ensures, linked-none _ _ _ (s .pre .2) (s .pre .4), sifted-none _ _ _ (s .pre .5) (s .pre .6))
 
 add-n : tie.Need-add-n Inv-loop μ-loop
 add-n c = search needs
@@ -113,53 +136,61 @@ mul-own c = search needs
 element-copy-out-own : tie.Need-element-copy-out-own Inv-loop μ-loop
 element-copy-out-own c = search needs
 
+hand-on-requires : tie.Need-hand-on-requires Inv-loop μ-loop
+hand-on-requires c κs =
+    let t : Turn = search in
+    let last : tie.After-last-node Inv-loop μ-loop = search in
+    let h = l t .loop .inv .2 .handed in
+    (place t, last .last-node .ensures, h .size, own-small _ _ (s t .pre .0) _ (node t) h)
+
+returns : tie.Need-returns Inv-loop μ-loop
+returns c = tt
+
 parent-requires : tie.Need-parent-requires Inv-loop μ-loop
 parent-requires c κs = search needs
+
+cast-node : tie.Need-cast-node Inv-loop μ-loop
+cast-node c = search needs
 
 mul-node : tie.Need-mul-node Inv-loop μ-loop
 mul-node c = search needs
 
 element-copy-out-node : tie.Need-element-copy-out-node Inv-loop μ-loop
-element-copy-out-node c = search needs
-
-cast-node : tie.Need-cast-node Inv-loop μ-loop
-cast-node c = search needs
-
-mul-node-2 : tie.Need-mul-node-2 Inv-loop μ-loop
-mul-node-2 c = search needs
-
-element-copy-out-node-2 : tie.Need-element-copy-out-node-2 Inv-loop μ-loop
-element-copy-out-node-2 c =
+element-copy-out-node c =
     let up : tie.After-parent Inv-loop μ-loop = search in
     omega (arith, up .parent .ensures, inside (search))
 
 node-requires : tie.Need-node-requires Inv-loop μ-loop
 node-requires c κs =
-    let t : Turn = search in
-    let read : tie.After-parent Inv-loop μ-loop = search in
-    let base : tie.After-base Inv-loop μ-loop = search in
-    let rules : tie.After-rules Inv-loop μ-loop = search in
-    let operations : tie.After-operations Inv-loop μ-loop = search in
-    let inv = l t .loop .inv .2 in (
+    let h : Handing = search in
+    let t = turn h in (
       record {
-        place = record { framed = s t .pre .0; start = base .base .ensures; low = node t .0; high = node t .1 };
-        links = s t .pre .1;
-        roots = s t .pre .2;
-        kin = kin t;
-        children = inv .left (n t) (omega arith) (node t .1);
-        parent-counted = λ z. inv .fits (parent (table t) (n t)) (omega arith) (omega (
-          arith,
-          parent-lower (table t) (n t)
-              (node t .0),
-        )) .counts;
-        handed = inv .handed _ (omega (arith, read .parent .ensures, above t)) ∙ ap (downOf (table t)) (read .parent .ensures ∙ up t);
+        place = place t;
+        roots = s t .pre .3;
+        kin = kin h;
+        owned = own-owned _ _ _ _ (s t .pre .0) _ (node t) (l t .loop .inv .2) (links h);
       },
-      rules .rules .ensures,
-      operations .operations .ensures,
+      s t .pre .1,
     )
 
-returns : tie.Need-returns Inv-loop μ-loop
-returns c = tt
+returns-2 : tie.Need-returns-2 Inv-loop μ-loop
+returns-2 c = tt
+
+cast-kids : tie.Need-cast-kids Inv-loop μ-loop
+cast-kids c =
+    let t : Turn = search in
+    record { fits = omega (arith, own-small _ _ (s t .pre .0) _ (node t) (l t .loop .inv .2 .handed)) }
+
+cast-kids-2 : tie.Need-cast-kids-2 Inv-loop μ-loop
+cast-kids-2 c = search needs
+
+mul-kids : tie.Need-mul-kids Inv-loop μ-loop
+mul-kids c = search needs
+
+element-write-kids : tie.Need-element-write-kids Inv-loop μ-loop
+element-write-kids c =
+    let up : tie.After-parent Inv-loop μ-loop = search in
+    omega (arith, up .parent .ensures, inside (search))
 
 mul-offspring : tie.Need-mul-offspring Inv-loop μ-loop
 mul-offspring c = search needs
@@ -173,16 +204,15 @@ mul-bounds c = search needs
 element-write-bounds : tie.Need-element-write-bounds Inv-loop μ-loop
 element-write-bounds c =
     let t : Turn = search in
-    omega (arith, l t .loop .inv .2 .bounded .few, node t .1, s t .pre .0 .N-high)
+    omega (arith, l t .loop .inv .3 .bounded .few, node t .1, s t .pre .0 .N-high)
 
 cast-count : tie.Need-cast-count Inv-loop μ-loop
 cast-count c = search needs
 
 add-count : tie.Need-add-count Inv-loop μ-loop
 add-count c =
-    let t : Turn = search in
     let p : Passing = search in
-    record { fits = omega (arith, l t .loop .inv .2 .bounded .few, node t .1, s t .pre .0 .N-high, bound-few p) }
+    record { fits = omega (arith, l (t p) .loop .inv .3 .bounded .few, node (t p) .1, s (t p) .pre .0 .N-high, bound-few p) }
 
 loop-less : tie.Need-loop-less Inv-loop μ-loop
 loop-less c = omega arith
@@ -190,19 +220,24 @@ loop-less c = omega arith
 loop-again : tie.Need-loop-again Inv-loop μ-loop
 loop-again c =
     let p : Passing = search in
-    let t = turn p in
-    let inv = l t .loop .inv in (
-      omega (arith, node t .1, inv .1),
+    let h = handing p in
+    let turned = t p in
+    let fr = s turned .pre .0 in
+    let inv = l turned .loop .inv in
+    let parents = ups p .parent .ensures ∙ up h in (
+      omega (arith, node turned .1, inv .1),
       inv .1,
-      sifted-more _ _ _ _ _ (inv .2) (omega (arith, node t .1, s t .pre .0 .N-high)) _
-          (sifts p),
+      linked-more _ _ _ _ fr _ (node turned) (inv .2) (links h) _ _ parents (kin-rank _ fr _ (node turned) _ (kin h)),
+      sifted-more _ _ _ _ _ (inv .3) (omega (arith, node turned .1, fr .N-high)) _
+          (ap (λ x. getD (l turned .loop .offspring) x 0) parents) _ (sifts p),
     )
 
-returns-2 : tie.Need-returns-2 Inv-loop μ-loop
-returns-2 c =
+returns-3 : tie.Need-returns-3 Inv-loop μ-loop
+returns-3 c =
+    let s : Start = search in
     let l : Head = search in
     let inv = l .loop .inv in
-    sifted-all _ _ _ _ _ (omega (arith, inv .0, inv .1, c .loop-test .left)) (inv .2)
+    sifted-all _ _ _ _ _ _ _ (omega (arith, inv .0, inv .1, c .loop-test .left)) (inv .2) (s .pre .3) (inv .3)
 
 pub sift-spec : {M : Type 1} → statement M
 sift-spec =
@@ -210,8 +245,6 @@ sift-spec =
     (tie.spec
     Inv-loop
     μ-loop
-    rules-requires
-    operations-requires
     base-requires
     last-node-requires
     loop-holds
@@ -219,14 +252,18 @@ sift-spec =
     cast-at
     mul-own
     element-copy-out-own
+    hand-on-requires
+    returns
     parent-requires
+    cast-node
     mul-node
     element-copy-out-node
-    cast-node
-    mul-node-2
-    element-copy-out-node-2
     node-requires
-    returns
+    returns-2
+    cast-kids
+    cast-kids-2
+    mul-kids
+    element-write-kids
     mul-offspring
     element-write-offspring
     mul-bounds
@@ -235,4 +272,4 @@ sift-spec =
     add-count
     loop-less
     loop-again
-    returns-2)
+    returns-3)
