@@ -111,7 +111,7 @@ fn shared(rows: &Rows, set: &Set, once: u32, twice: u32) -> Set
     union(rows, twice)
 }
 
-// Joins to set 0 a set's calls of the functions that are called twice.
+// Joins to set 0 a set's calls of the functions that are called twice. The set is read as a copy, which LLVM knows apart from the rows.
 pub(crate) fn meet(rows: &mut Rows, set: &Set, once: u32, twice: u32)
     requires { ⌜ (length (now rows) ≡ 520) × (length (now set) ≡ 8) ⌝ }
     ensures { λ _. ⌜ MetBy (now (set .entry)) once twice (now (rows .entry)) (now (rows .exit)) ⌝ }
@@ -122,10 +122,11 @@ pub(crate) fn meet(rows: &mut Rows, set: &Set, once: u32, twice: u32)
         }
     }
     let all = shared(rows, set, once, twice);
+    let own = *set;
     let mut i: usize = 0;
     while i < 8 {
         let x = rows[i];
-        let y = set[i];
+        let y = own[i];
         let z = all[i];
         rows[i] = x | (y & z);
         i += 1;

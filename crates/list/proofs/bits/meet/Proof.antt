@@ -12,11 +12,11 @@ use Rattle.list.proofs.bits.meet.Statement.{statement}
 use Rattle.list.proofs.bits.meet.Tie as tie
 
 abbrev Inv-loop : tie.InvT-loop
-Inv-loop rows₀ set once twice all i₀ rows i =
+Inv-loop rows₀ set once twice all own i₀ rows i =
     (i ≤ 8) × (length rows ≡ 520) × Upto (λ j. bitOr (getD rows₀ j 0) (bitAnd (getD set j 0) (getD all j 0))) rows₀ rows i
 
 abbrev μ-loop : tie.MeasureT-loop
-μ-loop rows₀ set once twice all i₀ rows i = 8 - i
+μ-loop rows₀ set once twice all own i₀ rows i = 8 - i
 
 returns : tie.Need-returns Inv-loop μ-loop
 returns c =
@@ -43,8 +43,8 @@ element-copy-out-x c = omega arith
 mul-y : tie.Need-mul-y Inv-loop μ-loop
 mul-y c = search needs
 
-element-copy-out-y : tie.Need-element-copy-out-y Inv-loop μ-loop
-element-copy-out-y c = omega arith
+array-read-y : tie.Need-array-read-y Inv-loop μ-loop
+array-read-y c = omega arith
 
 mul-z : tie.Need-mul-z Inv-loop μ-loop
 mul-z c = search needs
@@ -97,7 +97,7 @@ meet-spec =
     mul-x
     element-copy-out-x
     mul-y
-    element-copy-out-y
+    array-read-y
     mul-z
     array-read-z
     mul-rows
