@@ -19,9 +19,11 @@ pub(crate) fn all_see(parts: &Parts, above: &[Above], bounds: &[u16]) -> bool {
             return false;
         }
         let holder = above[definiens].holder();
-        let outer = |scope: usize| select(scope > holder, above[scope].scope(), scope);
+        let around = |node: usize| above[node].scope(next(parts.record(node)) == 0);
+        // Scope 0 is never above a holder, and has no record.
+        let outer = |scope: usize| select(scope > holder, around(scope.max(1)), scope);
         // Lets come before what is in them. Most are near, and how near is hard to foresee.
-        let mut scope = outer(outer(outer(above[bound].scope())));
+        let mut scope = outer(outer(outer(around(bound))));
         while scope > holder && steps > 0 {
             scope = outer(scope);
             steps -= 1;
