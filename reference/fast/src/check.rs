@@ -5,7 +5,7 @@ use std::hint::select_unpredictable as select;
 
 use numbers::{BOUND, CALL, IF, LET, MOST_FUNCTIONS, MOST_NODES, PARAMETER};
 
-use crate::rules::{arguments_of, room_of, rule, whole, Shape, BOUNDS_AT, NO_ROOM};
+use crate::rules::{rule, whole};
 use crate::scope::{all_see, Order};
 use crate::{first, half, next, refusal, word, Parts};
 
@@ -16,33 +16,42 @@ pub fn check(table: &[u8]) -> u32 {
 
 /// The same, and what was learnt of an accepted table on the way.
 pub(crate) fn survey(table: &[u8], survey: &mut Survey) -> u32 {
+    let parts = match framed(table) {
+        Ok(parts) => parts,
+        Err(refused) => return refused,
+    };
+    match survey.look(&parts) {
+        Some(false) => 0,
+        Some(true) => fault(&parts, survey),
+        None => links(&parts),
+    }
+}
+
+/// The parts of a table, or one of the refusals 1 to 3.
+pub(crate) fn framed(table: &[u8]) -> Result<Parts<'_>, u32> {
     if table.len() < 4 {
-        return refusal(1, 0);
+        return Err(refusal(1, 0));
     }
     let (functions, nodes) = (half(table, 0), half(table, 2));
     if !(1..=MOST_FUNCTIONS).contains(&functions) || !(1..=MOST_NODES).contains(&nodes) {
-        return refusal(2, 0);
+        return Err(refusal(2, 0));
     }
     if table.len() != 4 + 4 * functions + 10 * nodes {
-        return refusal(3, 0);
+        return Err(refusal(3, 0));
     }
-    let parts = Parts::of(table);
-    if survey.is_clean(&parts) {
-        return 0;
-    }
-    links(&parts).unwrap_or_else(|| fault(&parts, survey))
+    Ok(Parts::of(table))
 }
 
-/// Refusal 4, if it applies.
+/// Refusal 4, which applies.
 #[cold]
-fn links(parts: &Parts) -> Option<u32> {
+fn links(parts: &Parts) -> u32 {
     let nodes = parts.nodes();
     let mut named = [0u8; MOST_NODES + 1];
     let mut lowest = nodes + 1;
     for head in parts.heads {
         let root = half(head, 2);
         if root == 0 || root > nodes {
-            return Some(refusal(4, 0));
+            return refusal(4, 0);
         }
         named[root] = named[root].saturating_add(1);
         if next(parts.record(root)) != 0 {
@@ -63,84 +72,84 @@ fn links(parts: &Parts) -> Option<u32> {
         }
     }
     let miscounted = named[1..lowest].iter().position(|count| *count != 1);
-    let place = miscounted.map_or(lowest, |before| before + 1);
-    (place <= nodes).then(|| refusal(4, place as u32))
+    refusal(4, miscounted.map_or(lowest, |before| before + 1) as u32)
 }
 
 /// What a node has from its holder, zeros while nobody has named it. It goes from a node to its first child, and from a
-/// child to the next. From the lowest bit: the holder, 0 for a root (10 bits), the innermost let in whose body the
-/// holder is (10), whether the holder is a let (1), whether the last sibling is in tail position (1), three counts of
-/// siblings, each below the bit that it is for, and the function (6).
+/// child to the next.
 #[derive(Clone, Copy)]
-pub(crate) struct Above(u64);
+pub(crate) struct Above {
+    /// From the lowest bit: the function (6 bits), which of the siblings are in tail position (3), whether the holder is
+    /// a let (1), and two numbers that grow with each sibling (11 each): the first has its high bit once there are
+    /// enough, the second if there are too many.
+    place: u32,
+    /// The holder, 0 for a root, and, in the upper half, the innermost let in whose body the node is.
+    around: u32,
+}
 
-const HOLDER: u64 = 0x3ff;
-const SCOPE_AT: u32 = 10;
-const SCOPE: u64 = 0x3ff << SCOPE_AT;
-const IN_LET: u64 = 1 << 20;
-const TAIL_LAST: u64 = 1 << 21;
-/// In tail position wherever it is among its siblings; after more than 9 of them it says nothing.
-const TAIL: u64 = 1 << 26;
-/// One sibling before that.
-const TAIL_AFTER: u64 = TAIL - (1 << 22);
-const TOO_MANY: u64 = 1 << 46;
-const TOO_FEW: u64 = 1 << 57;
-const OWNER_AT: u32 = 58;
-const OWNER: u64 = 0x3f << OWNER_AT;
-/// One more sibling; the last count goes down.
-const ONE: u64 = (1u64 << 22 | 1 << 36).wrapping_sub(1 << 47);
+const OWNER: u32 = 0x3f;
+/// In tail position anyway, if it comes after this one, and if it is the last sibling.
+const TAIL: u32 = 1 << 6;
+const TAIL_AFTER: u32 = 1 << 7;
+const TAIL_LAST: u32 = 1 << 8;
+const IN_LET: u32 = 1 << 9;
+const ENOUGH: u32 = 1 << 20;
+const TOO_MANY: u32 = 1 << 31;
+/// One in both counts.
+const ONE: u32 = 1 << 21 | 1 << 10;
 
 impl Above {
-    const NONE: Above = Above(0);
+    const NONE: Above = Above { place: 0, around: 0 };
 
     const fn root(function: usize) -> Above {
-        Above((function as u64) << OWNER_AT | TAIL | Above::counts(1, 1))
+        Above { place: function as u32 | TAIL | ENOUGH, around: 0 }
     }
 
-    /// The counts before the first child, where there may be so many.
-    pub const fn counts(fewest: u64, most: u64) -> u64 {
-        (TOO_MANY - ((most + 1) << 36)) + (TOO_FEW + (fewest << 47) - (1 << 47))
-    }
-
-    /// What the first child has from a node's kind.
-    pub const fn below(kind: u8, fewest: u64, most: u64) -> u64 {
-        Above::counts(fewest, most) | if kind == LET { IN_LET } else { 0 }
-    }
-
-    /// What it has besides, if the node is in tail position.
-    pub const fn below_tail(kind: u8) -> u64 {
-        match kind {
+    /// The place of every first child of such a node in tail position, but for the function.
+    pub const fn below(kind: u8, fewest: u8, most: u8) -> u32 {
+        let kind = match kind {
             IF => TAIL_AFTER,
-            LET => TAIL_LAST,
+            LET => TAIL_LAST | IN_LET,
             _ => 0,
-        }
+        };
+        kind | (ENOUGH + (1 << 10) - ((fewest as u32) << 10)) | (TOO_MANY - ((most as u32) << 21))
+    }
+
+    fn next(self) -> Above {
+        Above { place: self.place.wrapping_add(ONE) | (self.place & TAIL_AFTER) >> 1, around: self.around }
+    }
+
+    /// The same with the let around it, if it is a let's body.
+    fn in_scope(self, is_last: bool) -> Above {
+        let inner = (self.around & 0xffff) * 0x1_0001;
+        Above { around: select(self.is_in_let() & is_last, inner, self.around), ..self }
     }
 
     fn in_tail(self, is_last: bool) -> bool {
-        self.0 & select(is_last, TAIL | TAIL_LAST, TAIL) != 0
+        self.place & select(is_last, TAIL | TAIL_LAST, TAIL) != 0
     }
 
-    /// The innermost let in whose body the node is, where its children have it.
-    fn inner(self, is_last: bool) -> u64 {
-        select(self.0 & select(is_last, IN_LET, 0) != 0, self.0 << SCOPE_AT, self.0) & SCOPE
+    /// Of a last sibling: not zero if it ends a wrong number of them.
+    fn miscounts(self) -> u32 {
+        (self.place ^ ENOUGH) & (ENOUGH | TOO_MANY)
     }
 
-    /// The same as a number, 0 for none.
-    pub fn scope(self, is_last: bool) -> usize {
-        (self.inner(is_last) >> SCOPE_AT) as usize
+    /// The innermost let in whose body the node is, 0 for none.
+    pub fn scope(self) -> usize {
+        (self.around >> 16) as usize
     }
 
     pub fn is_in_let(self) -> bool {
-        self.0 & IN_LET != 0
+        self.place & IN_LET != 0
     }
 
     pub fn owner(self) -> u8 {
-        (self.0 >> OWNER_AT) as u8
+        (self.place & OWNER) as u8
     }
 
     /// The holder, 0 for a root.
     pub fn holder(self) -> usize {
-        (self.0 & HOLDER) as usize
+        usize::from(self.around as u16)
     }
 }
 
@@ -154,57 +163,61 @@ impl Survey {
         Survey { above: [Above::NONE; MOST_NODES + 1] }
     }
 
-    /// Whether none of the refusals 4 to 9 applies. A name is a root, a first or a next. If every node was named before
-    /// it is looked at and the names come to the sum of all nodes, each is named once, and by a lower one.
-    fn is_clean(&mut self, parts: &Parts) -> bool {
-        let (nodes, above) = (parts.nodes(), &mut self.above);
-        let (mut arguments, mut room) = ([0; 64], [0; 64]);
-        // An unnamed node has function 0.
-        room[0] = NO_ROOM;
-        // The sum of the names, and above it the number of bounds.
-        let mut tally = 0;
-        for (head, function) in parts.heads.iter().zip(1..MOST_FUNCTIONS + 1) {
+    /// Whether one of the refusals 5 to 9 applies, or none where 4 does. A name is a root, a first or a next; they come
+    /// before the node that they name, and every node is named once if each is named and the names come to the sum of
+    /// all nodes.
+    fn look(&mut self, parts: &Parts) -> Option<bool> {
+        let nodes = parts.nodes();
+        let above = self.above.get_mut(..=nodes)?;
+        let mut parameters = [0; 256];
+        let (mut names, mut bad) = (0, 0);
+        for (index, head) in parts.heads.iter().enumerate() {
             let root = half(head, 2);
-            if root == 0 || root > nodes || next(parts.record(root)) != 0 || head[0] > 8 || head[1] != 0 {
-                return false;
+            if root == 0 || root > nodes || next(parts.record(root)) != 0 {
+                return None;
             }
-            arguments[function] = arguments_of(head[0]);
-            room[function] = room_of(function, head[0]);
-            above[root] = Above::root(function);
-            tally += root;
+            bad |= u64::from(head[0] > 8 || head[1] != 0);
+            parameters[index + 1] = head[0];
+            above[root] = Above::root(index + 1);
+            names += root;
         }
-        let (mut wrong, mut ends) = (0, 0);
-        let mut bounds = [0; MOST_NODES];
-        for node in 1..nodes.min(MOST_NODES) + 1 {
-            let record = parts.record(node);
-            let (whole, first, next) = (whole(record), first(record), next(record));
-            if first > MOST_NODES || next > MOST_NODES {
-                return false;
-            }
-            let is_last = next == 0;
-            let rule = rule(whole);
-            wrong |= whole & rule.zero;
-            bounds[(tally >> BOUNDS_AT) % MOST_NODES] = node as u16;
-            tally += first + next + rule.bounds as usize;
-            let asked = whole as u32 & rule.asked;
-            let below = rule.below.wrapping_add(arguments[(asked >> 16) as usize % 64]) | node as u64;
+        let (mut bounds, mut bound_count) = ([0; MOST_NODES], 0);
+        for (before, record) in parts.records.iter().enumerate() {
+            let node = before + 1;
+            let (whole, next) = (whole(record), next(record));
+            let (kind, extra, word, first) = (whole as u8, (whole >> 8) as u8, (whole >> 16) as u32, whole >> 48);
+            let (first, is_last) = (first as usize, next == 0);
             let named = above[node];
-            let in_tail = named.in_tail(is_last);
-            let tail = select(in_tail, rule.below_tail, 0);
-            // An absent link is written too: entry 0 has the counts with which siblings ended.
-            above[next] = Above(named.0.wrapping_add(ONE));
-            ends |= above[0].0;
-            // The next node may wait for this: what comes late goes in late, and mixed operators keep that order.
-            above[first] = Above((below + (named.0 & OWNER) ^ tail) | named.inner(is_last));
-            ends |= above[0].0;
-            // Out of tail position the own function is one too many.
-            let used = asked + (u32::from(!in_tail) << 16) + room[usize::from(named.owner())];
-            wrong |= u64::from(used & NO_ROOM);
+            if named.owner() == 0 || first.wrapping_sub(1) < node || next.wrapping_sub(1) < node {
+                return None;
+            }
+            names += first + next;
+            // Written for an absent link too: nobody asks for entry 0.
+            *above.get_mut(next)? = named.next();
+            let own = named.in_scope(is_last);
+            above[node].around = own.around;
+            let (owner, in_tail) = (own.owner(), own.in_tail(is_last));
+            let rule = rule(kind, extra);
+            let arguments = u32::from(select(kind == CALL, parameters[usize::from(word as u8)], 0));
+            let below = rule.below & select(in_tail, !0, !(TAIL_LAST | TAIL_AFTER));
+            *above.get_mut(first)? = Above {
+                place: below.wrapping_sub(arguments * ONE) | u32::from(owner),
+                around: own.around & 0xffff_0000 | node as u32,
+            };
+            // Only in tail position the own function may be called.
+            let callees = u32::from(owner) - u32::from(!in_tail);
+            bad |= whole & rule.zero
+                | u64::from(select(first == 0, rule.fewest | arguments, 0))
+                | u64::from((kind == CALL) & (word.wrapping_sub(1) >= callees))
+                | u64::from((kind == PARAMETER) & (extra >= parameters[usize::from(owner)]))
+                | u64::from(select(is_last, own.miscounts(), 0));
+            bounds[bound_count % MOST_NODES] = node as u16;
+            bound_count += usize::from(kind == BOUND);
         }
-        let (names, bound_count) = (tally % (1 << BOUNDS_AT), tally >> BOUNDS_AT);
-        (wrong | ends & (TOO_MANY | TOO_FEW)) == 0
-            && names == nodes * (nodes + 1) / 2
-            && all_see(parts, above, &bounds[..bound_count])
+        if names != nodes * (nodes + 1) / 2 {
+            return None;
+        }
+        Some(bad != 0 || !all_see(parts, above, &bounds[..bound_count]))
     }
 }
 
@@ -217,8 +230,7 @@ fn fault(parts: &Parts, known: &Survey) -> u32 {
     let order = Order::of(parts, &known.above);
     let number = |(record, node): (&[u8; 10], usize)| {
         let (kind, extra, word, above) = (record[0], record[1], word(record), known.above[node]);
-        let owner = u32::from(above.owner());
-        let Some(shape) = Shape::of(kind, extra) else { return 5 };
+        let (rule, owner) = (rule(kind, extra), u32::from(above.owner()));
         let mut children = 0;
         let mut child = first(record);
         while child != 0 {
@@ -227,17 +239,17 @@ fn fault(parts: &Parts, known: &Survey) -> u32 {
         }
         let range = match kind {
             CALL if (1..=owner).contains(&word) => {
-                let arguments = parts.parameters(word as usize) as u64;
+                let arguments = parts.parameters(word as usize) as u32;
                 arguments..=arguments
             }
-            _ => shape.fewest..=shape.most,
+            _ => rule.fewest..=rule.most,
         };
         let is_seen = match kind {
             PARAMETER => usize::from(extra) < parts.parameters(owner as usize),
             BOUND => order.sees(parts, &known.above, node),
             _ => true,
         };
-        if whole(record) & shape.zero != 0 {
+        if kind == 0 || whole(record) & rule.zero != 0 {
             5
         } else if kind == CALL && !(1..=owner).contains(&word) {
             6

@@ -1,5 +1,7 @@
 //! What is asked of a node that its kind and operation alone decide.
 
+use std::hint::select_unpredictable as select;
+
 use numbers::{BESIDE, DOUBLE, LOW_BIT};
 use numbers::{BOUND, CALL, CONSTANT, IF, LET, PARAMETER, PRIMITIVE};
 
@@ -7,24 +9,17 @@ use crate::check::Above;
 
 #[derive(Clone, Copy)]
 pub(crate) struct Rule {
-    /// Which bits of kind, extra, word and first have to be zero in a node that is not refused.
+    /// Which of the bytes of kind, extra, word and first have to be zero.
     pub zero: u64,
-    /// What its first child has from it. A call's arguments are added.
-    pub below: u64,
-    /// What it has besides, if this one is in tail position.
-    pub below_tail: u64,
-    /// Which bits of kind, extra and word ask for a parameter (the lowest 16) or a callee.
-    pub asked: u32,
-    /// One for a bound, at `BOUNDS_AT`.
-    pub bounds: u32,
+    /// The place of its first child.
+    pub below: u32,
+    /// Fewest and most children; a call has the number of its callee, which is looked at apart.
+    pub fewest: u32,
+    pub most: u32,
 }
 
-/// Above the sum of all names of nodes that a table can have.
-pub(crate) const BOUNDS_AT: u32 = 20;
-
-/// By the three low bits of kind and the five of extra. Where others are set, every rule refuses.
-pub(crate) fn rule(whole: u64) -> &'static Rule {
-    &RULES[((whole << 5 | whole) as usize & 0x1fe0) >> 5]
+pub(crate) fn rule(kind: u8, extra: u8) -> &'static Rule {
+    &RULES[usize::from(select(kind == PRIMITIVE, PRIMITIVES + u16::from(extra), kind.into()))]
 }
 
 /// The first eight bytes of a record: kind, extra, word and first.
@@ -32,75 +27,31 @@ pub(crate) fn whole(record: &[u8; 10]) -> u64 {
     u64::from_le_bytes(record[..8].try_into().expect("eight bytes"))
 }
 
-/// One of these bits comes up in the sum of what is asked and the room for it, if that is too much.
-pub(crate) const NO_ROOM: u32 = 1 << 14 | 1 << 23;
+/// Where the rules of primitives begin.
+pub(crate) const PRIMITIVES: u16 = 256;
 
-/// The room in a function: for parameters below its count, and for callees up to its own number.
-pub(crate) fn room_of(function: usize, parameters: u8) -> u32 {
-    // A parameter asks with its kind too, so that where there is no room for one there still is for nothing.
-    ((127 - function as u32) << 16) + ((64 - u32::from(parameters)) << 8) - u32::from(PARAMETER)
-}
-
-/// What the callee adds to `NO_CALLEE`.
-pub(crate) fn arguments_of(parameters: u8) -> u64 {
-    Above::counts(parameters.into(), parameters.into()).wrapping_sub(NO_CALLEE)
-}
-
-/// The counts below a call of nothing: more children than there can be.
-const NO_CALLEE: u64 = Above::counts(600, 0);
-
-/// Which bits of kind, extra, word and first have to be zero, and how many children a node may have. Those of a call
-/// are its callee's, and are looked at apart.
-#[derive(Clone, Copy)]
-pub(crate) struct Shape {
-    pub zero: u64,
-    pub fewest: u64,
-    pub most: u64,
-}
-
-impl Shape {
-    /// None if there is no such kind or operation.
-    pub const fn of(kind: u8, extra: u8) -> Option<Shape> {
-        const EXTRA: u64 = 0xff << 8;
-        const WORD: u64 = 0xffff_ffff << 16;
-        const FIRST: u64 = 0xffff << 48;
-        let (zero, fewest, most) = match (kind, extra) {
-            (CONSTANT, _) => (EXTRA | FIRST, 0, 0),
-            (PARAMETER, _) => (WORD | FIRST, 0, 0),
-            (PRIMITIVE, BESIDE) => (WORD, 1, 8),
-            (PRIMITIVE, DOUBLE..=LOW_BIT) => (WORD, 1, 1),
-            (PRIMITIVE, 0..BESIDE) => (WORD, 2, 2),
-            (CALL, _) => (EXTRA, 0, 0),
-            (IF, _) => (EXTRA | WORD, 3, 3),
-            (LET, _) => (EXTRA | WORD, 2, 9),
-            (BOUND, _) => (EXTRA | FIRST, 0, 0),
-            _ => return None,
-        };
-        Some(Shape { zero, fewest, most })
+/// By kind, and for primitives by operation. A kind or operation that doesn't exist is itself what isn't zero;
+/// kind 0 lacks a child.
+pub(crate) static RULES: [Rule; 512] = {
+    const EXTRA: u64 = 0xff << 8;
+    const WORD: u64 = 0xffff_ffff << 16;
+    const FIRST: u64 = 0xffff << 48;
+    const fn rule(kind: u8, zero: u64, fewest: u8, most: u8) -> Rule {
+        Rule { zero, below: Above::below(kind, fewest, most), fewest: fewest as u32, most: most as u32 }
     }
-}
-
-static RULES: [Rule; 256] = {
-    // The bits of extra and kind that no rule is found by.
-    const HIGH: u64 = 0xe0f8;
-    const INDEX: u32 = 0x1f07;
-    const CALLEE: u64 = 0x3f << 16;
-    const HIGH_CALLEE: u64 = (0xffff_ffff << 16) ^ CALLEE;
-    let mut rules = [Rule { zero: u64::MAX, below: NO_CALLEE, below_tail: 0, asked: 0, bounds: 0 }; 256];
-    let mut at = 0;
-    while at < 256 {
-        let (kind, extra) = (at as u8 % 8, at as u8 / 8);
-        if let Some(Shape { zero, fewest, most }) = Shape::of(kind, extra) {
-            let (below, below_tail) = (Above::below(kind, fewest, most), Above::below_tail(kind));
-            let rule = Rule { zero: zero | HIGH, below, below_tail, asked: 0, bounds: 0 };
-            rules[at] = match kind {
-                PARAMETER => Rule { asked: INDEX, ..rule },
-                CALL => Rule { zero: rule.zero | HIGH_CALLEE, below: NO_CALLEE, asked: CALLEE as u32, ..rule },
-                BOUND => Rule { bounds: 1 << BOUNDS_AT, ..rule },
-                _ => rule,
-            };
-        }
-        at += 1;
+    let mut rules = [rule(0, u64::MAX, 1, 1); 512];
+    rules[CONSTANT as usize] = rule(CONSTANT, EXTRA | FIRST, 0, 0);
+    rules[PARAMETER as usize] = rule(PARAMETER, WORD | FIRST, 0, 0);
+    rules[CALL as usize] = rule(CALL, EXTRA, 0, 0);
+    rules[IF as usize] = rule(IF, EXTRA | WORD, 3, 3);
+    rules[LET as usize] = rule(LET, EXTRA | WORD, 2, 9);
+    rules[BOUND as usize] = rule(BOUND, EXTRA | FIRST, 0, 0);
+    let mut operation = 0;
+    while operation < BESIDE {
+        let count = if operation >= DOUBLE && operation <= LOW_BIT { 1 } else { 2 };
+        rules[PRIMITIVES as usize + operation as usize] = rule(PRIMITIVE, WORD, count, count);
+        operation += 1;
     }
+    rules[PRIMITIVES as usize + BESIDE as usize] = rule(PRIMITIVE, WORD, 1, 8);
     rules
 };
