@@ -16,22 +16,30 @@ pub fn check(table: &[u8]) -> u32 {
 
 /// The same, and what was learnt of an accepted table on the way.
 pub(crate) fn survey(table: &[u8], survey: &mut Survey) -> u32 {
-    if table.len() < 4 {
-        return refusal(1, 0);
-    }
-    let (functions, nodes) = (half(table, 0), half(table, 2));
-    if !(1..=MOST_FUNCTIONS).contains(&functions) || !(1..=MOST_NODES).contains(&nodes) {
-        return refusal(2, 0);
-    }
-    if table.len() != 4 + 4 * functions + 10 * nodes {
-        return refusal(3, 0);
-    }
-    let parts = Parts::of(table);
+    let parts = match framed(table) {
+        Ok(parts) => parts,
+        Err(refused) => return refused,
+    };
     match survey.look(&parts) {
         Some(false) => 0,
         Some(true) => fault(&parts, survey),
         None => links(&parts),
     }
+}
+
+/// The parts of a table, or one of the refusals 1 to 3.
+pub(crate) fn framed(table: &[u8]) -> Result<Parts<'_>, u32> {
+    if table.len() < 4 {
+        return Err(refusal(1, 0));
+    }
+    let (functions, nodes) = (half(table, 0), half(table, 2));
+    if !(1..=MOST_FUNCTIONS).contains(&functions) || !(1..=MOST_NODES).contains(&nodes) {
+        return Err(refusal(2, 0));
+    }
+    if table.len() != 4 + 4 * functions + 10 * nodes {
+        return Err(refusal(3, 0));
+    }
+    Ok(Parts::of(table))
 }
 
 /// Refusal 4, which applies.

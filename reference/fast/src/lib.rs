@@ -3,6 +3,7 @@
 mod check;
 mod list;
 mod net;
+mod packed;
 mod rules;
 mod run;
 mod scope;
@@ -13,6 +14,7 @@ mod tags;
 
 pub use check::check;
 pub use list::list;
+pub use packed::check_packed;
 pub use run::{run, run_watched, Ending};
 pub use sets::list_by_sets;
 pub use state::{Lent, State};

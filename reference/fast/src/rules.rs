@@ -28,11 +28,11 @@ pub(crate) fn whole(record: &[u8; 10]) -> u64 {
 }
 
 /// Where the rules of primitives begin.
-const PRIMITIVES: u16 = 256;
+pub(crate) const PRIMITIVES: u16 = 256;
 
 /// By kind, and for primitives by operation. A kind or operation that doesn't exist is itself what isn't zero;
 /// kind 0 lacks a child.
-static RULES: [Rule; 512] = {
+pub(crate) static RULES: [Rule; 512] = {
     const EXTRA: u64 = 0xff << 8;
     const WORD: u64 = 0xffff_ffff << 16;
     const FIRST: u64 = 0xffff << 48;

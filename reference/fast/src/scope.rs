@@ -19,13 +19,7 @@ pub(crate) fn all_see(parts: &Parts, above: &[Above], bounds: &[u16]) -> bool {
             return false;
         }
         let holder = above[definiens].holder();
-        let outer = |scope: usize| select(scope > holder, above[scope].scope(), scope);
-        // Lets come before what is in them. Most are near, and how near is hard to foresee.
-        let mut scope = outer(outer(outer(above[bound].scope())));
-        while scope > holder && steps > 0 {
-            scope = outer(scope);
-            steps -= 1;
-        }
+        let scope = outwards(above[bound].scope(), holder, &mut steps, |scope| above[scope].scope());
         all &= match scope > holder {
             false => (scope == holder) & above[definiens].is_in_let() & (next(parts.record(definiens)) != 0),
             true => order.get_or_insert_with(|| Order::of(parts, above)).sees(parts, above, bound),
@@ -34,8 +28,20 @@ pub(crate) fn all_see(parts: &Parts, above: &[Above], bounds: &[u16]) -> bool {
     all
 }
 
+/// From a let to those around it, until one doesn't come after the holder or no steps are left.
+pub(crate) fn outwards(scope: usize, holder: usize, steps: &mut usize, around: impl Fn(usize) -> usize) -> usize {
+    let outer = |scope: usize| select(scope > holder, around(scope), scope);
+    // Lets come before what is in them. Most are near, and how near is hard to foresee.
+    let mut scope = outer(outer(outer(scope)));
+    while scope > holder && *steps > 0 {
+        scope = outer(scope);
+        *steps -= 1;
+    }
+    scope
+}
+
 /// A definiens comes before the body.
-fn is_before(definiens: usize, bound: usize) -> bool {
+pub(crate) fn is_before(definiens: usize, bound: usize) -> bool {
     definiens != 0 && definiens < bound
 }
 

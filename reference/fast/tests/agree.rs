@@ -13,21 +13,30 @@ use design::towers::{any_comb, any_deep, any_tower};
 use design::{check, Node, Tree};
 use fast::{run_watched, Ending, State};
 
+type Check = fn(&[u8]) -> u32;
+
+/// Both ways to check a table.
+const CHECKS: [Check; 2] = [fast::check, fast::check_packed];
+
 type List = fn(&[u8], &mut [u8; 64]) -> u32;
 
 /// Both ways to the arbiter list.
 const LISTS: [List; 2] = [fast::list, fast::list_by_sets];
+
+/// Both checks have to come to this.
+fn checks_say(bytes: &[u8], wanted: u32) {
+    assert_eq!(CHECKS.map(|check| check(bytes)), [wanted; 2], "{}", shown(bytes));
+}
 
 #[test]
 fn the_checks_agree() {
     let mut random = Random::new(11);
     for _ in 0..50000 {
         let bytes = damaged(&mut random);
-        assert_eq!(fast::check(&bytes), code(check(&bytes)), "{}", shown(&bytes));
+        checks_say(&bytes, code(check(&bytes)));
     }
     for _ in 0..4000 {
-        let bytes = accepted(&mut random);
-        assert_eq!(fast::check(&bytes), 0, "{}", shown(&bytes));
+        checks_say(&accepted(&mut random), 0);
     }
 }
 
@@ -52,7 +61,7 @@ fn checks_of_far_scopes_agree() {
     let mut refused = 0;
     for round in 0..400 {
         let mut bytes = far_scopes(random.within(1, 200));
-        assert_eq!(fast::check(&bytes), 0, "{}", shown(&bytes));
+        checks_say(&bytes, 0);
         // Some bounds of another definiens, or of what is none.
         for _ in 0..round % 3 {
             let nodes = (bytes.len() - 8) / 10;
@@ -62,7 +71,7 @@ fn checks_of_far_scopes_agree() {
             }
         }
         let wanted = code(check(&bytes));
-        assert_eq!(fast::check(&bytes), wanted, "{}", shown(&bytes));
+        checks_say(&bytes, wanted);
         refused += usize::from(wanted != 0);
     }
     assert!((20..380).contains(&refused), "{refused}");
@@ -81,6 +90,7 @@ fn the_lists_agree() {
             _ => accepted(&mut random),
         };
         let wanted = tags_of(&bytes).expect("an accepted table");
+        checks_say(&bytes, 0);
         for list in LISTS {
             let mut found = [0xff; 64];
             assert_eq!(list(&bytes, &mut found), 0);
@@ -114,6 +124,7 @@ fn the_two_lists_agree() {
             (list(&bytes, &mut tags), tags)
         });
         assert_eq!(sets, words, "{}", shown(&bytes));
+        checks_say(&bytes, sets.0);
         assert!(sets.0 == 0 || sets.1 == [7; 64], "a refusal changed the tags: {}", shown(&bytes));
         refused += usize::from(sets.0 != 0);
         listed += usize::from(sets.0 == 0 && sets.1.iter().any(|byte| *byte != 0));
