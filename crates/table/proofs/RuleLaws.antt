@@ -1,6 +1,6 @@
 -- the rules that the sweep looks up, by kind and by operation
 use Prim.Native.Nat.{ℕ, zero, suc, _+_, _-_, _*_, _/_, _%_, _≤_, _<_}
-use mathlib.Core.Bool.{Bool, true, false, _&&_, _||_}
+use mathlib.Core.Bool.{Bool, true, false, _||_}
 use mathlib.Core.Path.{_≡_, refl, subst, sym, ap, ap₂, _∙_}
 use mathlib.Core.List.{List}
 use native.Mathlib.Omega.{arith}
@@ -13,7 +13,7 @@ use Rattle.table.specs.declared.kinds.Counts.{Counts}
 use Rattle.table.specs.declared.kinds.Rule.{Rule}
 use Rattle.table.specs.Pick.{pick}
 use Rattle.table.specs.Find.{one, all}
-use Rattle.table.specs.Check.{between, among, fields, countsOf, operationCounts, within}
+use Rattle.table.specs.Check.{between, among, fields, countsOf, operationCounts}
 use Rattle.table.specs.Sweep.{ruleOf, ruleAt, packed, rulesPut, kindRules, operationRules, KindFits, tailReach}
 use Rattle.table.proofs.CellLaws.{by-eight}
 use Rattle.table.proofs.FindLaws.{all-passes}
@@ -148,10 +148,9 @@ fits-rules = by-eight Told
     none : (x : ℕ) → x ≤ 0 → eqb x 0 ≡ true
     none x h = eq-eqb x 0 (omega arith)
 
-pub fits-told : (k e w o p q a b c l : ℕ) → k < 8 → a ≡ ruleAt k 1 → b ≡ ruleAt k 0 → c ≡ ruleAt k 2 → l ≡ ruleAt k 6
-    → 1 ≤ o → p ≤ 8 → q ≤ 1 → e < p * a + b → c ≤ w → w ≤ (o + q - 1) * c + l * 4294967295 → KindFits k e w o p q
-fits-told k e w o p q a b c l i ea eb ec el j m n x y z =
-    fits-rules k i e w o p q j m n (rw (ea, eb) at x) (rw ec at y) (rw (ec, el) at z)
+pub fits-told : (k e w o p q a b c : ℕ) → k < 8 → a ≡ ruleAt k 1 → b ≡ ruleAt k 0 → c ≡ ruleAt k 2 → 1 ≤ o → p ≤ 8 → q ≤ 1
+    → e < p * a + b → c ≤ w → w ≤ (o + q - 1) * ruleAt k 2 + ruleAt k 6 * 4294967295 → KindFits k e w o p q
+fits-told k e w o p q a b c i ea eb ec j m n x y z = fits-rules k i e w o p q j m n (rw (ea, eb) at x) (rw ec at y) z
 
 -- so few children that two numbers of them are one
 abbrev pub Few : Counts → Type 0
@@ -220,18 +219,12 @@ counts-more k e p = go (ℕ-discrete k 4)
         let n : p * one (eqb k 4) ≡ 0 = rw (ne-eqb k 4 z) (omega arith) in
         (omega (arith, ap (λ c. c .low) s, n), omega (arith, ap (λ c. c .high) s, n))
 
--- 7 at a node, from what was looked up
-module _ (k e x : ℕ) (ex : x ≡ packed (countsOf k 11 0) + packed (operationCounts e) * one (eqb k 3)) where
-  pub count-few : x / 256 ≤ 9
-  count-few = omega (arith, ex ∙ counts-packed k e, counts-few k e)
-
-  pub count-told : (p c j : ℕ) → c ≡ one (eqb k 4)
-      → (leb (x % 256 + p * c) j && leb j (x / 256 + p * c)) ≡ within (countsOf k e p) j
-  count-told p c j ec =
-      let m = counts-more k e p in
-      let q = ex ∙ counts-packed k e in
-      let f = counts-few k e in
-      let low : x % 256 ≡ countsOf k e 0 .low = omega (arith, q, f) in
-      let high : x / 256 ≡ countsOf k e 0 .high = omega (arith, q, f) in
-      ap₂ (λ x y. leb x j && leb j y)
-      (ap₂ (λ x y. x + p * y) low ec ∙ sym (m .0)) (ap₂ (λ x y. x + p * y) high ec ∙ sym (m .1))
+-- how many children a node may have, from what was looked up
+pub wants-told : (k e p x c w : ℕ) → x ≡ packed (countsOf k 11 0) + packed (operationCounts e) * one (eqb k 3) → c ≡ one (eqb k 4)
+    → p * c ≤ 8 → w ≡ x + 257 * (p * c) → (w % 256 ≡ countsOf k e p .low) × (w / 256 ≡ countsOf k e p .high)
+wants-told k e p x c w ex ec l ew =
+    let m = counts-more k e p in
+    let q = ex ∙ counts-packed k e in
+    let f = counts-few k e in
+    let n = ap (λ y. p * y) ec in
+    (omega (arith, m .0, q, f, n, l, ew), omega (arith, m .1, q, f, n, l, ew))

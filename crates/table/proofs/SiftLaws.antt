@@ -12,9 +12,9 @@ use Rattle.table.specs.Pick.{pick}
 use Rattle.table.specs.Find.{one, back, backBy}
 use Rattle.table.specs.Bytes.{kind, extra, word, params, first, next}
 use Rattle.table.specs.Naming.{namer, owner, parent, tailChild, tail, chain, children}
-use Rattle.table.specs.Check.{countsOf, within, counted}
+use Rattle.table.specs.Check.{countsOf, counted}
 use Rattle.table.specs.Working.{IsNode, Framed, Linked}
-use Rattle.table.specs.Sweep.{rank, around, tailReach, tailFrom, isLet, downOf, KindFits}
+use Rattle.table.specs.Sweep.{rank, around, tailReach, tailFrom, isLet, downOf, KindFits, Wants}
 use Rattle.table.proofs.CountLaws.{counts-by}
 use Rattle.table.proofs.FindLaws.{both, back-step}
 use Rattle.table.proofs.Tests.{and-no, and-yes}
@@ -207,11 +207,20 @@ module _ (t : List ℕ) (fr : Framed t) (lk : Linked t) (n : ℕ) (i : IsNode t 
           by true = ap (λ x. leb x reach) (omega arith) ∙ child-told z (c p (parent-node t lk n i z)) ∙ sym (and-yes (tailChild t p n))
           by false = lt-leb _ reach (omega (arith, far)) ∙ sym (and-no (tailChild t p n))
 
--- 7, from what was read of a node and of its callee
-pub counted-told : (t : List ℕ) (n k e w a j : ℕ) → k ≡ kind t n → e ≡ extra t n → w ≡ word t n → j ≡ length (children t n)
-    → (k ≡ 4 → a ≡ params t w) → within (countsOf k e a) j ≡ counted t n
+-- how many children a node may have, from what was read of it and of its callee
+pub wants-here : (t : List ℕ) (n k e w a r : ℕ) → k ≡ kind t n → e ≡ extra t n → w ≡ word t n → (k ≡ 4 → a ≡ params t w)
+    → (r % 256 ≡ countsOf k e a .low) × (r / 256 ≡ countsOf k e a .high) → Wants t n r
+wants-here t n k e w a r ek ee ew ea h =
+    let same : countsOf k e a ≡ countsOf (kind t n) (extra t n) (params t (word t n)) = counts-by k e a (params t w) ea ∙ rw (ek, ee, ew) in
+    record { low = h .0 ∙ ap (λ c. c .low) same; high = h .1 ∙ ap (λ c. c .high) same }
+
+-- 7, from the number of its children
+pub counted-by : (t : List ℕ) (n w j : ℕ) → Wants t n w → j ≡ length (children t n) → w % 256 ≤ j → j ≤ w / 256 → T (counted t n)
 unfolding counted
-counted-told t n k e w a j ek ee ew ej ea = ap (λ c. within c j) (counts-by k e a (params t w) ea) ∙ rw (ek, ee, ew, ej)
+counted-by t n w j h e a b =
+    let c = countsOf (kind t n) (extra t n) (params t (word t n)) in
+    let l = length (children t n) in
+    rw (le-leb (c .low) l (omega (arith, h .low, e)), le-leb l (c .high) (omega (arith, h .high, e))) tt
 
 -- and the rest of 5 to 9
 pub fits-here : (t : List ℕ) (n k e w o p q : ℕ) → k ≡ kind t n → e ≡ extra t n → w ≡ word t n → o ≡ owner t n → p ≡ params t o

@@ -1,6 +1,6 @@
 -- what the parts of the sweep ask of each other, no part of what a reader must believe: in four loops the sweep tells that a table is
 -- accepted, and leaves what it does not pass to the check
-use Prim.Native.Nat.{ℕ, zero, suc, _+_, _*_, _%_, _≤_, _<_}
+use Prim.Native.Nat.{ℕ, zero, suc, _+_, _*_, _/_, _%_, _≤_, _<_}
 use mathlib.Core.Bool.{Bool, true, _&&_, _||_, not}
 use mathlib.Core.Path.{_≡_}
 use mathlib.Core.List.{List}
@@ -153,25 +153,37 @@ pub record Siftable (t : List ℕ) (base n own : ℕ) : Type 0 where
   pub kin : own ≡ kinOf t n
   pub owned : 1 ≤ owner t n
 
+-- how many children a node may have, in one number: the fewest, and 256 times the most
+pub record Wants (t : List ℕ) (n w : ℕ) : Type 0 where
+  pub low : w % 256 ≡ countsOf (kind t n) (extra t n) (params t (word t n)) .low
+  pub high : w / 256 ≡ countsOf (kind t n) (extra t n) (params t (word t n)) .high
+
+-- and an array of these up to node k
+pub record Wanted (t : List ℕ) (k : ℕ) (wanted : List ℕ) : Type 0 where
+  pub size : length wanted ≡ 513
+  pub each : (n : ℕ) → 1 ≤ n → n ≤ k → Wants t n (getD wanted n 0)
+
 -- what sifting a node tells: where it passed, whether it is a bound, and what it hands down if what its parent handed down is right
 pub record Sifts (t : List ℕ) (n inherited : ℕ) (r : Sifting) : Type 0 where
   pub ending : ℕ
   pub fits : KindFits (kind t n) (extra t n) (word t n) (owner t n) (params t (owner t n)) ending
   pub heir : Whole t → inherited ≡ downOf t (parent t n) → (ending ≡ one (tail t n)) × (r .down ≡ downOf t n)
   pub bound : r .bound ≡ one (eqb (kind t n) 7)
+  pub counts : Wants t n (r .wants)
 
 -- all nodes sifted, their kin handed on and their bounds put aside
-pub record Sifted (t kin kids offspring bounds : List ℕ) (count : ℕ) : Type 0 where
+pub record Sifted (t kin kids wanted offspring bounds : List ℕ) (count : ℕ) : Type 0 where
   pub links : Linked t
   pub kindred : Kin t kin
   pub children : Kids t kids
+  pub counts : Wanted t (nodes t) wanted
   pub fits : (n : ℕ) → IsNode t n → NodeFits t n
   pub handed : Whole t → HandedDown t offspring
   pub bounded : BoundsTo t (nodes t) bounds count
 
-abbrev pub SiftedBy : (t kin kids offspring bounds : List ℕ) → Residue → Type 0
-SiftedBy t kin kids offspring bounds (Passed count) = Sifted t kin kids offspring bounds count
-SiftedBy t kin kids offspring bounds Failed = Unit {0}
+abbrev pub SiftedBy : (t kin kids wanted offspring bounds : List ℕ) → Residue → Type 0
+SiftedBy t kin kids wanted offspring bounds (Passed count) = Sifted t kin kids wanted offspring bounds count
+SiftedBy t kin kids wanted offspring bounds Failed = Unit {0}
 
 -- what a kind asks, as `fields` has it, and tells its children: 1 is yes; a parameter's extra and a call's word are asked for elsewhere
 abbrev pub ruleOf : (kind : ℕ) → Rule

@@ -84,14 +84,21 @@ fn passes(table: &[u8], kin: &mut [u32; 513]) -> bool
     if !linking::roots(table, kin) {
         return false;
     }
-    let rules = kinds::rules();
     let mut kids = [0u16; 513];
+    let mut wanted = [0u16; 513];
     let mut offspring = [0u32; 513];
     let mut bounds = [0u16; 513];
-    let residue = sweep::sift(table, &rules, kin, &mut kids, &mut offspring, &mut bounds);
+    let residue = sweep::sift(
+        table,
+        kin,
+        &mut kids,
+        &mut wanted,
+        &mut offspring,
+        &mut bounds,
+    );
     match residue {
         Residue::Passed(count) => {
-            if !sweep::all_counted(table, &rules, &kids) {
+            if !sweep::all_counted(table, &kids, &wanted) {
                 return false;
             }
             scope::all_fit(table, kin, &offspring, &bounds, count)

@@ -7,15 +7,14 @@ use crate::linking;
 use crate::records;
 ghost use mathlib.Core.Path.{_≡_};
 ghost use mathlib.Core.Bool.{true, false};
-ghost use Prim.Native.Nat.{ℕ, _+_, _-_, _*_, _%_, _≤_, _<_};
+ghost use Prim.Native.Nat.{ℕ, _+_, _-_, _*_, _/_, _%_, _≤_, _<_};
 ghost use lib.Dec.{T, eqb, leb};
 ghost use lib.ListN.{length, replicate};
 ghost use Rattle.table.specs.Find.{one};
-ghost use Rattle.table.specs.Bytes.{functions, params};
-ghost use Rattle.table.specs.Naming.{children};
-ghost use Rattle.table.specs.Check.{countsOf, within, counted};
-ghost use Rattle.table.specs.Working.{IsNode, IsFunction, Framed, At};
-ghost use Rattle.table.specs.Sweep.{ruleAt, kindRules, operationRules, Handed, RootsFit, Kids, KindFits, NodeFits};
+ghost use Rattle.table.specs.Bytes.{functions, nodes, params};
+ghost use Rattle.table.specs.Check.{countsOf, counted};
+ghost use Rattle.table.specs.Working.{IsNode, IsFunction, Framed};
+ghost use Rattle.table.specs.Sweep.{ruleAt, kindRules, operationRules, Handed, RootsFit, Kids, Wanted, KindFits};
 ghost use Rattle.table.specs.Sweep.{Siftable, Sifts, SiftedBy};
 
 // A node sifted, in numbers that specs/Sweep names.
@@ -23,6 +22,7 @@ pub struct Sifting {
     pub passed: bool,
     pub down: u32,
     pub bound: u32,
+    pub wants: u16,
 }
 
 // All nodes sifted: with so many bounds among them, whose scope is still to be looked at.
@@ -38,6 +38,7 @@ fn failed() -> Sifting
         passed: false,
         down: 0,
         bound: 0,
+        wants: 0,
     }
 }
 
@@ -64,6 +65,18 @@ fn rule(rules: &[u16; 64], kind: u16, j: usize) -> u32
     rules[8 * k + j] as u32
 }
 
+// The highest word that a node of function `owner` may have: a call's is a callee, with its own function in tail position alone.
+fn most_word(rules: &[u16; 64], kind: u16, owner: Function, tail: u32) -> u64
+    requires { ⌜ (now rules ≡ kindRules 8) × (kind < 8) × (1 ≤ owner .0) × (owner .0 ≤ 32) × (tail ≤ 1) ⌝ }
+    ensures { λ r. ⌜ r ≡ (owner .0 + tail - 1) * ruleAt kind 2 + ruleAt kind 6 * 4294967295 ⌝ }
+{
+    if rule(rules, kind, kinds::CALL) == 1 {
+        (owner.0 as u64) + (tail as u64) - 1
+    } else {
+        (rule(rules, kind, kinds::WORDS) as u64) * 4294967295
+    }
+}
+
 // Extra, word, and 6, 8 and 9 for calls and parameters, of a node of function `owner`, which has `params` parameters.
 fn kind_fits(
     rules: &[u16; 64],
@@ -85,9 +98,7 @@ fn kind_fits(
     if word < call {
         return false;
     }
-    let most = ((owner.0 as u64) + (tail as u64) - 1) * call
-        + (rule(rules, kind, kinds::WORDS) as u64) * 4294967295;
-    word <= most
+    word <= most_word(rules, kind, owner, tail)
 }
 
 // The parameters of a call's callee; of what is no call, anything.
@@ -99,28 +110,22 @@ fn arguments(table: &[u8], call: usize, word: usize) -> u32
     crate::decode::wide(table[at]) as u32
 }
 
-// 7: as many children as kind and operation allow.
-fn counted(
+// The fewest children that kind and operation allow, and 256 times the most.
+fn wants(
     rules: &[u16; 64],
     operations: &[u16; 16],
     kind: u16,
     extra: u32,
     call: u32,
     params: u32,
-    kids: u32,
-) -> bool
+) -> u16
     requires { ⌜ (now rules ≡ kindRules 8) × (now operations ≡ operationRules 11) × (kind < 8) × (extra < 16) × (call ≡ one (eqb kind 4))
         × (call ≡ 1 → params ≤ 8) ⌝ }
-    ensures { λ r. ⌜ r ≡ within (countsOf kind extra params) kids ⌝ }
+    ensures { λ r. ⌜ (r % 256 ≡ countsOf kind extra params .low) × (r / 256 ≡ countsOf kind extra params .high) ⌝ }
 {
     let operation = (operations[extra as usize] as u32) * rule(rules, kind, kinds::PRIMITIVE);
-    let counts = rule(rules, kind, kinds::COUNTS) + operation;
-    let more = params * call;
-    if kids < counts % 256 + more {
-        false
-    } else {
-        kids <= counts / 256 + more
-    }
+    let counts = rule(rules, kind, kinds::COUNTS) + operation + 257 * (params * call);
+    counts as u16
 }
 
 // The innermost let around a node that hands this down.
@@ -141,8 +146,16 @@ fn innermost(outer: Node, up: Node, body: u32) -> Node
 }
 
 // Node n, with its kin and what its parent handed down.
-fn node(table: &[u8], base: usize, rules: &[u16; 64], n: Node, own: u32, inherited: u32) -> Sifting
-    requires { ⌜ Siftable (now table) base (n .0) own × (now rules ≡ kindRules 8) ⌝ }
+fn node(
+    table: &[u8],
+    base: usize,
+    rules: &[u16; 64],
+    operations: &[u16; 16],
+    n: Node,
+    own: u32,
+    inherited: u32,
+) -> Sifting
+    requires { ⌜ Siftable (now table) base (n .0) own × (now rules ≡ kindRules 8) × (now operations ≡ operationRules 11) ⌝ }
     ensures { λ r. ⌜ (r .passed ≡ true → Sifts (now (table .entry)) (n .0) inherited r) ⌝ }
 {
     let kind = records::kind(table, base, n);
@@ -158,6 +171,8 @@ fn node(table: &[u8], base: usize, rules: &[u16; 64], n: Node, own: u32, inherit
     if !kind_fits(rules, kind, extra, word, owner, params, tail) {
         return failed();
     }
+    let call = rule(rules, kind, kinds::CALL);
+    let args = arguments(table, call as usize, word as usize);
     let body = end * (inherited / 1024 % 2);
     let scope = innermost(let_in(inherited), linking::parent(own), body);
     let down = (scope.0 as u32) + 1024 * (rule(rules, kind, kinds::REACH) + 4096 - 4096 * tail);
@@ -165,6 +180,7 @@ fn node(table: &[u8], base: usize, rules: &[u16; 64], n: Node, own: u32, inherit
         passed: true,
         down,
         bound: rule(rules, kind, kinds::BOUND),
+        wants: wants(rules, operations, kind, extra, call, args),
     }
 }
 
@@ -172,17 +188,20 @@ fn node(table: &[u8], base: usize, rules: &[u16; 64], n: Node, own: u32, inherit
 // children. Kin is handed on and nodes are sifted in one loop: each waits for what the node before it wrote, and so they wait at once.
 pub(crate) fn sift(
     table: &[u8],
-    rules: &[u16; 64],
     kin: &mut [u32; 513],
     kids: &mut [u16; 513],
+    wanted: &mut [u16; 513],
     offspring: &mut [u32; 513],
     bounds: &mut [u16; 513],
 ) -> Residue
-    requires { ⌜ Framed (now table) × (now rules ≡ kindRules 8) × Handed (now table) (functions (now table)) 0 (now kin)
-        × RootsFit (now table) (functions (now table)) × (now kids ≡ replicate 513 0) × (now offspring ≡ replicate 513 0)
+    requires { ⌜ Framed (now table) × Handed (now table) (functions (now table)) 0 (now kin) × RootsFit (now table) (functions (now table))
+        × (now kids ≡ replicate 513 0) × (length (now wanted) ≡ 513) × (now offspring ≡ replicate 513 0)
         × (now bounds ≡ replicate 513 0) ⌝ }
-    ensures { λ r. ⌜ SiftedBy (now (table .entry)) (now (kin .exit)) (now (kids .exit)) (now (offspring .exit)) (now (bounds .exit)) r ⌝ }
+    ensures { λ r. ⌜ SiftedBy (now (table .entry)) (now (kin .exit)) (now (kids .exit)) (now (wanted .exit)) (now (offspring .exit))
+        (now (bounds .exit)) r ⌝ }
 {
+    let rules = kinds::rules();
+    let operations = kinds::operations();
     let base = frame::base(table);
     let last = frame::last_node(table);
     let end = last.0;
@@ -196,11 +215,20 @@ pub(crate) fn sift(
             return Residue::Failed;
         }
         let up = linking::parent(own);
-        let r = node(table, base, rules, Node(n), own, offspring[up.0 as usize]);
+        let r = node(
+            table,
+            base,
+            &rules,
+            &operations,
+            Node(n),
+            own,
+            offspring[up.0 as usize],
+        );
         if !r.passed {
             return Residue::Failed;
         }
         kids[up.0 as usize] = (own / 65536) as u16;
+        wanted[at] = r.wants;
         offspring[at] = r.down;
         bounds[count] = n;
         count += r.bound as usize;
@@ -208,42 +236,30 @@ pub(crate) fn sift(
     Residue::Passed(count)
 }
 
-// 7 at node n, which has so many children.
-fn node_counted(
-    table: &[u8],
-    base: usize,
-    rules: &[u16; 64],
-    operations: &[u16; 16],
-    n: Node,
-    kids: u16,
-) -> bool
-    requires { ⌜ At (now table) base (n .0) × (now rules ≡ kindRules 8) × (now operations ≡ operationRules 11)
-        × RootsFit (now table) (functions (now table)) × NodeFits (now table) (n .0) × (kids ≡ length (children (now table) (n .0))) ⌝ }
-    ensures { λ r. ⌜ r ≡ counted (now (table .entry)) (n .0) ⌝ }
+// Whether a number of children is outside what is wanted, as a number: 0 is no.
+fn outside(kids: u16, wants: u16) -> u16
+    ensures { λ r. ⌜ (r ≤ 1) × (r ≡ 0 → (wants % 256 ≤ kids) × (kids ≤ wants / 256)) ⌝ }
 {
-    let kind = records::kind(table, base, n);
-    let extra = records::extra(table, base, n) as u32;
-    let word = records::word(table, base, n) as usize;
-    let call = rule(rules, kind, kinds::CALL);
-    let args = arguments(table, call as usize, word);
-    counted(rules, operations, kind, extra, call, args, kids as u32)
+    if kids < wants % 256 {
+        1
+    } else if wants / 256 < kids {
+        1
+    } else {
+        0
+    }
 }
 
-// 7 at all nodes.
-pub(crate) fn all_counted(table: &[u8], rules: &[u16; 64], kids: &[u16; 513]) -> bool
-    requires { ⌜ Framed (now table) × (now rules ≡ kindRules 8) × RootsFit (now table) (functions (now table)) × Kids (now table) (now kids)
-        × ((n : ℕ) → IsNode (now table) n → NodeFits (now table) n) ⌝ }
+// 7 at all nodes. All are looked at, so that LLVM takes eight at a time.
+pub(crate) fn all_counted(table: &[u8], kids: &[u16; 513], wanted: &[u16; 513]) -> bool
+    requires { ⌜ Framed (now table) × Kids (now table) (now kids) × Wanted (now table) (nodes (now table)) (now wanted) ⌝ }
     ensures { λ r. ⌜ (r ≡ true → (n : ℕ) → IsNode (now (table .entry)) n → T (counted (now (table .entry)) n)) ⌝ }
 {
-    let operations = kinds::operations();
-    let base = frame::base(table);
-    let end = frame::last_node(table).0;
-    let mut n: u16 = 0;
+    let end = frame::last_node(table).0 as usize;
+    let mut wrong: u16 = 0;
+    let mut n: usize = 0;
     while n < end {
         n += 1;
-        if !node_counted(table, base, rules, &operations, Node(n), kids[n as usize]) {
-            return false;
-        }
+        wrong += outside(kids[n], wanted[n]);
     }
-    true
+    wrong == 0
 }

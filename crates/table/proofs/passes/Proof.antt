@@ -1,7 +1,9 @@
 -- `passes` meets its contract: each loop fails, or all that it asks holds.
 use borrow.Author.Needs.{needs}
 use borrow.Author.Tests.{not-false}
+use Prim.Native.Nat.{ℕ}
 use mathlib.Core.Path.{refl, subst}
+use lib.ListN.{length-replicate}
 use Rattle.table.specs.Bytes.{functions}
 use Rattle.table.specs.Sweep.{Handed, RootsFit, Whole, Sifted, SiftedBy}
 use Rattle.table.proofs.Tests.{never}
@@ -34,9 +36,10 @@ module _ (c : Told) where
   abbrev sifts : tie.After-sift
   sifts = search
 
-  sifted : let left = sifts .sift .last .1 .1 in
-      Sifted (start first .args .table .now) (left .0) (left .1 .0) (left .1 .1 .0) (left .1 .1 .1 .0) (c .residue .given .0 .0)
-  sifted = subst (SiftedBy _ _ _ _ _) (c .residue .given .1) (sifts .sift .ensures)
+  sifted : let left = sifts .sift .last .1 in
+      Sifted (start first .args .table .now) (left .0) (left .1 .0) (left .1 .1 .0) (left .1 .1 .1 .0) (left .1 .1 .1 .1 .0)
+      (c .residue .given .0 .0)
+  sifted = subst (SiftedBy _ _ _ _ _ _) (c .residue .given .1) (sifts .sift .ensures)
 
 -- and counted
 abbrev Counted : Type 0
@@ -58,15 +61,11 @@ roots-requires c κs = search needs
 returns : tie.Need-returns
 returns c = never
 
-rules-requires : tie.Need-rules-requires
-rules-requires c κs = search needs
-
 sift-requires : tie.Need-sift-requires
 sift-requires c κs =
     let s : tie.Start = search in
-    let rules : tie.After-rules = search in
     let h = rooted (search) in
-    (s .pre .0, rules .rules .ensures, h .0, h .1, refl, refl, refl)
+    (s .pre .0, h .0, h .1, refl, length-replicate {A = ℕ} 513 0, refl, refl)
 
 enum-known-residue : tie.Need-enum-known-residue
 enum-known-residue c = search needs
@@ -74,10 +73,8 @@ enum-known-residue c = search needs
 all-counted-requires : tie.Need-all-counted-requires
 all-counted-requires c κs =
     let s : tie.Start = search in
-    let rules : tie.After-rules = search in
-    let g : Told = search in
-    let d = sifted g in
-    (s .pre .0, rules .rules .ensures, rooted (first g) .1, d .children, d .fits)
+    let d = sifted (search) in
+    (s .pre .0, d .children, d .counts)
 
 returns-2 : tie.Need-returns-2
 returns-2 c = never
@@ -109,7 +106,6 @@ passes-spec =
     (tie.spec
     roots-requires
     returns
-    rules-requires
     sift-requires
     enum-known-residue
     all-counted-requires

@@ -1,7 +1,6 @@
 -- `sweep::kind_fits` meets its contract: each test fails, or all are those of the kind.
 use native.Mathlib.Omega.{arith}
-use Prim.Native.Nat.{_+_, _-_, _*_, _≤_}
-use mathlib.Core.Bool.{_||_}
+use Prim.Native.Nat.{_*_, _≤_}
 use lib.Dec.{eqb}
 use borrow.Author.Tests.{leb-true}
 use Rattle.table.proofs.Tests.{never}
@@ -16,13 +15,6 @@ start c = search
 
 param : (p : tie.After-rule) → start p .args .params * p .rule .result ≤ start p .args .params
 param p = flag-times _ _ (omega (arith, p .rule .ensures, one-most (eqb (start p .args .kind) 2)))
-
-abbrev begin : tie.After-rule3 → tie.Start
-begin c = search
-
-call : (c : tie.After-rule3) → let s = begin c in
-    (s .args .owner .0 + s .args .tail - 1) * c .rule3 .result ≤ s .args .owner .0 + s .args .tail - 1
-call c = flag-times _ _ (omega (arith, c .rule3 .ensures, one-most (eqb (begin c .args .kind) 4)))
 
 rule-requires : tie.Need-rule-requires
 rule-requires c κs = search needs
@@ -53,57 +45,20 @@ cast-call c = search needs
 returns-2 : tie.Need-returns-2
 returns-2 c = never
 
-cast-most : tie.Need-cast-most
-cast-most c = search needs
-
-add-most : tie.Need-add-most
-add-most c = search needs
-
-sub-most : tie.Need-sub-most
-sub-most c = search needs
-
-mul-most : tie.Need-mul-most
-mul-most c =
-    let k : tie.After-rule3 = search in
-    record { fits = omega (arith, call k, begin k .pre .3, begin k .pre .5) }
-
-rule-requires-4 : tie.Need-rule-requires-4
-rule-requires-4 c κs = search needs
-
-cast-most-2 : tie.Need-cast-most-2
-cast-most-2 c = search needs
-
-mul-most-2 : tie.Need-mul-most-2
-mul-most-2 c = search needs
-
-add-most-2 : tie.Need-add-most-2
-add-most-2 c =
-    let k : tie.After-rule3 = search in
-    let w : tie.After-rule4 = search in
-    let s = begin k in
-    record {
-      fits = omega (
-        arith,
-        call k,
-        s .pre .3,
-        s .pre .5,
-        w .rule4 .ensures,
-        one-most (eqb (s .args .kind) 1 || eqb
-            (s .args .kind) 7),
-      );
-    }
+most-word-requires : tie.Need-most-word-requires
+most-word-requires c κs = search needs
 
 returns-3 : tie.Need-returns-3
 returns-3 c e =
     let p : tie.After-rule = search in
     let b : tie.After-rule2 = search in
     let k : tie.After-rule3 = search in
-    let w : tie.After-rule4 = search in
+    let w : tie.After-most-word = search in
     let low : tie.Else1 = search in
     let some : tie.Else2 = search in
-    let s = begin k in
-    fits-told _ _ _ _ _ _ _ _ _ _ (s .pre .1) (p .rule .ensures) (b .rule2 .ensures) (k .rule3 .ensures) (w .rule4 .ensures) (s .pre .2)
-    (s .pre .4) (s .pre .5) (low .if1 .left) (some .if2 .left) (leb-true _ _ e)
+    let s = start p in
+    fits-told _ _ _ _ _ _ _ _ _ (s .pre .1) (p .rule .ensures) (b .rule2 .ensures) (k .rule3 .ensures) (s .pre .2) (s .pre .4) (s .pre .5)
+    (low .if1 .left) (some .if2 .left) (omega (arith, w .most-word .ensures, leb-true (s .args .word) (w .most-word .result) e))
 
 pub kind-fits-spec : {M : Type 1} → statement M
 kind-fits-spec =
@@ -117,12 +72,5 @@ kind-fits-spec =
     rule-requires-3
     cast-call
     returns-2
-    cast-most
-    add-most
-    sub-most
-    mul-most
-    rule-requires-4
-    cast-most-2
-    mul-most-2
-    add-most-2
+    most-word-requires
     returns-3)

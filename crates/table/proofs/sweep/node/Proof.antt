@@ -8,12 +8,12 @@ use Rattle.table.specs.Find.{one}
 use Rattle.table.specs.Bytes.{next}
 use Rattle.table.specs.Naming.{owner, parent, tail}
 use Rattle.table.specs.Working.{IsNode, IsFunction}
-use Rattle.table.specs.Sweep.{rank, around, downOf, Whole, Siftable}
+use Rattle.table.specs.Sweep.{rank, around, downOf, KindFits, Whole, Siftable}
 use Rattle.table.proofs.Tests.{never}
 use Rattle.table.proofs.Family.{owner-few, parent-lower}
 use Rattle.table.proofs.HandEnd.{params-few}
-use Rattle.table.proofs.RuleLaws.{one-most, flag-times, rule-small}
-use Rattle.table.proofs.SiftLaws.{scope-told, down-told, down-around, down-let, down-from, tail-told, fits-here}
+use Rattle.table.proofs.RuleLaws.{one-yes, one-most, flag-times, rule-small}
+use Rattle.table.proofs.SiftLaws.{scope-told, down-told, down-around, down-let, down-from, tail-told, wants-here, fits-here}
 use Rattle.table.proofs.HandLaws.{kin-owner, kin-parent, kin-rank, rank-small}
 use borrow.Author.Needs.{needs}
 use Rattle.table.proofs.sweep.node.Statement.{statement}
@@ -116,10 +116,37 @@ tail-most p = let r = read p in omega (
 params-told : (p : Fitting) → p .params .result ≤ 8
 params-told p = let r = read p in omega (arith, p .params .ensures, params-few _ (node r .roots) _ (function r))
 
--- what is around it, where it fits
-module _ (c : tie.After-innermost) where
+-- and that it is a call or none
+abbrev Called : Type 0
+Called = tie.After-rule
+
+module _ (k : Called) where
   abbrev fitting : Fitting
   fitting = search
+
+  abbrev fitted : tie.After-kind-fits
+  fitted = search
+
+  abbrev passed : tie.Else2
+  passed = search
+
+  abbrev start : Read
+  start = read fitting
+
+  fits : KindFits (of start .kind .result) (extras start .extra .result) (words start .word .result) (owners start .owner .result .0)
+      (fitting .params .result) (tails fitting .tail-at .result)
+  fits = fitted .kind-fits .ensures (not-false _ (passed .if2 .left))
+
+  call : k .rule .result ≡ one (eqb (of start .kind .result) 4)
+  call = k .rule .ensures
+
+  callee : k .rule .result ≡ 1 → IsFunction (s start .args .table .now) (words start .word .result)
+  callee e = let i = fits .callee (one-yes _ 4 (sym call ∙ e)) in (i .0, omega (arith, i .1, function start .1))
+
+-- what is around it
+module _ (c : tie.After-innermost) where
+  abbrev called : Called
+  called = search
 
   abbrev outers : tie.After-let-in
   outers = search
@@ -128,7 +155,7 @@ module _ (c : tie.After-innermost) where
   ups = search
 
   abbrev r : Read
-  r = read fitting
+  r = start called
 
   around-told : Inherits r → c .innermost .result .0 ≡ around (s r .args .table .now) (s r .args .n .0)
   around-told e =
@@ -148,13 +175,13 @@ module _ (c : tie.After-innermost) where
         flag-times (ups .parent .result .0) b (ends-let r),
       )
 
-abbrev inner : tie.After-rule → tie.After-innermost
+abbrev inner : tie.After-rule2 → tie.After-innermost
 inner c = search
 
-abbrev fitted-at : tie.After-rule → Fitting
-fitted-at c = fitting (inner c)
+abbrev fitted-at : tie.After-rule2 → Fitting
+fitted-at c = fitting (called (inner c))
 
-abbrev read-at : tie.After-rule → Read
+abbrev read-at : tie.After-rule2 → Read
 read-at c = r (inner c)
 
 kind-requires : tie.Need-kind-requires
@@ -221,6 +248,21 @@ returns-2 c e =
     let f : tie.After-failed2 = search in
     never (sym (f .failed2 .ensures) ∙ e)
 
+rule-requires : tie.Need-rule-requires
+rule-requires c κs =
+    let p : Fitting = search in
+    let r = read p in
+    (s r .pre .1, kinds r, omega arith)
+
+cast-arguments : tie.Need-cast-arguments
+cast-arguments c = search needs
+
+arguments-requires : tie.Need-arguments-requires
+arguments-requires c κs =
+    let k : Called = search in
+    let r = start k in
+    (node r .place .framed, omega (arith, call k, one-most (eqb (of r .kind .result) 4)), callee k)
+
 mul-body : tie.Need-mul-body
 mul-body c =
     let p : Fitting = search in
@@ -242,15 +284,15 @@ innermost-requires c κs =
 cast-down : tie.Need-cast-down
 cast-down c = search needs
 
-rule-requires : tie.Need-rule-requires
-rule-requires c κs =
+rule-requires-2 : tie.Need-rule-requires-2
+rule-requires-2 c κs =
     let k : tie.After-innermost = search in
     (s (r k) .pre .1, kinds (r k), omega arith)
 
 add-down : tie.Need-add-down
 add-down c =
     let r = read-at c in
-    record { fits = omega (arith, c .rule .ensures, rule-small (of r .kind .result) 3) }
+    record { fits = omega (arith, c .rule2 .ensures, rule-small (of r .kind .result) 3) }
 
 mul-down : tie.Need-mul-down
 mul-down c = record { fits = omega (arith, tail-most (fitted-at c)) }
@@ -261,21 +303,35 @@ sub-down c = omega (arith, tail-most (fitted-at c))
 mul-down-2 : tie.Need-mul-down-2
 mul-down-2 c =
     let r = read-at c in
-    record { fits = omega (arith, c .rule .ensures, rule-small (of r .kind .result) 3) }
+    record { fits = omega (arith, c .rule2 .ensures, rule-small (of r .kind .result) 3) }
 
 add-down-2 : tie.Need-add-down-2
 add-down-2 c =
     let r = read-at c in
-    record { fits = omega (arith, scope-small (inner c), c .rule .ensures, rule-small (of r .kind .result) 3) }
+    record { fits = omega (arith, scope-small (inner c), c .rule2 .ensures, rule-small (of r .kind .result) 3) }
 
-rule-requires-2 : tie.Need-rule-requires-2
-rule-requires-2 c κs = let r = read-at c in (s r .pre .1, kinds r, omega arith)
+rule-requires-3 : tie.Need-rule-requires-3
+rule-requires-3 c κs = let r = read-at c in (s r .pre .1, kinds r, omega arith)
+
+wants-requires : tie.Need-wants-requires
+wants-requires c κs =
+    let k : Called = search in
+    let a : tie.After-arguments = search in
+    let r = start k in (
+      s r .pre .1,
+      s r .pre .2,
+      kinds r,
+      fits k .small,
+      call k,
+      λ e. omega (arith, a .arguments .ensures e, params-few _ (node r .roots) _ (callee k e)),
+    )
 
 returns-3 : tie.Need-returns-3
 returns-3 c e =
-    let d : tie.After-rule = search in
-    let f : tie.After-kind-fits = search in
-    let g : tie.Else2 = search in
+    let d : tie.After-rule2 = search in
+    let b : tie.After-rule3 = search in
+    let a : tie.After-arguments = search in
+    let k : Called = search in
     let p = fitted-at d in
     let r = read p in
     let tail = tails p .tail-at .result in
@@ -283,13 +339,15 @@ returns-3 c e =
     record {
       ending = tail;
       fits = fits-here _ _ _ _ _ _ _ _ (of r .kind .ensures) (extras r .extra .ensures) (words r .word .ensures) (owns r)
-          (p .params .ensures) (f .kind-fits .ensures (not-false _ (g .if2 .left)));
+          (p .params .ensures) (fits k);
       heir = λ w e. (
         tail-known p w e,
-        ap (λ x. scope + 1024 * (x + 4096 - 4096 * tail)) (d .rule .ensures)
+        ap (λ x. scope + 1024 * (x + 4096 - 4096 * tail)) (d .rule2 .ensures)
             ∙ down-told _ _ scope (of r .kind .result) tail (is r .0) (around-told (inner d) e) (of r .kind .ensures) (tail-known p w e),
       );
-      bound = c .rule2 .ensures ∙ ap (λ x. one (eqb x 7)) (of r .kind .ensures);
+      bound = b .rule3 .ensures ∙ ap (λ x. one (eqb x 7)) (of r .kind .ensures);
+      counts = wants-here _ _ _ _ _ _ _ (of r .kind .ensures) (extras r .extra .ensures) (words r .word .ensures)
+          (λ e. a .arguments .ensures (call k ∙ ap (λ x. one (eqb x 4)) e)) (c .wants .ensures);
     }
 
 pub node-spec : {M : Type 1} → statement M
@@ -314,16 +372,20 @@ node-spec =
     kind-fits-requires
     failed-requires-2
     returns-2
+    rule-requires
+    cast-arguments
+    arguments-requires
     mul-body
     let-in-requires
     parent-requires
     innermost-requires
     cast-down
-    rule-requires
+    rule-requires-2
     add-down
     mul-down
     sub-down
     mul-down-2
     add-down-2
-    rule-requires-2
+    rule-requires-3
+    wants-requires
     returns-3)

@@ -22,11 +22,12 @@ use Rattle.table.proofs.sweep.sift.Statement.{statement}
 use Rattle.table.proofs.sweep.sift.Tie as tie
 
 abbrev Inv-loop : tie.InvT-loop
-Inv-loop table rules kin₀ kids₀ offspring₀ bounds₀ base last end count₀ n₀ kin kids offspring bounds count n =
-    (n ≤ end) × (end ≡ nodes table) × LinkedTo table n kin kids × SiftedTo table n offspring bounds count
+Inv-loop table kin₀ kids₀ wanted₀ offspring₀ bounds₀ rules operations base last end count₀ n₀ kin kids wanted offspring bounds count n =
+    (n ≤ end) × (end ≡ nodes table) × LinkedTo table n kin kids × SiftedTo table n wanted offspring bounds count
 
 abbrev μ-loop : tie.MeasureT-loop
-μ-loop table rules kin₀ kids₀ offspring₀ bounds₀ base last end count₀ n₀ kin kids offspring bounds count n = end - n
+μ-loop table kin₀ kids₀ wanted₀ offspring₀ bounds₀ rules operations base last end count₀ n₀ kin kids wanted offspring bounds count n =
+    end - n
 
 abbrev Start : Type 0
 Start = tie.Start Inv-loop μ-loop
@@ -56,6 +57,9 @@ module _ (c : Turn) where
 
   node : IsNode table n
   node = (omega arith, omega (arith, l .loop .inv .1, c .loop-test .taken))
+
+  room : n < 513
+  room = omega (arith, node .1, s .pre .0 .N-high)
 
   place : At table (based .base .result) n
   place = record { framed = s .pre .0; start = based .base .ensures; low = node .0; high = node .1 }
@@ -112,6 +116,12 @@ module _ (c : Passing) where
   bound-few : told .node .result .bound ≤ 1
   bound-few = omega (arith, sifts .bound, one-most (eqb (kind (table t) (n t)) 7))
 
+rules-requires : tie.Need-rules-requires Inv-loop μ-loop
+rules-requires c κs = search needs
+
+operations-requires : tie.Need-operations-requires Inv-loop μ-loop
+operations-requires c κs = search needs
+
 base-requires : tie.Need-base-requires Inv-loop μ-loop
 base-requires c κs = search needs
 
@@ -122,7 +132,8 @@ loop-holds : tie.Need-loop-holds Inv-loop μ-loop
 loop-holds c =
     let s : Start = search in
     let last : tie.After-last-node Inv-loop μ-loop = search in
-    (omega arith, last .last-node .ensures, linked-none _ _ _ (s .pre .2) (s .pre .4), sifted-none _ _ _ (s .pre .5) (s .pre .6))
+    let p = s .pre in
+    (omega arith, last .last-node .ensures, linked-none _ _ _ (p .1) (p .3), sifted-none _ _ _ _ (p .4) (p .5) (p .6))
 
 add-n : tie.Need-add-n Inv-loop μ-loop
 add-n c = search needs
@@ -163,14 +174,17 @@ element-copy-out-node c =
 node-requires : tie.Need-node-requires Inv-loop μ-loop
 node-requires c κs =
     let h : Handing = search in
+    let rules : tie.After-rules Inv-loop μ-loop = search in
+    let operations : tie.After-operations Inv-loop μ-loop = search in
     let t = turn h in (
       record {
         place = place t;
-        roots = s t .pre .3;
+        roots = s t .pre .2;
         kin = kin h;
         owned = own-owned _ _ _ _ (s t .pre .0) _ (node t) (l t .loop .inv .2) (links h);
       },
-      s t .pre .1,
+      rules .rules .ensures,
+      operations .operations .ensures,
     )
 
 returns-2 : tie.Need-returns-2 Inv-loop μ-loop
@@ -192,11 +206,17 @@ element-write-kids c =
     let up : tie.After-parent Inv-loop μ-loop = search in
     omega (arith, up .parent .ensures, inside (search))
 
+mul-wanted : tie.Need-mul-wanted Inv-loop μ-loop
+mul-wanted c = search needs
+
+element-write-wanted : tie.Need-element-write-wanted Inv-loop μ-loop
+element-write-wanted c = omega (arith, room (search))
+
 mul-offspring : tie.Need-mul-offspring Inv-loop μ-loop
 mul-offspring c = search needs
 
 element-write-offspring : tie.Need-element-write-offspring Inv-loop μ-loop
-element-write-offspring c = search needs
+element-write-offspring c = omega (arith, room (search))
 
 mul-bounds : tie.Need-mul-bounds Inv-loop μ-loop
 mul-bounds c = search needs
@@ -228,7 +248,7 @@ loop-again c =
       omega (arith, node turned .1, inv .1),
       inv .1,
       linked-more _ _ _ _ fr _ (node turned) (inv .2) (links h) _ _ parents (kin-rank _ fr _ (node turned) _ (kin h)),
-      sifted-more _ _ _ _ _ (inv .3) (omega (arith, node turned .1, fr .N-high)) _
+      sifted-more _ _ _ _ _ _ (inv .3) (omega (arith, node turned .1, fr .N-high)) _
           (ap (λ x. getD (l turned .loop .offspring) x 0) parents) _ (sifts p),
     )
 
@@ -237,7 +257,7 @@ returns-3 c =
     let s : Start = search in
     let l : Head = search in
     let inv = l .loop .inv in
-    sifted-all _ _ _ _ _ _ _ (omega (arith, inv .0, inv .1, c .loop-test .left)) (inv .2) (s .pre .3) (inv .3)
+    sifted-all _ _ _ _ _ _ _ _ (omega (arith, inv .0, inv .1, c .loop-test .left)) (inv .2) (s .pre .2) (inv .3)
 
 pub sift-spec : {M : Type 1} → statement M
 sift-spec =
@@ -245,6 +265,8 @@ sift-spec =
     (tie.spec
     Inv-loop
     μ-loop
+    rules-requires
+    operations-requires
     base-requires
     last-node-requires
     loop-holds
@@ -264,6 +286,8 @@ sift-spec =
     cast-kids-2
     mul-kids
     element-write-kids
+    mul-wanted
+    element-write-wanted
     mul-offspring
     element-write-offspring
     mul-bounds

@@ -1,19 +1,16 @@
--- `sweep::counted` meets its contract: what was looked up is 7.
+-- `sweep::wants` meets its contract: what was looked up is how many children the kind allows.
 use native.Mathlib.Omega.{arith}
-use Prim.Native.Nat.{ℕ, _+_, _*_, _/_, _%_, _≤_}
+use Prim.Native.Nat.{ℕ, _+_, _*_, _≤_}
 use lib.ListN.{getD}
-use lib.Dec.{eqb, leb}
-use mathlib.Core.Bool.{_&&_}
-use mathlib.Core.Path.{_≡_, ap, ap₂, _∙_}
-use borrow.Author.Tests.{le-leb, lt-leb}
+use lib.Dec.{eqb}
+use mathlib.Core.Path.{_≡_, refl, ap, ap₂, _∙_}
 use Rattle.table.specs.Find.{one}
-use Rattle.table.specs.Check.{operationCounts, countsOf, within}
+use Rattle.table.specs.Check.{operationCounts, countsOf}
 use Rattle.table.specs.Sweep.{packed}
-use Rattle.table.proofs.Tests.{first-fails, first-holds}
-use Rattle.table.proofs.RuleLaws.{one-most, flag-most, flag-times, operation-read, operation-few, rule-small, count-few, count-told}
+use Rattle.table.proofs.RuleLaws.{one-most, flag-most, flag-times, operation-read, operation-few, rule-small, wants-told}
 use borrow.Author.Needs.{needs}
-use Rattle.table.proofs.sweep.counted.Statement.{statement}
-use Rattle.table.proofs.sweep.counted.Tie as tie
+use Rattle.table.proofs.sweep.wants.Statement.{statement}
+use Rattle.table.proofs.sweep.wants.Tie as tie
 
 -- the operation's counts
 module _ (s : tie.Start) where
@@ -51,18 +48,11 @@ module _ (k : Told) where
   abbrev x : ℕ
   x = k .rule2 .result + getD (s .args .operations .now) (s .args .extra) 0 * own k .rule .result
 
-  abbrev fewest : ℕ
-  fewest = x % 256 + s .args .params * s .args .call
-
-  abbrev most : ℕ
-  most = x / 256 + s .args .params * s .args .call
-
   told : x ≡ packed (countsOf (s .args .kind) 11 0) + packed (operationCounts (s .args .extra)) * one (eqb (s .args .kind) 3)
   told = ap₂ (λ x y. x + y) (k .rule2 .ensures) (ap₂ (λ x y. x * y) (op-told s) (own k .rule .ensures))
 
-  counts : (leb fewest (s .args .kids) && leb (s .args .kids) most)
-      ≡ within (countsOf (s .args .kind) (s .args .extra) (s .args .params)) (s .args .kids)
-  counts = count-told (s .args .kind) (s .args .extra) x told (s .args .params) (s .args .call) (s .args .kids) (s .pre .4)
+  few : x ≤ 6410
+  few = omega (arith, own-few (own k), k .rule2 .ensures, rule-small (s .args .kind) 7)
 
 mul-operation : tie.Need-mul-operation
 mul-operation c = search needs
@@ -85,35 +75,35 @@ rule-requires-2 : tie.Need-rule-requires-2
 rule-requires-2 c κs = search needs
 
 add-counts : tie.Need-add-counts
-add-counts c = record { fits = omega (arith, own-few (own c), c .rule2 .ensures, rule-small (start (own c) .args .kind) 7) }
+add-counts c = record { fits = omega (arith, few c) }
 
-mul-more : tie.Need-mul-more
-mul-more c =
+mul-counts : tie.Need-mul-counts
+mul-counts c =
     let s : tie.Start = search in
     record { fits = omega (arith, more s) }
 
-add-if1 : tie.Need-add-if1
-add-if1 c =
+mul-counts-2 : tie.Need-mul-counts-2
+mul-counts-2 c =
     let s : tie.Start = search in
     record { fits = omega (arith, more s) }
 
-add-result : tie.Need-add-result
-add-result c =
+add-counts-2 : tie.Need-add-counts-2
+add-counts-2 c =
     let k : Told = search in
-    record { fits = omega (arith, more (s k), count-few (s k .args .kind) (s k .args .extra) (x k) (told k)) }
+    record { fits = omega (arith, few k, more (s k)) }
+
+cast-result : tie.Need-cast-result
+cast-result c =
+    let k : Told = search in
+    record { fits = omega (arith, few k, more (s k)) }
 
 returns : tie.Need-returns
 returns c =
     let k : Told = search in
-    first-fails (leb (fewest k) (s k .args .kids)) (leb (s k .args .kids) (most k)) _ (lt-leb _ _ (c .if1 .taken)) (counts k)
+    wants-told (s k .args .kind) (s k .args .extra) (s k .args .params) (x k) (s k .args .call) _ (told k) (s k .pre .4) (more (s k)) refl
 
-returns-2 : tie.Need-returns-2
-returns-2 c =
-    let k : Told = search in
-    first-holds (leb (fewest k) (s k .args .kids)) (leb (s k .args .kids) (most k)) _ (le-leb _ _ (c .if1 .left)) (counts k)
-
-pub counted-spec : {M : Type 1} → statement M
-counted-spec =
+pub wants-spec : {M : Type 1} → statement M
+wants-spec =
     tie.close
     (tie.spec
     mul-operation
@@ -123,8 +113,8 @@ counted-spec =
     mul-operation-2
     rule-requires-2
     add-counts
-    mul-more
-    add-if1
-    add-result
-    returns
-    returns-2)
+    mul-counts
+    mul-counts-2
+    add-counts-2
+    cast-result
+    returns)
