@@ -1,11 +1,12 @@
 -- each way that the code takes to a plan, with what it read on the way
 use Prim.Native.Nat.{ℕ, zero, suc, _≤_, _<_}
 use mathlib.Core.Bool.{Bool, true, false}
-use mathlib.Core.Path.{_≡_, refl, sym, ap, ap₂, _∙_}
+use mathlib.Core.Path.{_≡_, refl, subst, sym, ap, ap₂, _∙_}
+use mathlib.Core.Logic.{_⊎_, inl, inr}
 use mathlib.Core.List.{List, [], _∷_, map}
 use native.Mathlib.Omega.{arith}
 use native.Mathlib.Decide.{ℕ-discrete}
-use lib.Dec.{eqb}
+use lib.Dec.{T, eqb, eqb→eq}
 use lib.ListN.{getD}
 use borrow.Author.Tests.{eq-eqb, ne-eqb}
 use Rattle.table.specs.Pick.{pick}
@@ -14,14 +15,16 @@ use Rattle.table.specs.Naming.{owner, chain, children, initial}
 use Rattle.rules.specs.State.{entry, register}
 use Rattle.rules.specs.Step.{Act, stuck, blocked, does, begins, turns, finishes, enters, leaves, restarts}
 use Rattle.rules.specs.Operations.{lastValue, operate}
-use Rattle.table.specs.Working.{Taken}
-use Rattle.table.specs.Working.{IsNode}
+use Rattle.table.specs.Check.{formed}
+use Rattle.table.specs.Working.{Taken, IsNode}
+use Rattle.table.proofs.FindLaws.{both}
+use Rattle.table.proofs.KindLaws.{leaf, parameter}
 use Rattle.rules.specs.Circuit.{actOf}
 use Rattle.circuit.specs.Meaning.{stateAs}
 use Rattle.circuit.proofs.OperationLaws.{operateBy}
 use Rattle.circuit.specs.Working.{allDone, leading, lastFrom, given, opens, passed, goes}
 use Rattle.circuit.proofs.ActBy.{open-is, busy-is, openBy, primBy, selfBy, callBy, branchBy, condBy, bindBy, busyBy}
-use Rattle.circuit.proofs.ChainLaws.{chain-end, chain-here, next-in, operate-by}
+use Rattle.circuit.proofs.ChainLaws.{ok, chain-end, chain-here, next-in, operate-by}
 
 module _ (status value : List ℕ) (r x : ℕ) (ex : x ≡ entry status 0 r) where
   pub pass-yes : (v : ℕ) → v ≡ entry value 0 r → x ≡ 3 → does (finishes v) ≡ passed status value r
@@ -175,6 +178,21 @@ module _ (t value registers : List ℕ) (n k : ℕ) (ek : k ≡ kind t n) where
     ne-eqb (kind t n) 2 (λ z. b (ek ∙ z)),
     ne-eqb (kind t n) 7 (λ z. c (ek ∙ z)),
   ) refl)
+
+-- a constant, a parameter and a bound have no children
+childless : (t : List ℕ) → Taken t → (n : ℕ) → IsNode t n → (kind t n ≡ 1) ⊎ ((kind t n ≡ 2) ⊎ (kind t n ≡ 7)) → first t n ≡ 0
+unfolding formed
+childless t fair n i c = go c (ok t fair .forms n i)
+  where
+    go : (kind t n ≡ 1) ⊎ ((kind t n ≡ 2) ⊎ (kind t n ≡ 7)) → T (formed t n) → first t n ≡ 0
+    go (inl p) h = eqb→eq _ 0 (both (eqb (extra t n) 0) _ (subst T (leaf _ (extra t n) (word t n) (first t n) (inl p)) h) .1)
+    go (inr (inl p)) h = eqb→eq _ 0 (both (eqb (word t n) 0) _ (subst T (parameter _ (extra t n) (word t n) (first t n) p) h) .1)
+    go (inr (inr p)) h = eqb→eq _ 0 (both (eqb (extra t n) 0) _ (subst T (leaf _ (extra t n) (word t n) (first t n) (inr p)) h) .1)
+
+pub open-parent : (t value registers : List ℕ) → Taken t → (n : ℕ) → IsNode t n → (first t n ≡ 0 → ⊥)
+    → does (begins (opens t n)) ≡ openBy t value registers n
+open-parent t value registers fair n i z = open-other t value registers n (kind t n) refl
+    (λ e. z (childless t fair n i (inl e))) (λ e. z (childless t fair n i (inr (inl e)))) (λ e. z (childless t fair n i (inr (inr e))))
 
 -- so a node acts, by its status and kind
 module _ (t : List ℕ) (fair : Taken t) (n : ℕ) (i : IsNode t n) (a : List ℕ) (b : List Bool) (c d e : List ℕ) (x : Act) where

@@ -1,5 +1,5 @@
 -- working definitions: what the parts of a step ask of each other, and the nodes of each function in a chain
-use Prim.Native.Nat.{ℕ, zero, suc, _+_, _-_, _≤_}
+use Prim.Native.Nat.{ℕ, zero, suc, _+_, _-_, _/_, _%_, _≤_}
 use mathlib.Core.Bool.{Bool, true, false, _&&_, _||_}
 use mathlib.Core.Path.{_≡_}
 use mathlib.Core.List.{List, [], _∷_, map}
@@ -31,10 +31,12 @@ unfoldable pub seek : (home : ℕ → ℕ) → (g k n : ℕ) → ℕ
 seek home g zero n = 0
 seek home g (suc k) n = pick (eqb (home (suc n)) g) (suc n) (seek home g k (suc n))
 
--- the nodes of each function in ascending order: the first of them, and after each the next
+-- the nodes of each function in ascending order: the first of them, after each the next, and 65536 times the one after that; 0 is none
 pub record Grouped (t heads links : List ℕ) : Type 0 where
+  pub none : getD links 0 0 ≡ 0
   pub first : (g : ℕ) → g ≤ 32 → getD heads g 0 ≡ seek (owner t) g (nodes t) 0
-  pub next : (n : ℕ) → 1 ≤ n → n ≤ nodes t → getD links n 0 ≡ seek (owner t) (owner t n) (nodes t - n) n
+  pub next : (n : ℕ) → 1 ≤ n → n ≤ nodes t → getD links n 0 % 65536 ≡ seek (owner t) (owner t n) (nodes t - n) n
+  pub skip : (n : ℕ) → 1 ≤ n → n ≤ nodes t → getD links n 0 / 65536 ≡ getD links (getD links n 0 % 65536) 0 % 65536
 
 -- all of these nodes are done
 unfoldable pub allDone : (status : ℕ → ℕ) → List ℕ → Bool

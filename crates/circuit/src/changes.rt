@@ -100,7 +100,7 @@ fn reset(
     cells: &Cells,
     grouped: bool,
     heads: &[u16; 33],
-    links: &[u16; 513],
+    links: &[u32; 513],
     status: &mut [u8; 512],
     second: &mut [bool; 512],
     value: &mut [u32; 512],
@@ -148,11 +148,6 @@ fn onward(table: &[u8], cells: &Cells, status: &[u8; 512], occupant: &[u16; 32],
     store::occupant_at(occupant, decoded::owner(cells, n))
 }
 
-// Where to look after node n has begun: its first child c, or itself.
-fn below(c: Node, n: Node) -> Node {
-    if c.0 == 0 { n } else { c }
-}
-
 // What came of a step that was tried: none, for a cause of its own or since the resource is occupied, or the move is made.
 pub enum Effect {
     Stuck,
@@ -161,6 +156,7 @@ pub enum Effect {
 }
 
 // Takes the step of an open node: a constant, a parameter or a bound is done, any other opens children. `on` gets where to look next.
+// Who has children has begun, whatever its kind: most open nodes are told by that test alone.
 pub(crate) fn take_open(
     table: &[u8],
     cells: &Cells,
@@ -177,6 +173,12 @@ pub(crate) fn take_open(
         (stateAs (now (status .entry)) (now (second .entry)) (now (value .entry)) (now (registers .entry)) e) (n .0)
         (stateAs (now (status .exit)) (now (second .exit)) (now (value .exit)) (now (registers .entry)) e)) ⌝ }
 {
+    let c = decoded::first(cells, n);
+    if c.0 != 0 {
+        begin(table, cells, status, n);
+        *on = c.0;
+        return;
+    }
     let kind = decoded::kind(cells, n);
     match kind {
         1 => {
@@ -198,9 +200,8 @@ pub(crate) fn take_open(
             *on = onward(table, cells, status, occupant, n).0;
         }
         _ => {
-            let c = decoded::first(cells, n);
             begin(table, cells, status, n);
-            *on = below(c, n).0;
+            *on = n.0;
         }
     }
 }
@@ -211,7 +212,7 @@ pub(crate) fn take_busy(
     cells: &Cells,
     grouped: bool,
     heads: &[u16; 33],
-    links: &[u16; 513],
+    links: &[u32; 513],
     status: &mut [u8; 512],
     second: &mut [bool; 512],
     value: &mut [u32; 512],

@@ -50,7 +50,7 @@ pub(crate) fn step(
         return Answer::Refused(24, Node(0));
     }
     let heads = [0u16; 33];
-    let links = [0u16; 513];
+    let links = [0u32; 513];
     turn::turn(
         table,
         cells,

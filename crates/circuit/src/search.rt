@@ -26,7 +26,7 @@ pub(crate) fn find(
         (now (registers .entry)) (now (occupant .entry))) (r .0) ⌝ }
 {
     let heads = [0u16; 33];
-    let links = [0u16; 513];
+    let links = [0u32; 513];
     let mut statuses = *status;
     let mut seconds = *second;
     let mut values = *value;

@@ -56,7 +56,7 @@ pub(crate) fn turn(
     tags: &[u8],
     grouped: bool,
     heads: &[u16; 33],
-    links: &[u16; 513],
+    links: &[u32; 513],
     status: &mut [u8; 512],
     second: &mut [bool; 512],
     value: &mut [u32; 512],

@@ -2,11 +2,11 @@
 use native.Mathlib.Omega.{arith}
 use mathlib.Core.Path.{_≡_, _∙_, sym}
 use Prim.Native.Nat.{_≤_}
-use Rattle.table.specs.Bytes.{kind}
+use Rattle.table.specs.Bytes.{kind, first}
 use Rattle.table.proofs.Reading.{told, told-word, told-low}
 use Rattle.circuit.proofs.ActBy.{own-in, bound-in}
 use Rattle.circuit.proofs.ChainLaws.{ok}
-use Rattle.circuit.proofs.PlanLaws.{acts-open, open-const, open-param, open-bound, open-other}
+use Rattle.circuit.proofs.PlanLaws.{acts-open, open-const, open-param, open-bound, open-other, open-parent}
 use Rattle.circuit.proofs.TakeLaws.{begun, finished}
 use borrow.Author.Needs.{needs}
 use Rattle.circuit.proofs.changes.take_open.Statement.{statement}
@@ -61,6 +61,11 @@ begin-requires c κs =
     let s : tie.Start = search in
     (s .pre .0, s .pre .1)
 
+begin-requires-2 : tie.Need-begin-requires-2
+begin-requires-2 c κs =
+    let s : tie.Start = search in
+    (s .pre .0, s .pre .1)
+
 onward-requires : tie.Need-onward-requires
 onward-requires c κs =
     let s : tie.Start = search in
@@ -79,9 +84,6 @@ onward-requires-3 c κs =
 first-requires : tie.Need-first-requires
 first-requires c κs = search needs
 
-below-requires : tie.Need-below-requires
-below-requires c κs = search needs
-
 definiens-requires : tie.Need-definiens-requires
 definiens-requires c κs = search needs
 
@@ -95,8 +97,21 @@ value-at-requires c κs =
     let n = ok _ (p .0 .taken) .N-high in
     omega (arith, told-low _ _ (p .0) _ (p .1) (omega (arith, i .1, n)) _ (d .definiens .ensures), i .1, n)
 
+-- with children
 returns : tie.Need-returns
 returns c =
+    let begun-now : tie.After-begin = search in
+    let f : tie.After-first = search in
+    let there : tie.Then1 = search in
+    let s : tie.Start = search in
+    let p = s .pre in
+    let some : first (s .args .table .now) (s .args .n .0) ≡ 0 → ⊥ =
+    λ z. there .if1 .taken (told _ _ (p .0) _ (p .1) 4 _ (omega arith) (f .first .ensures) ∙ z) in
+    λ e. begun _ (p .0 .taken) _ (p .1) _ _ _ _ e (acts-open _ (p .0 .taken) _ (p .1) _ _ _ _ e _ (p .2)
+    (open-parent _ _ _ (p .0 .taken) _ (p .1) some)) _ (begun-now .begin .ensures)
+
+returns-2 : tie.Need-returns-2
+returns-2 c =
     let x : tie.After-word = search in
     let k : tie.At-match-keys1 = search in
     let s : tie.Start = search in
@@ -107,8 +122,8 @@ returns c =
     (acts-open _ (p .0 .taken) _ (p .1) _ _ _ _ e _ (p .2) (open-const _ _ _ _ _ (kinded (search)) (k .match .keys1) _
     (told-word _ _ (p .0) _ (p .1) _ (x .word .ensures))))
 
-returns-2 : tie.Need-returns-2
-returns-2 c =
+returns-3 : tie.Need-returns-3
+returns-3 c =
     let r : tie.After-register-at = search in
     let x : tie.After-extra = search in
     let o : tie.After-owner = search in
@@ -122,8 +137,8 @@ returns-2 c =
     (told _ _ (p .0) _ (p .1) 1 _ (omega arith) (x .extra .ensures)) (told _ _ (p .0) _ (p .1) 6 _ (omega arith) (o .owner .ensures))
     (r .register-at .ensures)))
 
-returns-3 : tie.Need-returns-3
-returns-3 c =
+returns-4 : tie.Need-returns-4
+returns-4 c =
     let v : tie.After-value-at = search in
     let d : tie.After-definiens = search in
     let k : tie.At-match-keys3 = search in
@@ -136,20 +151,23 @@ returns-3 c =
     (acts-open _ (p .0 .taken) _ (p .1) _ _ _ _ e _ (p .2) (open-bound _ _ _ _ _ (kinded (search)) (k .match .keys3) _ _
     (told-low _ _ (p .0) _ (p .1) (omega (arith, i .1, ok _ (p .0 .taken) .N-high)) _ (d .definiens .ensures)) (v .value-at .ensures)))
 
-returns-4 : tie.Need-returns-4
-returns-4 c =
-    let begun-now : tie.After-begin = search in
+returns-5 : tie.Need-returns-5
+returns-5 c =
+    let begun-now : tie.After-begin2 = search in
     let k : tie.At-match-rest = search in
     let s : tie.Start = search in
     let p = s .pre in
     λ e. begun _ (p .0 .taken) _ (p .1) _ _ _ _ e (acts-open _ (p .0 .taken) _ (p .1) _ _ _ _ e _ (p .2)
     (open-other _ _ _ _ _ (kinded (search)) (k .match .rest .0 .0 .1) (k .match .rest .0 .1) (k .match .rest .1))) _
-    (begun-now .begin .ensures)
+    (begun-now .begin2 .ensures)
 
 pub take-open-spec : {M : Type 1} → statement M
 take-open-spec =
     tie.close
     (tie.spec
+    first-requires
+    begin-requires
+    returns
     kind-requires
     word-requires
     finish-requires
@@ -163,10 +181,8 @@ take-open-spec =
     value-at-requires
     finish-requires-3
     onward-requires-3
-    first-requires
-    begin-requires
-    below-requires
-    returns
+    begin-requires-2
     returns-2
     returns-3
-    returns-4)
+    returns-4
+    returns-5)
