@@ -31,12 +31,16 @@ unfoldable pub seek : (home : ℕ → ℕ) → (g k n : ℕ) → ℕ
 seek home g zero n = 0
 seek home g (suc k) n = pick (eqb (home (suc n)) g) (suc n) (seek home g k (suc n))
 
--- the nodes of each function in ascending order: the first of them, after each the next, and 65536 times the one after that; 0 is none
+-- the one after node m of function g; none after none
+unfoldable pub after : List ℕ → (g m : ℕ) → ℕ
+after t g m = pick (eqb m 0) 0 (seek (owner t) g (nodes t - m) m)
+
+-- the nodes of each function in ascending order: the first of them and 65536 times the second, and by node the next but one; 0 is none
 pub record Grouped (t heads links : List ℕ) : Type 0 where
   pub none : getD links 0 0 ≡ 0
-  pub first : (g : ℕ) → g ≤ 32 → getD heads g 0 ≡ seek (owner t) g (nodes t) 0
-  pub next : (n : ℕ) → 1 ≤ n → n ≤ nodes t → getD links n 0 % 65536 ≡ seek (owner t) (owner t n) (nodes t - n) n
-  pub skip : (n : ℕ) → 1 ≤ n → n ≤ nodes t → getD links n 0 / 65536 ≡ getD links (getD links n 0 % 65536) 0 % 65536
+  pub first : (g : ℕ) → g ≤ 32 → getD heads g 0 % 65536 ≡ seek (owner t) g (nodes t) 0
+  pub second : (g : ℕ) → g ≤ 32 → getD heads g 0 / 65536 ≡ after t g (seek (owner t) g (nodes t) 0)
+  pub skip : (n : ℕ) → 1 ≤ n → n ≤ nodes t → getD links n 0 ≡ after t (owner t n) (after t (owner t n) n)
 
 -- all of these nodes are done
 unfoldable pub allDone : (status : ℕ → ℕ) → List ℕ → Bool

@@ -49,8 +49,8 @@ pub(crate) fn step(
     if standing::strays(table, cells, status, occupant) {
         return Answer::Refused(24, Node(0));
     }
-    let heads = [0u16; 33];
-    let links = [0u32; 513];
+    let heads = [0u32; 33];
+    let links = [0u16; 513];
     turn::turn(
         table,
         cells,

@@ -25,8 +25,8 @@ pub(crate) fn find(
     ensures { λ r. ⌜ FoundAt (now (table .entry)) (stateAs (now (status .entry)) (now (second .entry)) (now (value .entry))
         (now (registers .entry)) (now (occupant .entry))) (r .0) ⌝ }
 {
-    let heads = [0u16; 33];
-    let links = [0u32; 513];
+    let heads = [0u32; 33];
+    let links = [0u16; 513];
     let mut statuses = *status;
     let mut seconds = *second;
     let mut values = *value;
