@@ -6,7 +6,7 @@ use mathlib.Core.List.{List, [], _∷_, map}
 use lib.Dec.{eqb}
 use lib.ListN.{getD, length}
 use Rattle.table.specs.Pick.{pick}
-use Rattle.table.specs.Bytes.{functions, nodes, root, kind, first, next}
+use Rattle.table.specs.Bytes.{functions, nodes, root, kind, first}
 use Rattle.table.specs.Naming.{owner, children, initial}
 use Rattle.table.specs.Check.{accepted}
 use Rattle.table.specs.Expressions.{bodyOf}
