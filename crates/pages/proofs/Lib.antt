@@ -1,0 +1,9 @@
+pub mod OverLaws
+pub mod LineLaws
+pub mod RowLaws
+pub mod RowTexts
+pub mod PageLaws
+pub mod StandsLaws
+pub mod BoundLaws
+pub mod FoundLaws
+pub mod SheetLaws

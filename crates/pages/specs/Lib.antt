@@ -1,0 +1,5 @@
+pub mod Rows
+pub mod Lines
+pub mod Sheet
+pub mod Layout
+pub mod Working
