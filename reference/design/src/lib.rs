@@ -14,6 +14,7 @@ pub mod list;
 mod maker;
 pub mod random;
 pub mod reading;
+pub mod sheet;
 pub mod states;
 pub mod table;
 pub mod towers;
