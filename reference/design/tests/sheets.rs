@@ -16,7 +16,7 @@ fn list(counts: &[usize]) -> Vec<Record> {
 
 fn lines(list: &[Record]) -> Vec<String> {
     let text = String::from_utf8(sheet(list)).expect("a text");
-    assert!(text.len() % PAGE_BYTES == 0 && text.ends_with('\n'));
+    assert!(text.len().is_multiple_of(PAGE_BYTES) && text.ends_with('\n'));
     text.lines().map(str::to_string).collect()
 }
 
