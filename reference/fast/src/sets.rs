@@ -10,7 +10,7 @@ use crate::{first, next, Parts};
 const WORDS: usize = MOST_NODES / 64;
 
 /// Call nodes, node n at bit n - 1.
-type Calls = [u64; WORDS];
+pub(crate) type Calls = [u64; WORDS];
 
 /// Functions, f at bit f - 1.
 type Functions = u32;
@@ -34,11 +34,16 @@ pub fn list_by_sets(table: &[u8], tags: &mut [u8; 64]) -> u32 {
     if refused != 0 {
         return refused;
     }
-    let listed = Walk::all_bodies(Parts::of(table));
+    let listed = calls_of(Parts::of(table));
     for (bytes, word) in tags.chunks_exact_mut(8).zip(listed) {
         bytes.copy_from_slice(&word.to_le_bytes());
     }
     0
+}
+
+/// The listed calls of an accepted table.
+pub(crate) fn calls_of(parts: Parts) -> Calls {
+    Walk::all_bodies(parts)
 }
 
 struct Walk<'a> {
