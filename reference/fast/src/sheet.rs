@@ -1,10 +1,10 @@
-//! The arbiter sheet: the listed calls in a chain for each callee, and pages that are copied whole before calls are
-//! written onto them.
+//! The arbiter sheet: the sets that the list is made with have the calls of each callee in order, and a page is copied
+//! whole before calls are written onto it.
 
-use numbers::{LINE_CHARACTERS, MOST_FUNCTIONS, MOST_NODES, PAGE_LINES, SHEET_BYTES};
+use numbers::{LINE_CHARACTERS, MOST_NODES, PAGE_LINES, SHEET_BYTES};
 
 use crate::check::{survey, Survey};
-use crate::sets::{calls_of, Calls};
+use crate::sets::Walk;
 use crate::Parts;
 
 type Line = [u8; LINE_CHARACTERS + 1];
@@ -47,50 +47,31 @@ pub fn sheet(table: &[u8], text: &mut [u8; SHEET_BYTES]) -> u64 {
         return 2 << 32 | u64::from(refused);
     }
     let parts = Parts::of(table);
-    let chains = Chains::of(&parts, &calls_of(parts));
+    let mut walk = Walk::new(parts);
+    walk.all_bodies();
     let mut pages = Pages { lines: text.as_chunks_mut().0, at: 0, end: 0 };
     pages.turn();
-    for callee in 1..=parts.functions() {
-        let mut node = usize::from(chains.first[callee]);
-        if node == 0 {
+    // Nobody else calls main.
+    for callee in 1..parts.functions() {
+        let calls: [u64; MOST_NODES / 64] = std::array::from_fn(|at| walk.listed[at] & walk.sites[callee][at]);
+        if calls.iter().fold(0, |all, word| all | word) == 0 {
             continue;
         }
         pages.begin_resource();
-        while node != 0 {
-            pages.call(callee, known.above[node].owner().into(), node);
-            node = chains.next[node].into();
+        for (begin, mut calls) in (1..).step_by(64).zip(calls) {
+            while calls != 0 {
+                let node = begin + calls.trailing_zeros() as usize;
+                pages.call(callee, known.above[node].owner().into(), node);
+                calls &= calls - 1;
+            }
         }
     }
     1 << 32 | (pages.end * size_of::<Line>()) as u64
 }
 
-/// The listed calls of each callee by rising node; 0 ends a chain.
-struct Chains {
-    first: [u16; MOST_FUNCTIONS + 1],
-    next: [u16; MOST_NODES + 1],
-}
-
-impl Chains {
-    fn of(parts: &Parts, listed: &Calls) -> Chains {
-        let mut chains = Chains { first: [0; MOST_FUNCTIONS + 1], next: [0; MOST_NODES + 1] };
-        // From the last node on, so that each call comes before those of its callee so far.
-        for (at, mut left) in listed.iter().copied().enumerate().rev() {
-            while left != 0 {
-                let bit = left.ilog2() as usize;
-                let node = 64 * at + bit + 1;
-                let first = &mut chains.first[usize::from(parts.record(node)[2])];
-                chains.next[node] = *first;
-                *first = node as u16;
-                left ^= 1 << bit;
-            }
-        }
-        chains
-    }
-}
-
 struct Pages<'a> {
     lines: &'a mut [Line],
-    /// The next line, and the line after the page.
+    /// The next call's line, and the line after the page.
     at: usize,
     end: usize,
 }
@@ -105,9 +86,10 @@ impl Pages<'_> {
         self.end += PAGE_LINES;
     }
 
-    /// Leaves a line of spaces, but not after a title. Where it ends the page, the next call turns it.
+    /// Leaves a line of spaces, but not after a title. Where that is the page's last, the call turns to the next.
     fn begin_resource(&mut self) {
-        if self.at + PAGE_LINES != self.end + 1 && self.at != self.end {
+        let is_after_title = self.at + PAGE_LINES == self.end + 1;
+        if !is_after_title && self.at < self.end {
             self.at += 1;
         }
     }
