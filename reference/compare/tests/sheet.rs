@@ -5,7 +5,7 @@ mod refusals;
 
 use compare::sheet_fill;
 use design::asm::assemble;
-use design::difference::{ensure, shown, Outcome};
+use design::difference::{ensure, shown, unrefused, Outcome};
 use design::examples;
 use design::list::records;
 use design::listings::{longest, SheetTables};
@@ -50,9 +50,11 @@ fn fill(seen: &mut Seen, bytes: &[u8], before: Vec<u8>) -> Outcome {
     let text = (&mut found[lent]).try_into().map_err(|_| "a text of another length")?;
     let said = sheet_fill(bytes, text);
     ensure(said == answer, || format!("found {said:#x}, wanted {answer:#x}: {}", shown(bytes)))?;
-    let other = found.iter().zip(&wanted).position(|(found, wanted)| found != wanted);
-    let at = |place: usize| format!("byte {} of the text is {:#04x}", place as isize - GUARD as isize, found[place]);
-    ensure(other.is_none(), || format!("{}: {}", other.map_or_else(String::new, at), shown(bytes)))?;
+    for (at, (found, wanted)) in found.iter().zip(&wanted).enumerate() {
+        let index = || at as isize - GUARD as isize;
+        let with = || format!("byte {}: found {found:#04x}, wanted {wanted:#04x}: {}", index(), shown(bytes));
+        ensure(found == wanted, with)?;
+    }
     match tree {
         Ok(tree) => {
             seen.refusals.note(0);
@@ -78,10 +80,10 @@ fn agree(seen: &mut Seen, random: &mut Random, bytes: &[u8]) -> Outcome {
 fn all_kinds_of_tables() -> Outcome {
     let (mut seen, mut random) = (Seen::default(), Random::new(401));
     SheetTables::new(402).take(TABLES).try_for_each(|bytes| agree(&mut seen, &mut random, &bytes))?;
-    seen.kinds.often(40)?;
-    seen.refusals.often(9_000, 30)?;
+    seen.kinds.often(60)?;
+    seen.refusals.often(10_000, 100)?;
     println!("{} with a call off the list", seen.off_the_list);
-    ensure(seen.off_the_list >= 2_000, || format!("{} with a call off the list", seen.off_the_list))
+    ensure(seen.off_the_list >= 2_500, || format!("{} with a call off the list", seen.off_the_list))
 }
 
 /// The longest lists, whatever was in the text before.
@@ -129,6 +131,28 @@ fn examples_and_inputs_of_any_length() -> Outcome {
         for bytes in [vec![0; length], vec![1; length], vec![0xff; length], repeated] {
             agree(&mut seen, &mut random, &bytes)?;
         }
+    }
+    Ok(())
+}
+
+/// A sheet with any byte changed, or with a page too many or too few, is seen to be wrong without the reference's own.
+#[test]
+fn wrong_sheets_are_seen() -> Outcome {
+    let bytes = std::fs::read(examples::folder().join("pages.table")).map_err(|error| error.to_string())?;
+    let list = records(&unrefused(Tree::read(&bytes), &bytes)?);
+    let text = sheet(&list);
+    pages::in_order(&text, &list)?;
+    for at in 0..text.len() {
+        for byte in [b' ', b'\n', b'0', b'2', b'E', 0xff] {
+            let mut changed = text.clone();
+            changed[at] = byte;
+            let is_wrong = pages::in_order(&changed, &list).is_err();
+            ensure(is_wrong == (byte != text[at]), || format!("byte {at} changed to {byte:#04x}"))?;
+        }
+    }
+    let longer = [&text[..], &sheet(&[])].concat();
+    for other in [&text[..0], &text[..text.len() - PAGE_BYTES], &text[PAGE_BYTES..], &longer] {
+        ensure(pages::in_order(other, &list).is_err(), || format!("{} bytes", other.len()))?;
     }
     Ok(())
 }
