@@ -1,4 +1,4 @@
-//! Times of the proved code beside the fast baseline, both in one run: the check, the list, the run on a
+//! Times of the proved code beside the fast baseline, both in one run: the check, the list, the sheet, the run on a
 //! budget, one step and one start.
 
 mod check;
@@ -7,6 +7,7 @@ mod list;
 mod measure;
 mod ratios;
 mod run;
+mod sheet;
 mod step;
 
 fn main() {
@@ -14,6 +15,8 @@ fn main() {
     check::section(&mut ratios);
     println!();
     list::section(&mut ratios);
+    println!();
+    sheet::section(&mut ratios);
     println!();
     run::section(&mut ratios);
     println!();

@@ -1,5 +1,7 @@
 //! The proved code as other programs see it. A refusal is its number times 65536 plus its place.
 
+use numbers::SHEET_BYTES;
+
 mod raw {
     extern "C" {
         pub fn table_check(table: *const u8, len: usize) -> u32;
@@ -8,6 +10,7 @@ mod raw {
         pub fn list_total(tags: *const u8, len: usize) -> u64;
         pub fn list_record(table: *const u8, len: usize, index: usize) -> u64;
         pub fn list_fill_records(table: *const u8, len: usize, records: *mut super::Record, records_len: usize) -> u32;
+        pub fn sheet_fill(table: *const u8, len: usize, text: *mut u8) -> u64;
     }
 }
 
@@ -58,4 +61,10 @@ pub fn list_record(table: &[u8], index: usize) -> u64 {
 pub fn list_fill_records(table: &[u8], records: &mut [Record]) -> u32 {
     // The library writes to the records alone, and within the number it is told.
     unsafe { raw::list_fill_records(table.as_ptr(), table.len(), records.as_mut_ptr(), records.len()) }
+}
+
+/// 2^32 + the bytes of the sheet, which is then at the front of the text; or 2 * 2^32 + refusal and the text as it was.
+pub fn sheet_fill(table: &[u8], text: &mut [u8; SHEET_BYTES]) -> u64 {
+    // The library reads within the length it is told, and writes to the text alone, whose length it knows.
+    unsafe { raw::sheet_fill(table.as_ptr(), table.len(), text.as_mut_ptr()) }
 }

@@ -1,7 +1,8 @@
 //! The list program as it is used: a table through standard input, and what it prints, byte for byte.
 
-use std::io::{ErrorKind, Read, Write};
-use std::path::{Path, PathBuf};
+mod running;
+
+use std::io::Read;
 use std::process::{Command, Stdio};
 
 use design::asm::assemble;
@@ -12,48 +13,15 @@ use design::generator::{accepted, accepted_of, accepted_sharing};
 use design::list::program;
 use design::random::Random;
 use design::towers::{any_comb, any_deep, any_tower, deep_beside, tower_beside};
+use running::{binary, folder, printed};
+
+const PROGRAM: &str = "arbiters";
 
 /// The longest table has 32 functions and 512 nodes.
 const LONGEST: usize = 4 + 4 * 32 + 10 * 512;
 
-fn folder(name: &str) -> PathBuf {
-    Path::new(env!("CARGO_MANIFEST_DIR")).join("../..").join(name)
-}
-
-fn binary() -> Result<PathBuf, String> {
-    let binary = folder("target/bin/arbiters");
-    let missing = || format!("{} is missing: build the list program before this test", binary.display());
-    ensure(binary.is_file(), missing)?;
-    Ok(binary)
-}
-
-/// Runs the program on an input that comes in pieces of this size, and returns what it printed.
-fn printed(input: &[u8], piece: usize) -> Result<Vec<u8>, String> {
-    let said = |error: std::io::Error| error.to_string();
-    let mut child = Command::new(binary()?)
-        .stdin(Stdio::piped())
-        .stdout(Stdio::piped())
-        .stderr(Stdio::piped())
-        .spawn()
-        .map_err(said)?;
-    let mut stdin = child.stdin.take().ok_or("no standard input")?;
-    for part in input.chunks(piece) {
-        match stdin.write_all(part).and_then(|()| stdin.flush()) {
-            Ok(()) => {}
-            // It may have seen enough of an input that is too long.
-            Err(error) if error.kind() == ErrorKind::BrokenPipe => break,
-            Err(error) => return Err(said(error)),
-        }
-    }
-    drop(stdin);
-    let output = child.wait_with_output().map_err(said)?;
-    let broken = || format!("it was stopped, {}: {}", output.status, String::from_utf8_lossy(&output.stderr));
-    ensure(output.status.success(), broken)?;
-    Ok(output.stdout)
-}
-
 fn agree_in_pieces(input: &[u8], piece: usize) -> Outcome {
-    let (found, wanted) = (printed(input, piece)?, program(input));
+    let (found, wanted) = (printed(PROGRAM, input, piece)?, program(input));
     ensure(found == wanted.as_bytes(), || {
         let found = String::from_utf8_lossy(&found).into_owned();
         format!(
@@ -72,10 +40,10 @@ fn agree(input: &[u8]) -> Outcome {
 fn the_text_of_the_rules() -> Outcome {
     let text = "fun f(x) = x  fun g(x) = f(x)  fun main(x) = beside(g(x), g(x))";
     let bytes = assemble(text).map_err(|error| format!("{error:?}"))?;
-    let found = printed(&bytes, usize::MAX)?;
+    let found = printed(PROGRAM, &bytes, usize::MAX)?;
     let wanted = "design 3 8\narbiter 1 2 2\narbiter 2 3 5\narbiter 2 3 7\ntotal 3\n";
     ensure(found == wanted.as_bytes(), || String::from_utf8_lossy(&found).into_owned())?;
-    let found = printed(&[0; 4], usize::MAX)?;
+    let found = printed(PROGRAM, &[0; 4], usize::MAX)?;
     ensure(found == b"refused 2 0\n", || String::from_utf8_lossy(&found).into_owned())
 }
 
@@ -161,8 +129,11 @@ fn from_a_file() -> Outcome {
     let input = std::fs::read(&path).map_err(|error| error.to_string())?;
     for _ in 0..2 {
         let file = std::fs::File::open(&path).map_err(|error| error.to_string())?;
-        let mut child =
-            Command::new(binary()?).stdin(file).stdout(Stdio::piped()).spawn().map_err(|error| error.to_string())?;
+        let mut child = Command::new(binary(PROGRAM)?)
+            .stdin(file)
+            .stdout(Stdio::piped())
+            .spawn()
+            .map_err(|error| error.to_string())?;
         let mut text = String::new();
         child.stdout.take().ok_or("no output")?.read_to_string(&mut text).map_err(|error| error.to_string())?;
         let status = child.wait().map_err(|error| error.to_string())?;

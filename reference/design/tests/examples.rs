@@ -6,11 +6,12 @@ use std::fs;
 use design::asm::assemble;
 use design::examples::folder;
 use design::list::program;
+use design::sheet::sheet_of;
 use design::{check, Node, Refusal, Table};
 
 const OUT_OF_TAIL: Result<(), Refusal> = Err(Refusal { number: 9, place: Node(2) });
 
-const EXPECTED: [(&str, Result<(), Refusal>, &str); 9] = [
+const EXPECTED: [(&str, Result<(), Refusal>, &str); 10] = [
     ("twice", Ok(()), "design 2 4\ntotal 0\n"),
     ("beside", Ok(()), "design 2 6\narbiter 1 2 3\narbiter 1 2 5\ntotal 2\n"),
     ("main_beside", Ok(()), "design 3 8\narbiter 1 2 2\narbiter 2 3 5\narbiter 2 3 7\ntotal 3\n"),
@@ -20,7 +21,21 @@ const EXPECTED: [(&str, Result<(), Refusal>, &str); 9] = [
     ("limits", Ok(()), "design 32 512\ntotal 0\n"),
     ("eight_parameters", Ok(()), "design 2 18\ntotal 0\n"),
     ("no_argument", Ok(()), "design 2 2\ntotal 0\n"),
+    ("pages", Ok(()), PAGES),
 ];
+
+const PAGES: &str = "\
+    design 4 140\narbiter 1 2 6\narbiter 1 2 8\narbiter 1 4 20\narbiter 1 4 22\narbiter 1 4 24\narbiter 1 4 26\n\
+    arbiter 1 4 28\narbiter 1 4 30\narbiter 1 4 32\narbiter 1 4 34\narbiter 1 4 37\narbiter 1 4 39\narbiter 1 4 41\n\
+    arbiter 1 4 43\narbiter 1 4 45\narbiter 1 4 47\narbiter 1 4 49\narbiter 1 4 51\narbiter 1 4 54\narbiter 1 4 56\n\
+    arbiter 1 4 58\narbiter 1 4 60\narbiter 2 4 63\narbiter 2 4 65\narbiter 2 4 67\narbiter 2 4 69\narbiter 2 4 71\n\
+    arbiter 2 4 73\narbiter 2 4 75\narbiter 2 4 78\narbiter 2 4 80\narbiter 2 4 82\narbiter 2 4 84\narbiter 2 4 86\n\
+    arbiter 2 4 88\narbiter 2 4 90\narbiter 2 4 95\narbiter 2 4 97\narbiter 2 4 100\narbiter 2 4 102\n\
+    arbiter 2 4 106\narbiter 2 4 108\narbiter 2 4 111\narbiter 2 4 113\narbiter 2 4 118\narbiter 2 4 120\n\
+    arbiter 2 4 123\narbiter 2 4 125\narbiter 2 4 129\narbiter 2 4 131\narbiter 2 4 134\narbiter 2 4 136\n\
+    arbiter 3 4 92\narbiter 3 4 93\narbiter 3 4 94\narbiter 3 4 99\narbiter 3 4 104\narbiter 3 4 105\n\
+    arbiter 3 4 110\narbiter 3 4 115\narbiter 3 4 116\narbiter 3 4 117\narbiter 3 4 122\narbiter 3 4 127\n\
+    arbiter 3 4 128\narbiter 3 4 133\ntotal 66\n";
 
 #[test]
 fn tables_are_what_their_texts_assemble_to() {
@@ -56,4 +71,31 @@ fn the_limits_are_the_limits() {
     let bytes = fs::read(folder().join("eight_parameters.table")).expect("eight_parameters");
     let table = Table::new(&bytes);
     assert!(table.functions().all(|function| table.parameter_count(function) == 8));
+}
+
+/// The sheet of the example that has pages: where each resource begins and ends.
+#[test]
+fn the_pages_of_a_sheet() {
+    let bytes = fs::read(folder().join("pages.table")).expect("pages");
+    let text = String::from_utf8(sheet_of(&bytes).expect("an accepted table")).expect("a text");
+    let lines: Vec<&str> = text.lines().collect();
+    assert_eq!(lines.len(), 3 * 24);
+    for (page, line, wanted) in [
+        (1, 1, " RES    CALL    NODE  PAGE     1"),
+        (1, 2, "   1       2       6            "),
+        (1, 23, "   1       4      60            "),
+        (1, 24, "                                "),
+        (2, 1, " RES    CALL    NODE  PAGE     2"),
+        (2, 2, "   2       4      63            "),
+        (2, 24, "   2       4     118            "),
+        (3, 1, " RES    CALL    NODE  PAGE     3"),
+        (3, 2, "   2       4     120            "),
+        (3, 8, "   2       4     136            "),
+        (3, 9, "                                "),
+        (3, 10, "   3       4      92            "),
+        (3, 23, "   3       4     133            "),
+        (3, 24, "                                "),
+    ] {
+        assert_eq!(lines[24 * (page - 1) + line - 1], wanted, "page {page}, line {line}");
+    }
 }

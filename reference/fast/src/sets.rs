@@ -34,14 +34,15 @@ pub fn list_by_sets(table: &[u8], tags: &mut [u8; 64]) -> u32 {
     if refused != 0 {
         return refused;
     }
-    let listed = Walk::all_bodies(Parts::of(table));
-    for (bytes, word) in tags.chunks_exact_mut(8).zip(listed) {
+    let mut walk = Walk::new(Parts::of(table));
+    walk.all_bodies();
+    for (bytes, word) in tags.chunks_exact_mut(8).zip(walk.listed) {
         bytes.copy_from_slice(&word.to_le_bytes());
     }
     0
 }
 
-struct Walk<'a> {
+pub(crate) struct Walk<'a> {
     parts: Parts<'a>,
     /// The function whose body is walked.
     function: usize,
@@ -49,28 +50,31 @@ struct Walk<'a> {
     bodies: [Calls; MOST_FUNCTIONS + 1],
     callees: [Functions; MOST_FUNCTIONS + 1],
     /// Of each function the calls of it that were met, no self calls.
-    sites: [Calls; MOST_FUNCTIONS + 1],
-    listed: Calls,
+    pub sites: [Calls; MOST_FUNCTIONS + 1],
+    pub listed: Calls,
 }
 
-impl Walk<'_> {
-    fn all_bodies(parts: Parts) -> Calls {
-        let mut walk = Walk {
+impl<'a> Walk<'a> {
+    pub fn new(parts: Parts<'a>) -> Walk<'a> {
+        Walk {
             parts,
             function: 0,
             bodies: [NO_CALLS; MOST_FUNCTIONS + 1],
             callees: [0; MOST_FUNCTIONS + 1],
             sites: [NO_CALLS; MOST_FUNCTIONS + 1],
             listed: NO_CALLS,
-        };
-        // A callee comes before its callers.
-        for function in 1..=parts.functions() {
-            walk.function = function;
-            let mut calls = NO_CALLS;
-            walk.callees[function] = walk.node(parts.root(function), &mut calls);
-            walk.bodies[function] = calls;
         }
-        walk.listed
+    }
+
+    /// Walks them in place: a walk returned from here would be copied.
+    pub fn all_bodies(&mut self) {
+        // A callee comes before its callers.
+        for function in 1..=self.parts.functions() {
+            self.function = function;
+            let mut calls = NO_CALLS;
+            self.callees[function] = self.node(self.parts.root(function), &mut calls);
+            self.bodies[function] = calls;
+        }
     }
 
     /// Adds the calls that may happen at or below a node; returns their callees. What comes last in a node is walked in

@@ -1,4 +1,5 @@
-//! The numbers that document 01 gives to its limits, kinds, operations and statuses. They stand here alone.
+//! The numbers that document 01 gives to its limits, kinds, operations and statuses, and document 02 to the sheet's
+//! pages. They stand here alone.
 
 // Limits.
 pub const MOST_FUNCTIONS: usize = 32;
@@ -32,3 +33,12 @@ pub const IDLE: u8 = 0;
 pub const OPEN: u8 = 1;
 pub const BUSY: u8 = 2;
 pub const DONE: u8 = 3;
+
+// Pages of the arbiter sheet: lines of a page, and characters of a line before its line feed.
+pub const PAGE_LINES: usize = 24;
+pub const LINE_CHARACTERS: usize = 32;
+pub const PAGE_BYTES: usize = PAGE_LINES * (LINE_CHARACTERS + 1);
+
+/// The pages of the longest sheet: 510 calls and 30 lines of spaces between 31 resources, 23 of them to a page.
+pub const MOST_PAGES: usize = 24;
+pub const SHEET_BYTES: usize = MOST_PAGES * PAGE_BYTES;
