@@ -7,9 +7,10 @@ use Rattle.rules.specs.Runs.{Halt, whole, stopped, Ended, gave, atRest, spent, 
 use Rattle.table.specs.Check.{Verdict, accepted, refused}
 use Rattle.list.specs.declared.Record.{Record}
 use Rattle.rules.specs.Circuit.{Started, started, turned}
-use Rattle.exports.specs.Codes.{codeOf, refusalCode, recordCode, Item, item, past, unlisted, itemCode}
+use Rattle.exports.specs.Codes.{codeOf, refusalCode, recordCode, Item, item, past, unlisted, itemCode, Extent, bytes, unprinted, extentCode}
 use Rattle.exports.specs.Answers.{startCode, replyCode, foundCode, haltCode, endedCode}
-use Rattle.exports.specs.Numbers.{Refusable, FitsVerdict, FitsItem, FitsReply, FitsFound, FitsHalt, FitsEnded, bare, verdictOfStart}
+use Rattle.exports.specs.Numbers.{Refusable, FitsVerdict, FitsItem, FitsExtent, FitsReply, FitsFound, FitsHalt, FitsEnded}
+use Rattle.exports.specs.Numbers.{bare, verdictOfStart}
 
 same-refusal : {A : Type 0} (f : ℕ → ℕ → A) (k p k′ p′ : ℕ) → Refusable k p → Refusable k′ p′ → refusalCode k p ≡ refusalCode k′ p′
     → f k p ≡ f k′ p′
@@ -54,6 +55,12 @@ items-apart past (unlisted k p) b b′ e = absurd (omega (arith, e))
 items-apart (unlisted k p) (item r) b b′ e = absurd (omega (arith, e, b′ .0, b′ .1, b′ .2))
 items-apart (unlisted k p) past b b′ e = absurd (omega (arith, e))
 items-apart (unlisted k p) (unlisted k′ p′) b b′ e = same-refusal unlisted k p k′ p′ b b′ e
+
+pub extents-apart : (a b : Extent) → FitsExtent a → FitsExtent b → extentCode a ≡ extentCode b → a ≡ b
+extents-apart (bytes n) (bytes m) b b′ e = ap bytes (omega (arith, e))
+extents-apart (bytes n) (unprinted k p) b b′ e = absurd (omega (arith, e, b))
+extents-apart (unprinted k p) (bytes n) b b′ e = absurd (omega (arith, e, b′))
+extents-apart (unprinted k p) (unprinted k′ p′) b b′ e = same-refusal unprinted k p k′ p′ b b′ e
 
 pub replies-apart : (r r′ : Reply) → FitsReply r → FitsReply r′ → replyCode r ≡ replyCode r′ → r ≡ r′
 replies-apart taken taken b b′ e = refl

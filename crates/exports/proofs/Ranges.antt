@@ -1,11 +1,12 @@
 -- every answer fits its number: refusals by the checks that make them, records of an accepted table, values of a state of words
-use Prim.Native.Nat.{ℕ, zero, suc, _≤_}
+use Prim.Native.Nat.{ℕ, zero, suc, _≤_, _<_}
 use mathlib.Core.Bool.{Bool, true, false, _&&_}
-use mathlib.Core.Path.{_≡_, refl, sym}
+use mathlib.Core.Path.{_≡_, refl, sym, subst}
 use mathlib.Core.List.{List, [], _∷_, _++_}
 use native.Mathlib.Omega.{arith}
 use lib.Dec.{T, eqb, ltb, leb, leb→le}
-use lib.ListN.{length, getD}
+use native.Mathlib.Decide.{decLt}
+use lib.ListN.{length, getD, List·getD-eq-default}
 use Rattle.table.specs.Pick.{pick}
 use Rattle.table.specs.Bytes.{functions, nodes}
 use Rattle.table.specs.Find.{lowest}
@@ -19,8 +20,11 @@ use Rattle.list.specs.Records.{noRecord, recordAt, callsFrom, recordsFrom, reco
 use Rattle.list.proofs.NodeLaws.{few}
 use Rattle.list.proofs.TagFacts.{listed-call}
 use Rattle.list.proofs.CallLaws.{listed-called}
-use Rattle.exports.specs.Codes.{item, past, itemAfter, itemOf}
-use Rattle.exports.specs.Numbers.{Refusable, FitsVerdict, FitsItem}
+use Rattle.list.proofs.EachRecord.{each-record}
+use Rattle.pages.specs.Sheet.{sheetBytes}
+use Rattle.pages.proofs.SheetLaws.{bytes-fit}
+use Rattle.exports.specs.Codes.{item, past, itemAfter, itemOf, extentAfter, extentOf}
+use Rattle.exports.specs.Numbers.{Refusable, FitsVerdict, FitsItem, FitsExtent}
 
 -- a number of the rules, at a place that is a node's or none
 pub refusable : (k p : ℕ) → 1 ≤ k → k ≤ 24 → p ≤ 512 → Refusable k p
@@ -100,43 +104,14 @@ module _ (t : List ℕ) (ok : Taken t) where
         omega (arith, listed-call t (functions t) (nodes t) ok n e .0 .1, f .1),
       )
 
-  none-fits : FitsItem (item noRecord)
-  none-fits = (omega arith, omega arith, omega arith)
-
-  -- at every place of a list of them, and past it
-  abbrev All : List Record → Type 0
-  All l = (i : ℕ) → FitsItem (item (getD l i noRecord))
-
-  all-nothing : All []
-  all-nothing zero = none-fits
-  all-nothing (suc i) = none-fits
-
-  all-more : (r : Record) (l : List Record) → FitsItem (item r) → All l → All (r ∷ l)
-  all-more r l b f zero = b
-  all-more r l b f (suc i) = f i
-
-  all-both : (a b : List Record) → All a → All b → All (a ++ b)
-  all-both [] b f g = g
-  all-both (r ∷ a) b f g = all-more r (a ++ b) (f 0) (all-both a b (λ i. f (suc i)) g)
-
-  by-listed : (n : ℕ) (l : List Record) → All l → (b c : Bool) → listed t n ≡ b → All (pick (b && c) (recordAt t n ∷ l) l)
-  by-listed n l f true true e = all-more (recordAt t n) l (record-fits n e) f
-  by-listed n l f true false e = f
-  by-listed n l f false c e = f
-
-  calls-fit : (f k n : ℕ) → All (callsFrom t f k n)
-  unfolding callsFrom
-  calls-fit f zero n = all-nothing
-  calls-fit f (suc k) n = by-listed n (callsFrom t f k (suc n)) (calls-fit f k (suc n)) (listed t n) (eqb (calleeOf t n) f) refl
-
-  all-fit : (k f : ℕ) → All (recordsFrom t k f)
-  unfolding recordsFrom
-  all-fit zero f = all-nothing
-  all-fit (suc k) f = all-both (callsFrom t f (nodes t) 1) (recordsFrom t k (suc f)) (calls-fit f (nodes t) 1) (all-fit k (suc f))
-
-  pub list-fits : All (recordsOf t)
-  unfolding recordsOf
-  list-fits = all-fit (functions t) 1
+  -- at every place of the list, and past it
+  pub list-fits : (i : ℕ) → FitsItem (item (getD (recordsOf t) i noRecord))
+  list-fits i = go (decLt i (length (recordsOf t)))
+    where
+      go : Dec (i < length (recordsOf t)) → FitsItem (item (getD (recordsOf t) i noRecord))
+      go (yes h) = each-record t (λ r. FitsItem (item r)) record-fits i h
+      go (no h) = subst (λ r. FitsItem (item r)) (sym (List·getD-eq-default (recordsOf t) noRecord (omega (arith, h))))
+          (omega arith, omega arith, omega arith)
 
 pub item-fits : (t : List ℕ) (i : ℕ) → FitsItem (itemOf t i)
 item-fits t i = go (checkOf t) refl (check-fits t)
@@ -149,3 +124,11 @@ item-fits t i = go (checkOf t) refl (check-fits t)
     go (accepted F N) e f = by-place (ltb i (length (recordsOf t))) (getD (recordsOf t) i noRecord)
         (list-fits t (taken-by t F N (sym e) .0) i)
     go (refused k p) e f = f
+
+-- a sheet has at most 19008 bytes
+pub extent-fits : (t : List ℕ) → FitsExtent (extentOf t)
+extent-fits t = go (checkOf t) (check-fits t)
+  where
+    go : (v : Verdict) → FitsVerdict v → FitsExtent (extentAfter v (length (sheetBytes t)))
+    go (accepted F N) f = omega (arith, bytes-fit t)
+    go (refused k p) f = f

@@ -12,6 +12,7 @@ pub numbers-tell : NumbersTell
 numbers-tell = record {
   checks = Apart.checks-apart;
   items = Apart.items-apart;
+  extents = Apart.extents-apart;
   starts = Apart.starts-apart;
   replies = Apart.replies-apart;
   founds = Apart.founds-apart;
@@ -27,6 +28,7 @@ answers-fit t tags s = record {
   filled = Ranges.fill-fits t;
   records = Ranges.records-fit t;
   item = Ranges.item-fits t;
+  extent = Ranges.extent-fits t;
   start = CircuitRanges.start-fits t tags;
   step = λ b w n. CircuitRanges.step-answers t tags s n b w;
   query = CircuitRanges.query-fits t tags s;

@@ -1,7 +1,10 @@
--- from what the circuit's entries promise of the lent arrays to what the C functions promise of them
+-- from what the entries promise, the circuit's of the lent arrays, to what the C functions promise
 use Prim.Native.Nat.{ℕ}
-use mathlib.Core.Path.{_≡_, refl, ap, _∙_}
+use mathlib.Core.Path.{_≡_, refl, sym, ap, _∙_}
 use mathlib.Core.List.{List}
+use lib.ListN.{length}
+use Rattle.table.specs.Check.{accepted, refused, checkOf}
+use Rattle.pages.specs.Sheet.{sheetBytes}
 use Rattle.rules.specs.State.{State512}
 use Rattle.rules.specs.Step.{Stepped}
 use Rattle.rules.specs.Circuit.{Started}
@@ -12,8 +15,17 @@ use Rattle.circuit.specs.declared.types.Halt.{Halt}
 use Rattle.circuit.specs.declared.types.Ended.{Ended}
 use Rattle.circuit.specs.declared.types.Found.{Found}
 use Rattle.circuit.specs.Meaning.{openingOf, OpenedAs, replyOf, steppedAs, haltOf, RanLent, endedOf, DrivenLent, foundOf}
+use Rattle.exports.specs.Codes.{valueCode, refusalCode, extentAfter, extentOf, extentCode}
 use Rattle.exports.specs.Answers.{startCode, replyCode, haltCode, endedCode, foundCode}
 use Rattle.exports.specs.Answers.{StartTold, StepTold, QueryTold, RunTold, DriveTold}
+
+-- a sheet's number, by what the check of the table says
+module _ (t : List ℕ) where
+  pub sheet-refused : (k p : ℕ) → checkOf t ≡ refused k p → refusalCode k p ≡ extentCode (extentOf t)
+  sheet-refused k p e = sym (ap (λ v. extentCode (extentAfter v (length (sheetBytes t)))) e)
+
+  pub sheet-printed : (F N : ℕ) → checkOf t ≡ accepted F N → valueCode (length (sheetBytes t)) ≡ extentCode (extentOf t)
+  sheet-printed F N e = sym (ap (λ v. extentCode (extentAfter v (length (sheetBytes t)))) e)
 
 -- s is the state that was lent, s′ the one left in the arrays
 pub start-told : (x : Started) (s : State512) (a : Opening) (s′ : State512) {r : ℕ} → OpenedAs s a s′ x → r ≡ startCode (openingOf a s′)

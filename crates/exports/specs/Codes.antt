@@ -1,5 +1,6 @@
--- an answer as one number: of a check, and of what is filled, 0 or the refusal's number * 65536 + its place; of `list_record` and of the
--- circuit's functions the kind of the answer * 2^32 + the value, node, record or refusal that goes with it
+-- an answer as one number: of a check, and of tags and records that are filled, 0 or the refusal's number * 65536 + its place; of
+-- `list_record`, `sheet_fill` and the circuit's functions the kind of the answer * 2^32 + the value, node, record, length or refusal that
+-- goes with it
 use Prim.Native.Nat.{ℕ, _+_, _*_}
 use mathlib.Core.List.{List}
 use lib.Dec.{ltb}
@@ -7,6 +8,7 @@ use lib.ListN.{length, getD}
 use Rattle.table.specs.Pick.{pick}
 use Rattle.list.specs.declared.Record.{Record}
 use Rattle.list.specs.Records.{noRecord, recordsOf}
+use Rattle.pages.specs.Sheet.{sheetBytes}
 use Rattle.table.specs.Check.{Verdict, accepted, refused, checkOf}
 
 abbrev pub codeOf : Verdict → ℕ
@@ -41,3 +43,19 @@ abbrev pub itemCode : Item → ℕ
 itemCode (item r) = valueCode (recordCode r)
 itemCode past = 0
 itemCode (unlisted number place) = refusalCode number place
+
+-- how many bytes of a text the sheet of a table took; or the table is refused
+pub data Extent : Type 0 where
+  bytes : ℕ → Extent
+  unprinted : (number place : ℕ) → Extent
+
+abbrev pub extentAfter : Verdict → ℕ → Extent
+extentAfter (accepted F N) n = bytes n
+extentAfter (refused number place) n = unprinted number place
+
+abbrev pub extentOf : List ℕ → Extent
+extentOf t = extentAfter (checkOf t) (length (sheetBytes t))
+
+abbrev pub extentCode : Extent → ℕ
+extentCode (bytes n) = valueCode n
+extentCode (unprinted number place) = refusalCode number place

@@ -12,6 +12,7 @@ use Rattle.rules.specs.Runs.{Halt, whole, stopped, runOf, Ended, gave, atRest, 
 use Rattle.rules.specs.Runs.{Found, names, nothing, unasked, Finds}
 use Rattle.rules.specs.Companions.{Bytes, Fits}
 use Rattle.exports.specs.Codes.{codeOf, Item, item, past, unlisted, itemOf, itemCode}
+use Rattle.exports.specs.Codes.{Extent, bytes, unprinted, extentOf, extentCode}
 use Rattle.exports.specs.Answers.{startCode, replyCode, foundCode, haltCode, endedCode}
 
 -- what an answer holds where its number is its own: a refusal's number from 1 up in a byte, a place in 16 bits, a value in 32
@@ -29,6 +30,10 @@ abbrev pub FitsItem : Item → Type 0
 FitsItem (item r) = (r .callee .0 < 256) × (r .caller .0 < 256) × (r .node .0 < 65536)
 FitsItem past = Unit {0}
 FitsItem (unlisted number place) = Refusable number place
+
+abbrev pub FitsExtent : Extent → Type 0
+FitsExtent (bytes n) = Valued n
+FitsExtent (unprinted number place) = Refusable number place
 
 abbrev pub FitsReply : Reply → Type 0
 FitsReply taken = Unit {0}
@@ -68,6 +73,8 @@ pub record NumbersTell : Type 0 where
   pub checks : (v w : Verdict) → FitsVerdict v → FitsVerdict w → codeOf v ≡ codeOf w → bare v ≡ bare w
   -- list_record
   pub items : Tells itemCode FitsItem
+  -- sheet_fill
+  pub extents : Tells extentCode FitsExtent
   -- circuit_start
   pub starts : (x y : Started) → FitsVerdict (verdictOfStart x) → FitsVerdict (verdictOfStart y) → startCode x ≡ startCode y
       → verdictOfStart x ≡ verdictOfStart y
@@ -85,6 +92,8 @@ pub record AnswersFit (t tags : List ℕ) (s : State512) : Type 0 where
   pub filled : (len : ℕ) → FitsVerdict (fillVerdict t len)
   pub records : (len : ℕ) → FitsVerdict (recordsVerdict t len)
   pub item : (i : ℕ) → FitsItem (itemOf t i)
+  -- sheet_fill
+  pub extent : FitsExtent (extentOf t)
   -- circuit_start, circuit_step, circuit_query, circuit_run, circuit_drive
   pub start : (args : List ℕ) → FitsVerdict (verdictOfStart (startOf t tags args))
   pub step : Bytes t → Fits s → (n : ℕ) → FitsReply (stepOf t tags s n .answer)

@@ -1,6 +1,7 @@
 // The entries as C functions on numbers, slices and arrays, for C and Rust; include/safl.h declares them.
 mod circuits;
 mod codes;
+mod sheets;
 
 use list::Listing;
 use list::Record;
