@@ -167,9 +167,9 @@ few-pages t ok = room-for (recordsOf t) (omega (arith, at-most, few-records t ok
     at-most = unfold recordsOf in changes t (functions t) 1 0
 
 -- and so have those that are arranged, which are none where the table is refused
-pub few-arranged : (t : List ℕ) → length (rowsOf (arranged t)) ≤ 576
+pub arranged-fit : (t : List ℕ) → length (rowsOf (arranged t)) ≤ 576
 unfolding arranged
-few-arranged t = go (checkOf t) refl
+arranged-fit t = go (checkOf t) refl
   where
     go : (v : Verdict) → checkOf t ≡ v → length (rowsOf (ifAccepted v (recordsOf t) [])) ≤ 576
     go (accepted F N) e = few-pages t (taken-by t F N (sym e) .0)

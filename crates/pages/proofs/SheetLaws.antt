@@ -16,7 +16,7 @@ use Rattle.pages.specs.Lines.{linesOf}
 use Rattle.pages.specs.Sheet.{sheetOf, sheetBytes, room, Printed, sheetOver, FilledWith}
 use Rattle.pages.proofs.OverLaws.{sets-front}
 use Rattle.pages.proofs.RowTexts.{lines-size}
-use Rattle.pages.proofs.BoundLaws.{few-arranged}
+use Rattle.pages.proofs.BoundLaws.{arranged-fit}
 
 drop-replicate : {A : Type 0} (n k : ℕ) (x : A) → drop n (replicate k x) ≡ replicate (k - n) x
 drop-replicate zero k x = ap (λ m. replicate m x) (sym (sub-zero k))
@@ -67,7 +67,7 @@ module _ (t : List ℕ) where
         arith,
         ap length (sym (bytes-of F N e) ∙ sym (found-bytes F N e)),
         lines-size (rowsOf (arranged t)),
-        few-arranged t,
+        arranged-fit t,
       )
       go (refused k p) e = omega arith
 

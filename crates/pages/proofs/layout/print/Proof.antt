@@ -10,7 +10,7 @@ use Rattle.list.specs.Records.{noRecord, arranged}
 use Rattle.pages.specs.Rows.{title, gaps}
 use Rattle.pages.specs.Lines.{linesOf}
 use Rattle.pages.specs.Working.{Stands}
-use Rattle.pages.proofs.BoundLaws.{few-arranged}
+use Rattle.pages.proofs.BoundLaws.{arranged-fit}
 use Rattle.pages.proofs.FoundLaws.{few-found, found-next, found-last}
 use Rattle.pages.proofs.StandsLaws.{stands-first, stands-roomy, stands-all, all-size, begun-fit}
 use Rattle.pages.proofs.layout.print.Statement.{statement}
@@ -81,7 +81,7 @@ add-requires : tie.Need-add-requires Inv-loop μ-loop
 add-requires c κs =
     let t : Turn = search in
     let h = head t in
-    stands-roomy (all h) _ _ (h .loop .text) (h .loop .w) (next t) (next-left t _ (stands h)) (few-arranged _)
+    stands-roomy (all h) _ _ (h .loop .text) (h .loop .w) (next t) (next-left t _ (stands h)) (arranged-fit _)
 
 add-i : tie.Need-add-i Inv-loop μ-loop
 add-i c = record { fits = omega (arith, few (search)) }
@@ -102,7 +102,7 @@ loop-again c =
 mul-result : tie.Need-mul-result Inv-loop μ-loop
 mul-result c =
     let h : Head = search in
-    omega (arith, begun-fit _ _ _ _ _ (stands h), few-arranged (start h .args .table .now))
+    omega (arith, begun-fit _ _ _ _ _ (stands h), arranged-fit (start h .args .table .now))
 
 returns : tie.Need-returns Inv-loop μ-loop
 returns c =
