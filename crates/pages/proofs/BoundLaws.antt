@@ -106,6 +106,10 @@ rows-size rs = omega (arith, paged 1 23 0 rs .size)
 pub rows-whole : (rs : List Record) → length (rowsOf rs) % 24 ≡ 0
 rows-whole rs = omega (arith, rows-size rs)
 
+pub empty-page : length (rowsOf []) ≡ 24
+unfolding rowsOf
+empty-page = ap (λ rows. suc (length rows)) (rows-end 1 23 0)
+
 -- 544 calls and changes have room on 24 pages
 room-for : (rs : List Record) → cost 0 rs ≤ 544 → length (rowsOf rs) ≤ 576
 room-for rs h = go (paged 1 23 0 rs .full)

@@ -7,3 +7,9 @@ pub mod StandsLaws
 pub mod BoundLaws
 pub mod FoundLaws
 pub mod SheetLaws
+pub mod Titles
+pub mod Spacing
+pub mod OneLayout
+pub mod LineFacts
+pub mod Once
+pub mod Theorems

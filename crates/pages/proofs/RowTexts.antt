@@ -1,10 +1,11 @@
 -- rows as text: how long their lines are, rows one after the other, and a row written anew
-use Prim.Native.Nat.{ℕ, suc, _+_, _*_, _≤_}
+use Prim.Native.Nat.{ℕ, zero, suc, _+_, _*_, _≤_, _<_}
 use mathlib.Core.Path.{_≡_, refl, sym, ap, ap₂, _∙_}
 use mathlib.Core.List.{List, [], _∷_, _++_, append-nil, append-assoc}
 use native.Mathlib.Omega.{arith}
-use lib.ListN.{length, length-append, replicate, replicate-append-replicate}
-use lib.Seq.{sets, length-sets}
+use native.Mathlib.Nat.{not-suc-le-zero, le-of-suc-le-suc}
+use lib.ListN.{length, getD, take, drop, length-append, replicate, replicate-append-replicate}
+use lib.Seq.{sets, length-sets, take-at, drop-append-add}
 use Rattle.list.specs.declared.Record.{Record}
 use Rattle.pages.specs.Rows.{Row, title, gap, entry, gaps}
 use Rattle.pages.specs.Lines.{right, lineOf, linesOf}
@@ -45,6 +46,18 @@ lines-append (row ∷ a) b = ap (λ l. lineOf row ++ l) (lines-append a b) ∙ s
 pub lines-one : (row : Row) → linesOf (row ∷ []) ≡ lineOf row
 unfolding linesOf
 lines-one row = append-nil (lineOf row)
+
+-- line i is that of row i
+pub line-at : (rows : List Row) (i : ℕ) → i < length rows → take 33 (drop (33 * i) (linesOf rows)) ≡ lineOf (getD rows i gap)
+unfolding linesOf
+line-at [] i h = absurd (not-suc-le-zero h)
+line-at (row ∷ rows) zero h = take-at (lineOf row) (linesOf rows) 33 (line-size row)
+line-at (row ∷ rows) (suc i) h =
+    ap (take 33) (ap (λ k. drop k (lineOf row ++ linesOf rows)) (past i) ∙ drop-append-add (lineOf row) (linesOf rows) (33 * i))
+    ∙ line-at rows i (le-of-suc-le-suc h)
+  where
+    past : (i : ℕ) → 33 * suc i ≡ length (lineOf row) + 33 * i
+    past i = omega (arith, line-size row)
 
 -- lines of spaces, one more
 pub gaps-more : (k : ℕ) → gaps (k + 1) ≡ gaps k ++ gap ∷ []

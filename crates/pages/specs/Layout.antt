@@ -1,14 +1,15 @@
 -- what is claimed of the sheet, sentence by sentence of the request, beside its definition: shown in proofs/Theorems
-use Prim.Native.Nat.{ℕ, zero, suc, _+_, _-_, _*_, _/_, _%_, _≤_, _<_}
+use Prim.Native.Nat.{ℕ, suc, _+_, _-_, _*_, _/_, _%_, _≤_, _<_}
 use mathlib.Core.Path.{_≡_}
+use mathlib.Core.Bool.{true}
 use mathlib.Core.List.{List, [], _∷_, _++_}
 use lib.Dec.{eqb}
 use lib.ListN.{length, getD, take, drop}
-use Rattle.table.specs.Pick.{pick, Range}
+use Rattle.table.specs.Pick.{pick}
 use Rattle.table.specs.Find.{one}
 use Rattle.list.specs.declared.Record.{Record}
 use Rattle.list.specs.Tags.{listed}
-use Rattle.list.specs.Records.{recordAt, recordsOf}
+use Rattle.list.specs.Records.{noRecord, recordAt, recordsOf}
 use Rattle.pages.specs.Rows.{Row, title, gap, entry, resource, due, rowsOf}
 use Rattle.pages.specs.Lines.{RES, CALL, NODE, PAGE, right, lineOf}
 use Rattle.pages.specs.Sheet.{sheetOf, sheetBytes, room, sheetOver}
@@ -91,13 +92,15 @@ pub record SheetStands (t : List ℕ) : Type 0 where
   -- its rows are laid out as asked for, and no others are; an empty list gives one page
   pub laid : Laid (recordsOf t) (rowsOf (recordsOf t))
   pub only : (rows : List Row) → Laid (recordsOf t) rows → rows ≡ rowsOf (recordsOf t)
+  pub empty : recordsOf t ≡ [] → length (rowsOf (recordsOf t)) ≡ 24
   -- its bytes are those of `sheetOf`, line after line
   pub bytes : sheetBytes t ≡ sheetOf t
   pub size : length (sheetOf t) ≡ 33 * length (rowsOf (recordsOf t))
   pub lines : (i : ℕ) → i < length (rowsOf (recordsOf t)) → take 33 (drop (33 * i) (sheetOf t)) ≡ lineOf (rowAt (rowsOf (recordsOf t)) i)
-  -- each listed call is on it once, and no other; a call's line is that of its callee, its function and its node
+  -- each listed call is on it once, and no other; what is said of a call are its callee, its function and its node
   pub once : (n : ℕ) → timesOf n (entriesOf (rowsOf (recordsOf t))) ≡ one (listed t n)
-  pub call : (i : ℕ) (r : Record) → rowAt (rowsOf (recordsOf t)) i ≡ entry r → r ≡ recordAt t (r .node .0)
+  pub call : (i : ℕ) → i < length (recordsOf t)
+      → let r = getD (recordsOf t) i noRecord in (r ≡ recordAt t (r .node .0)) × (listed t (r .node .0) ≡ true)
   -- at most 24 pages, for which the text has room
   pub few : length (rowsOf (recordsOf t)) ≤ 24 * 24
   pub over : (text : List ℕ) → length text ≡ room → sheetOver t text ≡ sheetOf t ++ drop (length (sheetOf t)) text
