@@ -7,7 +7,8 @@ use Rattle.rules.specs.Runs.{Halt, whole, stopped, Ended, gave, atRest, spent, 
 use Rattle.table.specs.Check.{Verdict, accepted, refused}
 use Rattle.list.specs.declared.Record.{Record}
 use Rattle.rules.specs.Circuit.{Started, started, turned}
-use Rattle.exports.specs.Codes.{codeOf, refusalCode, recordCode, Item, item, past, unlisted, itemCode, Extent, bytes, unprinted, extentCode}
+use Rattle.exports.specs.Codes.{codeOf, refusalCode, recordCode, Item, item, past, unlisted, itemCode}
+use Rattle.exports.specs.Codes.{Extent, bytes, unprinted, extentCode}
 use Rattle.exports.specs.Answers.{startCode, replyCode, foundCode, haltCode, endedCode}
 use Rattle.exports.specs.Numbers.{Refusable, FitsVerdict, FitsItem, FitsExtent, FitsReply, FitsFound, FitsHalt, FitsEnded}
 use Rattle.exports.specs.Numbers.{bare, verdictOfStart}

@@ -2,7 +2,7 @@
 use Prim.Native.Nat.{ℕ, zero, suc, _≤_, _<_}
 use mathlib.Core.Bool.{Bool, true, false, _&&_}
 use mathlib.Core.Path.{_≡_, refl, sym, subst}
-use mathlib.Core.List.{List, [], _∷_, _++_}
+use mathlib.Core.List.{List}
 use native.Mathlib.Omega.{arith}
 use lib.Dec.{T, eqb, ltb, leb, leb→le}
 use native.Mathlib.Decide.{decLt}
@@ -15,8 +15,8 @@ use Rattle.table.specs.Working.{Taken}
 use Rattle.table.proofs.SurveyLaws.{taken-by}
 use Rattle.table.proofs.Family.{owner-few}
 use Rattle.list.specs.declared.Record.{Record}
-use Rattle.list.specs.Tags.{after, calleeOf, listed, tagFits, checkWith, fillVerdict, tagsRefusal}
-use Rattle.list.specs.Records.{noRecord, recordAt, callsFrom, recordsFrom, recordsOf, recordsVerdict}
+use Rattle.list.specs.Tags.{after, listed, tagFits, checkWith, fillVerdict, tagsRefusal}
+use Rattle.list.specs.Records.{noRecord, recordAt, recordsOf, recordsVerdict}
 use Rattle.list.proofs.NodeLaws.{few}
 use Rattle.list.proofs.TagFacts.{listed-call}
 use Rattle.list.proofs.CallLaws.{listed-called}

@@ -6,7 +6,7 @@ use mathlib.Core.List.{List, [], _∷_, _++_}
 use native.Mathlib.Omega.{arith}
 use native.Mathlib.Decide.{decLt}
 use native.Mathlib.Nat.{not-suc-le-zero, le-of-suc-le-suc}
-use lib.Dec.{leb, ltb, eqb}
+use lib.Dec.{leb, ltb}
 use lib.ListN.{length, getD, length-append, List·getD-append}
 use lib.Seq.{getD-at}
 use borrow.Author.Tests.{ne-eqb, leb-true, ltb-true}
@@ -90,8 +90,8 @@ unfolding front
 front-shown (title p) = shown-both words (right p) (by-test words refl) (shown-right p)
 front-shown gap = by-test (spaces 32) refl
 front-shown (entry r) =
-    numbers-shown (right (r .callee .0)) (right (r .caller .0)) (right (r .node .0)) (shown-right (r .callee .0)) (shown-right (r .caller .0))
-    (shown-right (r .node .0))
+    numbers-shown (right (r .callee .0)) (right (r .caller .0)) (right (r .node .0))
+    (shown-right (r .callee .0)) (shown-right (r .caller .0)) (shown-right (r .node .0))
 
 front-size : (row : Row) → length (front row) ≡ 32
 front-size row = omega (arith, line-size row, ap length (front-line row), length-append (front row) lineFeed)

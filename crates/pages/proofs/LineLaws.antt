@@ -1,16 +1,14 @@
 -- digits, numbers and lines, character by character
 use Prim.Native.Nat.{ℕ, suc, _+_, _/_, _%_, _≤_, _<_}
 use mathlib.Core.Path.{_≡_, refl, ap, _∙_}
-use mathlib.Core.Bool.{true, false}
 use mathlib.Core.List.{List, _++_}
 use native.Mathlib.Omega.{arith}
 use lib.ListN.{set}
 use lib.Seq.{sets}
 use borrow.Author.Tests.{le-leb, lt-leb}
-use Rattle.table.specs.Pick.{pick}
 use Rattle.list.specs.declared.Record.{Record}
-use Rattle.pages.specs.Rows.{Row, title, gap, entry}
-use Rattle.pages.specs.Lines.{spaces, lineFeed, RES, CALL, NODE, PAGE, digit, right, lineOf, linesOf}
+use Rattle.pages.specs.Rows.{title, gap, entry}
+use Rattle.pages.specs.Lines.{spaces, lineFeed, RES, CALL, NODE, PAGE, digit, right, lineOf}
 use Rattle.pages.specs.Working.{callOver}
 use Rattle.pages.proofs.OverLaws.{sets-in}
 

@@ -80,7 +80,9 @@ module _ (t : List ℕ) (n : ℕ) where
         go (yes e) r =
             ap₂ (λ a b. pick (listed t m && eqb (calleeOf t m) f) (one a) 0 + b) (eq-eqb m n e) (past k (suc m) (omega (arith, e)))
             ∙ same (listed t m && eqb (calleeOf t m) f) ∙ ap (λ i. one (listed t i && eqb (calleeOf t i) f)) e
-        go (no e) r = ap₂ (λ a b. a + b) (apart m (listed t m && eqb (calleeOf t m) f) e) (r e) ∙ plain (one (listed t n && eqb (calleeOf t n) f))
+        go (no e) r =
+            ap₂ (λ a b. a + b) (apart m (listed t m && eqb (calleeOf t m) f) e) (r e)
+            ∙ plain (one (listed t n && eqb (calleeOf t n) f))
           where
             plain : (k : ℕ) → 0 + k ≡ k
             plain k = omega arith
@@ -105,7 +107,8 @@ module _ (t : List ℕ) (n : ℕ) where
         ≡ one (listed t n && eqb (calleeOf t n) f) + timesOf n (recordsFrom t k (suc f))
     unfolding recordsFrom
     next k f =
-        times-both n (callsFrom t f (nodes t) 1) (recordsFrom t k (suc f)) ∙ ap (λ a. a + timesOf n (recordsFrom t k (suc f))) (of-function f r)
+        times-both n (callsFrom t f (nodes t) 1) (recordsFrom t k (suc f))
+        ∙ ap (λ a. a + timesOf n (recordsFrom t k (suc f))) (of-function f r)
 
     no-function : (f : ℕ) → timesOf n (recordsFrom t 0 f) ≡ 0
     unfolding recordsFrom timesOf

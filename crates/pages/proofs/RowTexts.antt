@@ -4,7 +4,7 @@ use mathlib.Core.Path.{_≡_, refl, sym, ap, ap₂, _∙_}
 use mathlib.Core.List.{List, [], _∷_, _++_, append-nil, append-assoc}
 use native.Mathlib.Omega.{arith}
 use native.Mathlib.Nat.{not-suc-le-zero, le-of-suc-le-suc}
-use lib.ListN.{length, getD, take, drop, length-append, replicate, replicate-append-replicate}
+use lib.ListN.{length, getD, take, drop, length-append, replicate-append-replicate}
 use lib.Seq.{sets, length-sets, take-at, drop-append-add}
 use Rattle.list.specs.declared.Record.{Record}
 use Rattle.pages.specs.Rows.{Row, title, gap, entry, gaps}

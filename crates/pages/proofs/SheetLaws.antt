@@ -1,6 +1,6 @@
 -- what a text gets of a table: the sheet where it is accepted, nothing where it is refused
 use Prim.Native.Nat.{ℕ, zero, suc, _-_, _≤_}
-use mathlib.Core.Path.{_≡_, refl, sym, ap, ap₂, _∙_}
+use mathlib.Core.Path.{_≡_, refl, sym, ap, _∙_}
 use mathlib.Core.List.{List, [], _++_}
 use native.Mathlib.Omega.{arith}
 use native.Mathlib.Nat.{sub-zero, zero-sub, suc-sub-suc}
@@ -8,7 +8,7 @@ use lib.ListN.{length, drop, replicate, length-replicate}
 use lib.Seq.{sets}
 use Rattle.table.specs.Check.{Verdict, accepted, refused, ifAccepted, checkOf}
 use Rattle.table.specs.Survey.{verdictOf}
-use Rattle.list.specs.Records.{recordsOf, arranged}
+use Rattle.list.specs.Records.{arranged}
 use Rattle.pages.specs.declared.Sheet.{Sheet}
 use Rattle.pages.specs.declared.Filled.{Filled}
 use Rattle.pages.specs.Rows.{rowsOf}

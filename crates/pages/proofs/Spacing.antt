@@ -1,11 +1,11 @@
 -- the lines of spaces and the pages' ends, read from the top; the calls in their order
-use Prim.Native.Nat.{ℕ, zero, suc, _+_, _-_, _<_, _≤_}
+use Prim.Native.Nat.{ℕ, zero, suc, _+_, _-_, _<_}
 use mathlib.Core.Path.{_≡_, refl, sym, subst, ap, _∙_}
 use mathlib.Core.List.{List, [], _∷_, _++_}
 use native.Mathlib.Omega.{arith}
 use native.Mathlib.Decide.{decLt}
 use Rattle.list.specs.declared.Record.{Record}
-use Rattle.pages.specs.Rows.{Row, title, gap, entry, gaps, resource, due, rowsAfter, rowsOf}
+use Rattle.pages.specs.Rows.{Row, gaps, resource, due, rowsAfter, rowsOf}
 use Rattle.pages.specs.Layout.{entriesOf, Spaced, SpacedPages}
 use Rattle.pages.proofs.RowLaws.{due-first, rows-end, rows-on, rows-new}
 

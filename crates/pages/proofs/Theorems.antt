@@ -1,12 +1,11 @@
--- the theorems on the arbiter sheet, for a reader: of every table that the check accepts. That each function prints it is its own promise (src)
+-- the theorems on the arbiter sheet, for a reader: of every table that the check accepts. That a text is filled with it is promised in src
 use Prim.Native.Nat.{ℕ, _+_, _/_, _%_}
-use mathlib.Core.Path.{_≡_, refl, sym, subst, ap, _∙_}
+use mathlib.Core.Path.{_≡_, refl, sym, ap, _∙_}
 use mathlib.Core.Bool.{true}
 use mathlib.Core.List.{List, _++_}
 use native.Mathlib.Omega.{arith}
 use lib.ListN.{length, drop}
 use Rattle.table.specs.Check.{checkOf, accepted}
-use Rattle.table.specs.Find.{one}
 use Rattle.table.proofs.SurveyLaws.{taken-by}
 use Rattle.list.specs.declared.Record.{Record}
 use Rattle.list.specs.Tags.{listed}
@@ -32,7 +31,8 @@ lines-show = LineFacts.lines-show
 pub rows-laid : (rs : List Record) → Laid rs (rowsOf rs)
 rows-laid rs = record {
   whole = rows-whole rs;
-  titled = λ i h e. titled-at 0 (rowsOf rs) (rows-numbered rs) i h (ap (λ k. k % 24) (plain i) ∙ e) ∙ ap (λ k. title (k / 24 + 1)) (plain i);
+  titled = λ i h e.
+      titled-at 0 (rowsOf rs) (rows-numbered rs) i h (ap (λ k. k % 24) (plain i) ∙ e) ∙ ap (λ k. title (k / 24 + 1)) (plain i);
   untitled = λ i p e. ap (λ k. k % 24) (sym (plain i)) ∙ untitled-at 0 (rowsOf rs) (rows-numbered rs) i p e;
   spaced = rows-spaced rs;
   ordered = rows-entries rs;

@@ -23,7 +23,8 @@ Numbered at [] = Unit {0}
 Numbered at (row ∷ rows) = Placed at row × Numbered (suc at) rows
 
 -- lines of spaces that begin no page: q pages and m rows stand before them
-gaps-numbered : (q m k : ℕ) (rows : List Row) → 1 ≤ m → m + k ≤ 24 → Numbered (24 * q + (m + k)) rows → Numbered (24 * q + m) (gaps k ++ rows)
+gaps-numbered : (q m k : ℕ) (rows : List Row) → 1 ≤ m → m + k ≤ 24 → Numbered (24 * q + (m + k)) rows
+    → Numbered (24 * q + m) (gaps k ++ rows)
 gaps-numbered q m zero rows l h n = subst (λ i. Numbered (24 * q + i) rows) (plain m) n
   where
     plain : (m : ℕ) → m + 0 ≡ m

@@ -1,6 +1,6 @@
 -- the rows of the arbiter sheet (document 02, Q-1): what stands on each line of its pages, one page after the other
 use Prim.Native.Nat.{ℕ, _+_, _-_}
-use mathlib.Core.Bool.{Bool, true, false, _&&_, not}
+use mathlib.Core.Bool.{_&&_, not}
 use mathlib.Core.List.{List, [], _∷_, _++_}
 use lib.Dec.{eqb, leb}
 use lib.ListN.{replicate}
@@ -27,9 +27,9 @@ resource r = r .callee .0
 unfoldable pub due : (last f : ℕ) → ℕ
 due last f = pick (not (eqb last 0) && not (eqb last f)) 1 0
 
--- the rows after those that page `page` has so far, where `left` lines of it are left: a call with the lines of spaces that are due before it
--- stays on the page where it fits; else the page is filled up, and the call is the first of a new one, which has 22 lines left after it and
--- the title; the last page is filled up too
+-- the rows after those that page `page` has so far, where `left` lines of it are left: a call, with the lines of spaces due before it,
+-- stays on the page where it fits; else the page is filled up, and the call is the first of a new one, which has 22 lines left after the
+-- title and it; the last page is filled up too
 unfoldable pub rowsAfter : (page left last : ℕ) → List Record → List Row
 rowsAfter page left last [] = gaps left
 rowsAfter page left last (r ∷ rs) =

@@ -5,7 +5,7 @@ use crate::lines::Text;
 use list::Listing;
 use list::Record;
 ghost use mathlib.Core.Path.{_≡_};
-ghost use Prim.Native.Nat.{ℕ, _+_, _*_, _≤_, _<_};
+ghost use Prim.Native.Nat.{ℕ, _+_, _*_, _<_};
 ghost use mathlib.Core.List.{List, _∷_};
 ghost use lib.ListN.{length};
 ghost use lib.Seq.{sets};

@@ -14,7 +14,7 @@ start c = search
 abbrev weighed : tie.Else1 → tie.After-due
 weighed c = search
 
--- a call that has no room is on a page from 2 to 24
+-- where the call has no room, there is a page more
 new-page : (c : tie.Else1) → start (weighed c) .args .w .pages < 24
 new-page c =
     let d = weighed c in

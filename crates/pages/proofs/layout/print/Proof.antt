@@ -1,4 +1,4 @@
--- `layout::print` meets its contract. The invariant: the sheet stands as far as the calls from i on are left. The measure is the calls left.
+-- `layout::print` meets its contract. The invariant: the sheet stands, but for the calls from i on. The measure is the calls left.
 use Prim.Native.Nat.{ℕ, _+_, _-_, _*_, _≤_, _<_}
 use mathlib.Core.Path.{_≡_, subst}
 use mathlib.Core.List.{List, _∷_}

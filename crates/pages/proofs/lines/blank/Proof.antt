@@ -1,5 +1,5 @@
 -- `lines::blank` meets its contract: 32 spaces and a line feed.
-use mathlib.Core.Path.{_≡_, ap, _∙_}
+use mathlib.Core.Path.{ap, _∙_}
 use lib.Seq.{sets}
 use borrow.Author.Needs.{needs}
 use Rattle.pages.proofs.LineLaws.{blank-line}

@@ -1,6 +1,4 @@
 -- `lines::number` meets its contract: four bytes, one after the other.
-use mathlib.Core.Path.{_≡_, refl, ap, _∙_}
-use native.Mathlib.Omega.{arith}
 use borrow.Author.Needs.{needs}
 use Rattle.pages.proofs.LineLaws.{number-laid}
 use Rattle.pages.proofs.lines.number.Statement.{statement}
