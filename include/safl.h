@@ -1,4 +1,4 @@
-/* The proved functions for C and C++: the check of a SAFL design table, its arbiter list, its circuit.
+/* The proved functions for C and C++: the check of a SAFL design table, its arbiter list and sheet, its circuit.
    Link target/staticlib/libexports.a, which `rt staticlib exports` writes for x86-64 Linux. docs/RULES.md has the rules and the numbers of
    the refusals, docs/FORMATS.md the bytes, examples/run.c a whole program.
 
@@ -16,13 +16,15 @@
 extern "C" {
 #endif
 
-/* The limits. The longest table is 4 + 4 * 32 + 10 * 512 bytes; a tag list has (N + 7) / 8 bytes for N nodes. */
+/* The limits. The longest table is 4 + 4 * 32 + 10 * 512 bytes; a tag list has (N + 7) / 8 bytes for N nodes; a sheet has at most 24 pages
+   of 24 lines of 33 bytes. */
 enum {
     SAFL_FUNCTIONS = 32,
     SAFL_NODES = 512,
     SAFL_REGISTERS = 8 * SAFL_FUNCTIONS,
     SAFL_TABLE_BYTES = 5252,
-    SAFL_TAG_BYTES = 64
+    SAFL_TAG_BYTES = 64,
+    SAFL_SHEET_BYTES = 19008
 };
 
 /* An answer of 32 bits is 0, or a refusal: number * 65536 + place.
@@ -81,6 +83,12 @@ uint64_t list_record(const uint8_t *table, size_t table_len, size_t index);
 /* Fills records from the front, in the same order; those past the list's end stay as they were. 0; or a refusal, all of them as they were:
    10 at place 0 where fewer are lent than the list has. */
 uint32_t list_fill_records(const uint8_t *table, size_t table_len, struct safl_record *records, size_t records_len);
+
+/* ---- The arbiter sheet: the list by resource, in pages of 24 lines of 32 characters and a line feed. */
+
+/* Prints the sheet of a table into the text, from the front; bytes past its end stay as they were. SAFL_VALUE: the number of its bytes;
+   SAFL_REFUSED, 1 to 9 of the table, the text as it was. */
+uint64_t sheet_fill(const uint8_t *table, size_t table_len, uint8_t text[SAFL_SHEET_BYTES]);
 
 /* ---- The circuit under a tag list. Refusals 1 to 10 of table and tags come first; then 11 of a start; 12, 24, 20, and 21, 22 or 23 of a
    step; 24 of a query and of a run, whose steps follow. */
