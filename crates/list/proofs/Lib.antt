@@ -21,6 +21,7 @@ pub mod NodeWalks
 pub mod WalkMeasure
 pub mod TagFacts
 pub mod Totals
+pub mod RecordChains
 pub mod RecordLoops
 pub mod RecordVerdicts
 pub mod RecordSlice
