@@ -22,6 +22,7 @@ pub mod WalkMeasure
 pub mod TagFacts
 pub mod Totals
 pub mod EachRecord
+pub mod RecordChains
 pub mod RecordLoops
 pub mod RecordVerdicts
 pub mod RecordSlice

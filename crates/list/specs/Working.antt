@@ -1,5 +1,5 @@
 -- what the parts of the walk ask of each other: packed sets, the sites of each function, and what the walk keeps
-use Prim.Native.Nat.{ℕ, _+_, _-_, _*_, _/_, _%_, _^_, _<_, _≤_}
+use Prim.Native.Nat.{ℕ, zero, suc, _+_, _-_, _*_, _/_, _%_, _^_, _<_, _≤_}
 use mathlib.Core.Bool.{Bool, true, false, _&&_, _||_}
 use mathlib.Core.Path.{_≡_}
 use mathlib.Core.List.{List, [], _++_}
@@ -206,10 +206,37 @@ pub record Sided (t : List ℕ) (f n : ℕ) (defs : Bool) (r : Siblings) (set se
 unfoldable pub restAt : List ℕ → (f n : ℕ) → List Record
 restAt t f n = callsFrom t f (nodes t - n) (n + 1) ++ recordsFrom t (functions t - f) (f + 1)
 
--- the records past the place of r are l
-pub record Follow (t : List ℕ) (r : Record) (l : List Record) : Type 0 where
-  pub within : r .callee .0 ≤ functions t
-  pub rest : restAt t (r .callee .0) (r .node .0) ≡ l
+-- a call in a chain: its node and its caller in one number
+abbrev pub linkTo : List ℕ → ℕ → ℕ
+linkTo t n = n + 1024 * owner t n
+
+-- the first listed call of f among k nodes from n on, 0 if there is none
+unfoldable pub firstLink : List ℕ → (f k n : ℕ) → ℕ
+firstLink t f zero n = 0
+firstLink t f (suc k) n = pick (listed t n && eqb (calleeOf t n) f) (linkTo t n) (firstLink t f k (suc n))
+
+-- the listed calls past node n in chains: the entry of such a call is the next one of its function, that of 513 + f the first one of f
+pub record LinkedTo (t chains : List ℕ) (n : ℕ) : Type 0 where
+  pub size : length chains ≡ 546
+  pub heads : (f : ℕ) → f ≤ 32 → getD chains (513 + f) 0 ≡ firstLink t f (nodes t - n) (n + 1)
+  pub links : (m : ℕ) → n < m → m ≤ nodes t → listed t m ≡ true
+      → getD chains m 0 ≡ firstLink t (calleeOf t m) (nodes t - m) (m + 1)
+
+-- all of them, and entry 0 is that of function 1
+pub record Linked (t chains : List ℕ) : Type 0 where
+  pub taken : Taken t
+  pub all : LinkedTo t chains 0
+  pub first : getD chains 0 0 ≡ getD chains 514 0
+
+-- the records past the place f, n are l, and x is the first of those that are of f
+pub record Follow (t : List ℕ) (f n x : ℕ) (l : List Record) : Type 0 where
+  pub within : f ≤ functions t
+  pub rest : restAt t f n ≡ l
+  pub link : x ≡ firstLink t f (nodes t - n) (n + 1)
+
+-- the records past the place of r are l, and its entry leads there
+abbrev pub Past : (t chains : List ℕ) → Record → List Record → Type 0
+Past t chains r = Follow t (r .callee .0) (r .node .0) (getD chains (r .node .0) 0)
 
 -- the place before the first record
 abbrev pub beforeAll : Record
@@ -224,8 +251,8 @@ pub record Tagging (t cells set : List ℕ) : Type 0 where
 abbrev pub offered : List ℕ → ℕ → List Record
 offered t len = ifAccepted (recordsVerdict t len) (recordsOf t) []
 
--- the tag bits for a list of len records: what it is told, as many bits set as it gets records, and the bits are the list's
+-- the chains for a list of len records: what it is told, how many records it gets, and the chains are the list's
 pub record Marks (t : List ℕ) (len : ℕ) (m : Marked) : Type 0 where
   pub told : verdictOf (m .checked) ≡ recordsVerdict t len
   pub many : m .count ≡ length (offered t len)
-  pub tagging : (F N : ℕ) → recordsVerdict t len ≡ accepted F N → Tagging t (m .cells) (m .set)
+  pub linked : (F N : ℕ) → recordsVerdict t len ≡ accepted F N → Linked t (m .chains)

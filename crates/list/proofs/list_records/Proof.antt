@@ -1,4 +1,4 @@
--- `list_records` meets its contract: the tag bits for 512 records, and all the records that they mark.
+-- `list_records` meets its contract: the chains for 512 records, and all the records along them.
 use borrow.Author.Needs.{needs}
 use Rattle.list.proofs.list_records.Statement.{statement}
 use Rattle.list.proofs.list_records.Tie as tie
