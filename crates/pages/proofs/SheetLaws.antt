@@ -1,14 +1,14 @@
 -- what a text gets of a table: the sheet where it is accepted, nothing where it is refused
-use Prim.Native.Nat.{ℕ, zero, suc, _-_, _≤_}
+use Prim.Native.Nat.{ℕ, _≤_}
 use mathlib.Core.Path.{_≡_, refl, sym, ap, _∙_}
 use mathlib.Core.List.{List, [], _++_}
 use native.Mathlib.Omega.{arith}
-use native.Mathlib.Nat.{sub-zero, zero-sub, suc-sub-suc}
 use lib.ListN.{length, drop, replicate, length-replicate}
 use lib.Seq.{sets}
 use Rattle.table.specs.Check.{Verdict, accepted, refused, ifAccepted, checkOf}
 use Rattle.table.specs.Survey.{verdictOf}
 use Rattle.list.specs.Records.{arranged}
+use Rattle.list.proofs.RecordSlice.{drop-replicate}
 use Rattle.pages.specs.declared.Sheet.{Sheet}
 use Rattle.pages.specs.declared.Filled.{Filled}
 use Rattle.pages.specs.Rows.{rowsOf}
@@ -17,11 +17,6 @@ use Rattle.pages.specs.Sheet.{sheetOf, sheetBytes, room, Printed, sheetO
 use Rattle.pages.proofs.OverLaws.{sets-front}
 use Rattle.pages.proofs.RowTexts.{lines-size}
 use Rattle.pages.proofs.BoundLaws.{arranged-fit}
-
-drop-replicate : {A : Type 0} (n k : ℕ) (x : A) → drop n (replicate k x) ≡ replicate (k - n) x
-drop-replicate zero k x = ap (λ m. replicate m x) (sym (sub-zero k))
-drop-replicate (suc n) zero x = ap (λ m. replicate m x) (sym (zero-sub (suc n)))
-drop-replicate (suc n) (suc k) x = drop-replicate n k x ∙ ap (λ m. replicate m x) (sym (suc-sub-suc k n))
 
 module _ (t : List ℕ) where
   pub bytes-of : (F N : ℕ) → checkOf t ≡ accepted F N → sheetBytes t ≡ sheetOf t
