@@ -1,8 +1,9 @@
 -- digits, numbers and lines, character by character
 use Prim.Native.Nat.{ℕ, suc, _+_, _/_, _%_, _≤_, _<_}
 use mathlib.Core.Path.{_≡_, refl, ap, _∙_}
-use mathlib.Core.List.{List, _++_}
+use mathlib.Core.List.{List, [], _∷_, _++_}
 use native.Mathlib.Omega.{arith}
+use native.Mathlib.Numerals.{add-one}
 use lib.ListN.{set}
 use lib.Seq.{sets}
 use borrow.Author.Tests.{le-leb, lt-leb}
@@ -21,17 +22,21 @@ pub digit-there : (w n : ℕ) → w ≤ n → 48 + n / w % 10 ≡ digit w n
 unfolding digit
 digit-there w n h = rw (le-leb w n h) refl
 
--- the four bytes of a number
-pub number-laid : (text : List ℕ) (at n a b c : ℕ) → a ≡ digit 1000 n → b ≡ digit 100 n → c ≡ digit 10 n
-    → set (set (set (set text at a) (at + 1) b) (at + 2) c) (at + 3) (48 + n % 10) ≡ sets text at (right n)
+-- the upper two bytes of a number, and all four
+pub upper-laid : (text : List ℕ) (at n a b : ℕ) → a ≡ digit 1000 n → b ≡ digit 100 n
+    → set (set text at a) (at + 1) b ≡ sets text at (digit 1000 n ∷ digit 100 n ∷ [])
+upper-laid text at n a b p q = rw (p, q, add-one) refl
+
+pub number-laid : (text upper : List ℕ) (at n c : ℕ) → upper ≡ sets text at (digit 1000 n ∷ digit 100 n ∷ []) → c ≡ digit 10 n
+    → set (set upper (at + 2) c) (at + 3) (48 + n % 10) ≡ sets text at (right n)
 unfolding right
-number-laid text at n a b c p q r = rw (p, q, r) (places (at + 1) (at + 2) (at + 3) (omega arith) (omega arith) (omega arith))
+number-laid text upper at n c p q = rw (p, q) (places (at + 2) (at + 3) (omega arith) (omega arith))
   where
-    places : (i j k : ℕ) → i ≡ suc at → j ≡ suc (suc at) → k ≡ suc (suc (suc at))
-        → set (set (set (set text at (digit 1000 n)) i (digit 100 n)) j (digit 10 n)) k (48 + n % 10)
+    places : (j k : ℕ) → j ≡ suc (suc at) → k ≡ suc (suc (suc at))
+        → set (set (set (set text at (digit 1000 n)) (suc at) (digit 100 n)) j (digit 10 n)) k (48 + n % 10)
         ≡ set (set (set (set text at (digit 1000 n)) (suc at) (digit 100 n)) (suc (suc at)) (digit 10 n)) (suc (suc (suc at)))
         (48 + n % 10)
-    places i j k x y z = rw (x, y, z) refl
+    places j k x y = rw (x, y) refl
 
 -- a line of spaces, as it stands in the code
 pub blank-line : spaces 32 ++ lineFeed ≡ lineOf gap

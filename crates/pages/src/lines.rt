@@ -2,6 +2,7 @@
 use list::Record;
 ghost use mathlib.Core.Path.{_≡_};
 ghost use Prim.Native.Nat.{_+_, _*_, _≤_, _<_};
+ghost use mathlib.Core.List.{[], _∷_};
 ghost use lib.ListN.{length};
 ghost use lib.Seq.{sets};
 ghost use Rattle.pages.specs.Rows.{title, gap};
@@ -35,13 +36,26 @@ fn digit(weight: u16, n: u16) -> u8
     48 + (n / weight % 10) as u8
 }
 
+// The upper two of n's four columns: most numbers leave them blank, and then nothing is divided.
+fn upper(text: &mut Text, at: usize, n: u16)
+    requires { ⌜ at + 2 ≤ 19008 ⌝ }
+    ensures { λ _. ⌜ now (text .exit) ≡ sets (now (text .entry)) at (Lines.digit 1000 n ∷ Lines.digit 100 n ∷ []) ⌝ }
+{
+    if n < 100 {
+        text[at] = 32;
+        text[at + 1] = 32;
+        return;
+    }
+    text[at] = digit(1000, n);
+    text[at + 1] = digit(100, n);
+}
+
 // Writes n into the four columns from byte `at` on, at their right.
 fn number(text: &mut Text, at: usize, n: u16)
     requires { ⌜ at + 4 ≤ 19008 ⌝ }
     ensures { λ _. ⌜ now (text .exit) ≡ sets (now (text .entry)) at (right n) ⌝ }
 {
-    text[at] = digit(1000, n);
-    text[at + 1] = digit(100, n);
+    upper(text, at, n);
     text[at + 2] = digit(10, n);
     text[at + 3] = 48 + (n % 10) as u8;
 }
