@@ -1,6 +1,6 @@
 -- what a line shows: printable characters and a line feed, the columns of its words and numbers, and what four columns read back to
 use Prim.Native.Nat.{ℕ, zero, suc, _+_, _-_, _*_, _/_, _%_, _≤_, _<_}
-use mathlib.Core.Path.{_≡_, refl, sym, subst, ap, _∙_}
+use mathlib.Core.Path.{_≡_, refl, sym, subst, ap, ap₂, _∙_}
 use mathlib.Core.Bool.{Bool, true, false, _&&_}
 use mathlib.Core.List.{List, [], _∷_, _++_}
 use native.Mathlib.Omega.{arith}
@@ -107,14 +107,14 @@ line-shown row = record {
 }
 
 -- four columns, digit by digit
-number-space : (v : ℕ) (s : List ℕ) → numberIn v (32 ∷ s) ≡ numberIn v s
+number-space : (s : List ℕ) → numberIn 0 (32 ∷ s) ≡ numberIn 0 s
 unfolding numberIn
-number-space v s = refl
+number-space s = refl
 
 number-digit : (v x : ℕ) (s : List ℕ) → numberIn v ((48 + x) ∷ s) ≡ numberIn (10 * v + x) s
 unfolding numberIn
 number-digit v x s =
-    ap (λ b. numberIn (pick b v (10 * v + (48 + x - 48))) s) (ne-eqb (48 + x) 32 (λ e. omega (arith, e)))
+    ap (λ b. numberIn (10 * v + pick b 0 (48 + x - 48)) s) (ne-eqb (48 + x) 32 (λ e. omega (arith, e)))
     ∙ ap (λ k. numberIn k s) (less v x)
   where
     less : (v x : ℕ) → 10 * v + (48 + x - 48) ≡ 10 * v + x
@@ -124,13 +124,12 @@ number-end : (v : ℕ) → numberIn v [] ≡ v
 unfolding numberIn
 number-end v = refl
 
--- a column is passed over, or its digit is taken
-module _ (v w n : ℕ) (s : List ℕ) where
-  column-below : n < w → numberIn v (digit w n ∷ s) ≡ numberIn v s
-  column-below h = ap (λ c. numberIn v (c ∷ s)) (sym (digit-below w n h)) ∙ number-space v s
+-- a column before the first digit is blank, and one from there on has its digit
+column-below : (w n : ℕ) (s : List ℕ) → n < w → numberIn 0 (digit w n ∷ s) ≡ numberIn 0 s
+column-below w n s h = ap (λ c. numberIn 0 (c ∷ s)) (sym (digit-below w n h)) ∙ number-space s
 
-  column-there : w ≤ n → numberIn v (digit w n ∷ s) ≡ numberIn (10 * v + n / w % 10) s
-  column-there h = ap (λ c. numberIn v (c ∷ s)) (sym (digit-there w n h)) ∙ number-digit v (n / w % 10) s
+column-there : (v w n : ℕ) (s : List ℕ) → w ≤ n → numberIn v (digit w n ∷ s) ≡ numberIn (10 * v + n / w % 10) s
+column-there v w n s h = ap (λ c. numberIn v (c ∷ s)) (sym (digit-there w n h)) ∙ number-digit v (n / w % 10) s
 
 -- so the digits add up
 module _ (n : ℕ) where
@@ -158,11 +157,11 @@ module _ (n : ℕ) where
   below-ten h = ap (λ v. numberIn v units) (omega (arith, h)) ∙ units-read
 
   below-hundred : n < 100 → Dec (n < 10) → numberIn 0 (digit 10 n ∷ units) ≡ n
-  below-hundred h (yes b) = column-below 0 10 n units b ∙ below-ten b
+  below-hundred h (yes b) = column-below 10 n units b ∙ below-ten b
   below-hundred h (no b) = ap (λ v. numberIn v (digit 10 n ∷ units)) (omega (arith, h)) ∙ tens-read (omega (arith, b))
 
   below-thousand : n < 1000 → Dec (n < 100) → numberIn 0 (digit 100 n ∷ digit 10 n ∷ units) ≡ n
-  below-thousand h (yes b) = column-below 0 100 n (digit 10 n ∷ units) b ∙ below-hundred b (decLt n 10)
+  below-thousand h (yes b) = column-below 100 n (digit 10 n ∷ units) b ∙ below-hundred b (decLt n 10)
   below-thousand h (no b) = ap (λ v. numberIn v (digit 100 n ∷ digit 10 n ∷ units)) (omega (arith, h)) ∙ hundreds-read (omega (arith, b))
 
   right-reads : n < 10000 → numberIn 0 (right n) ≡ n
@@ -173,7 +172,7 @@ module _ (n : ℕ) where
       first = omega (arith, h)
 
       go : Dec (n < 1000) → numberIn 0 (digit 1000 n ∷ digit 100 n ∷ digit 10 n ∷ units) ≡ n
-      go (yes b) = column-below 0 1000 n (digit 100 n ∷ digit 10 n ∷ units) b ∙ below-thousand b (decLt n 100)
+      go (yes b) = column-below 1000 n (digit 100 n ∷ digit 10 n ∷ units) b ∙ below-thousand b (decLt n 100)
       go (no b) =
           column-there 0 1000 n (digit 100 n ∷ digit 10 n ∷ units) (omega (arith, b))
           ∙ ap (λ v. numberIn v (digit 100 n ∷ digit 10 n ∷ units)) first ∙ hundreds-read (omega (arith, b))
@@ -194,11 +193,45 @@ call-columns : (r : Record)
 unfolding lineOf right
 call-columns r = (refl, refl, refl)
 
+title-spaces : (p : ℕ)
+    → (columns 1 1 (lineOf (title p)) ≡ spaces 1) × (columns 5 8 (lineOf (title p)) ≡ spaces 4)
+    × (columns 13 16 (lineOf (title p)) ≡ spaces 4) × (columns 21 22 (lineOf (title p)) ≡ spaces 2)
+    × (columns 27 28 (lineOf (title p)) ≡ spaces 2)
+unfolding lineOf right
+title-spaces p = (refl, refl, refl, refl, refl)
+
+call-spaces : (r : Record)
+    → (columns 5 8 (lineOf (entry r)) ≡ spaces 4) × (columns 13 16 (lineOf (entry r)) ≡ spaces 4)
+    × (columns 21 32 (lineOf (entry r)) ≡ spaces 12)
+unfolding lineOf right
+call-spaces r = (refl, refl, refl)
+
+gap-spaces : columns 1 32 (lineOf gap) ≡ spaces 32
+unfolding lineOf
+gap-spaces = refl
+
+no-zeros : (n : ℕ)
+    → (n < 1000 → columns 1 1 (right n) ≡ spaces 1) × (n < 100 → columns 1 2 (right n) ≡ spaces 2)
+    × (n < 10 → columns 1 3 (right n) ≡ spaces 3)
+unfolding right
+no-zeros n = (
+  λ h. ap (λ a. a ∷ []) (sym (digit-below 1000 n h)),
+  λ h. ap₂ (λ a b. a ∷ b ∷ []) (blank 1000 (omega (arith, h))) (blank 100 h),
+  λ h. ap₂ (λ a l. a ∷ l) (blank 1000 (omega (arith, h))) (ap₂ (λ b c. b ∷ c ∷ []) (blank 100 (omega (arith, h))) (blank 10 h)),
+)
+  where
+    blank : (w : ℕ) → n < w → digit w n ≡ 32
+    blank w h = sym (digit-below w n h)
+
 pub lines-show : Lines
 lines-show = record {
   line = line-shown;
   title-words = word-columns;
   title-number = title-columns;
   call-numbers = call-columns;
+  title-blanks = title-spaces;
+  call-blanks = call-spaces;
+  gap-blanks = gap-spaces;
   read-back = right-reads;
+  unpadded = no-zeros;
 }

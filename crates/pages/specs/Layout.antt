@@ -11,7 +11,7 @@ use Rattle.list.specs.declared.Record.{Record}
 use Rattle.list.specs.Tags.{listed}
 use Rattle.list.specs.Records.{noRecord, recordAt, recordsOf}
 use Rattle.pages.specs.Rows.{Row, title, gap, entry, resource, due, rowsOf}
-use Rattle.pages.specs.Lines.{RES, CALL, NODE, PAGE, right, lineOf}
+use Rattle.pages.specs.Lines.{spaces, RES, CALL, NODE, PAGE, right, lineOf}
 use Rattle.pages.specs.Sheet.{sheetOf, sheetBytes, room, sheetOver}
 
 -- row i, from 0; past the last a line of spaces
@@ -64,10 +64,10 @@ pub record Line (s : List ℕ) : Type 0 where
 abbrev pub columns : (low high : ℕ) → List ℕ → List ℕ
 columns low high s = take (high + 1 - low) (drop (low - 1) s)
 
--- the number that digits say, spaces before them counting nothing
+-- the number that columns say, a space counting as a 0
 unfoldable pub numberIn : (before : ℕ) → List ℕ → ℕ
 numberIn v [] = v
-numberIn v (c ∷ s) = numberIn (pick (eqb c 32) v (10 * v + (c - 48))) s
+numberIn v (c ∷ s) = numberIn (10 * v + pick (eqb c 32) 0 (c - 48)) s
 
 -- the lines
 pub record Lines : Type 0 where
@@ -79,8 +79,20 @@ pub record Lines : Type 0 where
   pub call-numbers : (r : Record)
       → (columns 1 4 (lineOf (entry r)) ≡ right (r .callee .0)) × (columns 9 12 (lineOf (entry r)) ≡ right (r .caller .0))
       × (columns 17 20 (lineOf (entry r)) ≡ right (r .node .0))
-  -- four columns tell every number below 10000
+  -- all else is spaces
+  pub title-blanks : (p : ℕ)
+      → (columns 1 1 (lineOf (title p)) ≡ spaces 1) × (columns 5 8 (lineOf (title p)) ≡ spaces 4)
+      × (columns 13 16 (lineOf (title p)) ≡ spaces 4) × (columns 21 22 (lineOf (title p)) ≡ spaces 2)
+      × (columns 27 28 (lineOf (title p)) ≡ spaces 2)
+  pub call-blanks : (r : Record)
+      → (columns 5 8 (lineOf (entry r)) ≡ spaces 4) × (columns 13 16 (lineOf (entry r)) ≡ spaces 4)
+      × (columns 21 32 (lineOf (entry r)) ≡ spaces 12)
+  pub gap-blanks : columns 1 32 (lineOf gap) ≡ spaces 32
+  -- four columns tell every number below 10000, its last digit in the last of them, and no zero stands before its first
   pub read-back : (n : ℕ) → n < 10000 → numberIn 0 (right n) ≡ n
+  pub unpadded : (n : ℕ)
+      → (n < 1000 → columns 1 1 (right n) ≡ spaces 1) × (n < 100 → columns 1 2 (right n) ≡ spaces 2)
+      × (n < 10 → columns 1 3 (right n) ≡ spaces 3)
 
 -- how many of the records are of node n
 unfoldable pub timesOf : ℕ → List Record → ℕ
