@@ -1,16 +1,17 @@
 -- digits, numbers and lines, character by character
-use Prim.Native.Nat.{ℕ, suc, _+_, _/_, _%_, _≤_, _<_}
+use Prim.Native.Nat.{ℕ, zero, suc, _+_, _*_, _/_, _%_, _≤_, _<_}
 use mathlib.Core.Path.{_≡_, refl, ap, _∙_}
 use mathlib.Core.List.{List, [], _∷_, _++_}
 use native.Mathlib.Omega.{arith}
+use native.Mathlib.Nat.{not-suc-le-zero, le-of-suc-le-suc}
 use native.Mathlib.Numerals.{add-one}
-use lib.ListN.{set}
+use lib.ListN.{getD, set}
 use lib.Seq.{sets}
 use borrow.Author.Tests.{le-leb, lt-leb}
 use Rattle.list.specs.declared.Record.{Record}
 use Rattle.pages.specs.Rows.{title, gap, entry}
 use Rattle.pages.specs.Lines.{spaces, lineFeed, RES, CALL, NODE, PAGE, digit, right, lineOf}
-use Rattle.pages.specs.Working.{callOver}
+use Rattle.pages.specs.Working.{both, callOver}
 use Rattle.pages.proofs.OverLaws.{sets-in}
 
 -- what the code tests
@@ -22,21 +23,75 @@ pub digit-there : (w n : ℕ) → w ≤ n → 48 + n / w % 10 ≡ digit w n
 unfolding digit
 digit-there w n h = rw (le-leb w n h) refl
 
--- the upper two bytes of a number, and all four
-pub upper-laid : (text : List ℕ) (at n a b : ℕ) → a ≡ digit 1000 n → b ≡ digit 100 n
-    → set (set text at a) (at + 1) b ≡ sets text at (digit 1000 n ∷ digit 100 n ∷ [])
-upper-laid text at n a b p q = rw (p, q, add-one) refl
+-- the digits of the numbers from m on, k of them, as they stand in the code from 0 to 99
+abbrev pub pairsFrom : (k m : ℕ) → List ℕ
+pairsFrom zero m = []
+pairsFrom (suc k) m = (48 + m / 10) ∷ (48 + m % 10) ∷ pairsFrom k (suc m)
 
-pub number-laid : (text upper : List ℕ) (at n c : ℕ) → upper ≡ sets text at (digit 1000 n ∷ digit 100 n ∷ []) → c ≡ digit 10 n
-    → set (set upper (at + 2) c) (at + 3) (48 + n % 10) ≡ sets text at (right n)
-unfolding right
-number-laid text upper at n c p q = rw (p, q) (places (at + 2) (at + 3) (omega arith) (omega arith))
+pair-at : (k m r : ℕ) → r < k
+    → (getD (pairsFrom k m) (2 * r) 0 ≡ 48 + (m + r) / 10) × (getD (pairsFrom k m) (2 * r + 1) 0 ≡ 48 + (m + r) % 10)
+pair-at zero m r h = absurd (not-suc-le-zero h)
+pair-at (suc k) m zero h = (ap (λ i. 48 + i / 10) (plain m), ap (λ i. 48 + i % 10) (plain m))
   where
-    places : (j k : ℕ) → j ≡ suc (suc at) → k ≡ suc (suc (suc at))
-        → set (set (set (set text at (digit 1000 n)) (suc at) (digit 100 n)) j (digit 10 n)) k (48 + n % 10)
-        ≡ set (set (set (set text at (digit 1000 n)) (suc at) (digit 100 n)) (suc (suc at)) (digit 10 n)) (suc (suc (suc at)))
-        (48 + n % 10)
-    places j k x y = rw (x, y) refl
+    plain : (m : ℕ) → m ≡ m + 0
+    plain m = omega arith
+pair-at (suc k) m (suc r) h =
+    let next = pair-at k (suc m) r (le-of-suc-le-suc h) in (
+      ap (λ i. getD (pairsFrom (suc k) m) i 0) (two r) ∙ next .0 ∙ ap (λ i. 48 + i / 10) (shift m r),
+      ap (λ i. getD (pairsFrom (suc k) m) i 0) (three r) ∙ next .1 ∙ ap (λ i. 48 + i % 10) (shift m r),
+    )
+  where
+    two : (r : ℕ) → 2 * suc r ≡ suc (suc (2 * r))
+    two r = omega arith
+
+    three : (r : ℕ) → 2 * suc r + 1 ≡ suc (suc (2 * r + 1))
+    three r = omega arith
+
+    shift : (m r : ℕ) → suc m + r ≡ m + suc r
+    shift m r = omega arith
+
+pub pair-laid : (text : List ℕ) (at r : ℕ) → r < 100
+    → set (set text at (getD (pairsFrom 100 0) (2 * r) 0)) (at + 1) (getD (pairsFrom 100 0) (2 * r + 1) 0) ≡ sets text at (both r)
+pair-laid text at r h = rw (pair-at 100 0 r h .0, pair-at 100 0 r h .1, plain r, add-one) refl
+  where
+    plain : (r : ℕ) → 0 + r ≡ r
+    plain r = omega arith
+
+-- the upper two columns of a number, then the lower
+module _ (text : List ℕ) (at n a b : ℕ) (p : a ≡ digit 1000 n) (q : b ≡ digit 100 n) where
+  lower-laid : (c d : ℕ) → c ≡ digit 10 n → d ≡ 48 + n % 10
+      → sets (set (set text at a) (at + 1) b) (at + 2) (c ∷ d ∷ []) ≡ sets text at (right n)
+  unfolding right
+  lower-laid c d x y = rw (p, q, x, y) (places (at + 1) (at + 2) (omega arith) (omega arith))
+    where
+      places : (i j : ℕ) → i ≡ suc at → j ≡ suc (suc at)
+          → sets (set (set text at (digit 1000 n)) i (digit 100 n)) j (digit 10 n ∷ (48 + n % 10) ∷ [])
+          ≡ sets text at (digit 1000 n ∷ digit 100 n ∷ digit 10 n ∷ (48 + n % 10) ∷ [])
+      places i j x y = rw (x, y) refl
+
+  pub more-laid : 100 ≤ n → sets (set (set text at a) (at + 1) b) (at + 2) (both (n % 100)) ≡ sets text at (right n)
+  more-laid h = lower-laid (48 + n % 100 / 10) (48 + n % 100 % 10) (tens ∙ digit-there 10 n (omega (arith, h))) (omega arith)
+    where
+      tens : 48 + n % 100 / 10 ≡ 48 + n / 10 % 10
+      tens = omega arith
+
+module _ (text : List ℕ) (at n : ℕ) where
+  pub two-laid : 10 ≤ n → n < 100 → sets (set (set text at 32) (at + 1) 32) (at + 2) (both n) ≡ sets text at (right n)
+  two-laid l h =
+      lower-laid text at n 32 32 (digit-below 1000 n (omega (arith, h))) (digit-below 100 n h) (48 + n / 10) (48 + n % 10)
+      (tens ∙ digit-there 10 n l) refl
+    where
+      tens : 48 + n / 10 ≡ 48 + n / 10 % 10
+      tens = omega (arith, h)
+
+  pub one-laid : n < 10 → set (set (set (set text at 32) (at + 1) 32) (at + 2) 32) (at + 3) (48 + n) ≡ sets text at (right n)
+  one-laid h =
+      ap (λ i. set (set (set (set text at 32) (at + 1) 32) (at + 2) 32) i (48 + n)) (next at)
+      ∙ lower-laid text at n 32 32 (digit-below 1000 n (omega (arith, h))) (digit-below 100 n (omega (arith, h))) 32 (48 + n)
+      (digit-below 10 n h) (omega (arith, h))
+    where
+      next : (i : ℕ) → i + 3 ≡ suc (i + 2)
+      next i = omega arith
 
 -- a line of spaces, as it stands in the code
 pub blank-line : spaces 32 ++ lineFeed ≡ lineOf gap

@@ -1,13 +1,17 @@
 -- what the parts of the printing ask of each other
-use Prim.Native.Nat.{ℕ, _+_, _-_, _*_, _≤_, _<_}
+use Prim.Native.Nat.{ℕ, _+_, _-_, _*_, _/_, _%_, _≤_, _<_}
 use mathlib.Core.Path.{_≡_}
-use mathlib.Core.List.{List, _++_}
+use mathlib.Core.List.{List, [], _∷_, _++_}
 use lib.ListN.{length}
 use lib.Seq.{sets}
 use Rattle.list.specs.declared.Record.{Record}
 use Rattle.pages.specs.declared.layout.Reached.{Reached}
 use Rattle.pages.specs.Rows.{Row, gaps, resource, due, rowsAfter, rowsOf}
 use Rattle.pages.specs.Lines.{right, linesOf}
+
+-- both digits of a number below 100
+abbrev pub both : ℕ → List ℕ
+both r = (48 + r / 10) ∷ (48 + r % 10) ∷ []
 
 -- a text in which the three numbers of a call were written over the line from `at` on
 abbrev pub callOver : (text : List ℕ) (at : ℕ) → Record → List ℕ

@@ -2,13 +2,12 @@
 use list::Record;
 ghost use mathlib.Core.Path.{_≡_};
 ghost use Prim.Native.Nat.{_+_, _*_, _≤_, _<_};
-ghost use mathlib.Core.List.{[], _∷_};
 ghost use lib.ListN.{length};
 ghost use lib.Seq.{sets};
 ghost use Rattle.pages.specs.Rows.{title, gap};
 ghost use Rattle.pages.specs.Lines as Lines;
 ghost use Rattle.pages.specs.Lines.{right, lineOf};
-ghost use Rattle.pages.specs.Working.{callOver};
+ghost use Rattle.pages.specs.Working.{both, callOver};
 
 // 24 pages of 24 lines of 33 bytes.
 pub type Text = [u8; 19008];
@@ -36,18 +35,17 @@ fn digit(weight: u16, n: u16) -> u8
     48 + (n / weight % 10) as u8
 }
 
-// The upper two of n's four columns: most numbers leave them blank, and then nothing is divided.
-fn upper(text: &mut Text, at: usize, n: u16)
-    requires { ⌜ at + 2 ≤ 19008 ⌝ }
-    ensures { λ _. ⌜ now (text .exit) ≡ sets (now (text .entry)) at (Lines.digit 1000 n ∷ Lines.digit 100 n ∷ []) ⌝ }
+// Writes both digits of r into the two columns from byte `at` on: they are looked up, since a division costs more.
+fn pair(text: &mut Text, at: usize, r: u16)
+    requires { ⌜ (at + 2 ≤ 19008) × (r < 100) ⌝ }
+    ensures { λ _. ⌜ now (text .exit) ≡ sets (now (text .entry)) at (both r) ⌝ }
 {
-    if n < 100 {
-        text[at] = 32;
-        text[at + 1] = 32;
-        return;
-    }
-    text[at] = digit(1000, n);
-    text[at + 1] = digit(100, n);
+    let pairs =
+        b"0001020304050607080910111213141516171819202122232425262728293031323334353637383940414243444546474849\
+        5051525354555657585960616263646566676869707172737475767778798081828384858687888990919293949596979899";
+    let i = 2 * (r as usize);
+    text[at] = pairs[i];
+    text[at + 1] = pairs[i + 1];
 }
 
 // Writes n into the four columns from byte `at` on, at their right.
@@ -55,9 +53,22 @@ fn number(text: &mut Text, at: usize, n: u16)
     requires { ⌜ at + 4 ≤ 19008 ⌝ }
     ensures { λ _. ⌜ now (text .exit) ≡ sets (now (text .entry)) at (right n) ⌝ }
 {
-    upper(text, at, n);
-    text[at + 2] = digit(10, n);
-    text[at + 3] = 48 + (n % 10) as u8;
+    if n < 10 {
+        text[at] = 32;
+        text[at + 1] = 32;
+        text[at + 2] = 32;
+        text[at + 3] = 48 + n as u8;
+        return;
+    }
+    if n < 100 {
+        text[at] = 32;
+        text[at + 1] = 32;
+        pair(text, at + 2, n);
+        return;
+    }
+    text[at] = digit(1000, n);
+    text[at + 1] = digit(100, n);
+    pair(text, at + 2, n % 100);
 }
 
 // Row `row` becomes a line of spaces.
