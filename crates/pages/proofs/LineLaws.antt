@@ -1,11 +1,10 @@
 -- digits, numbers and lines, character by character
-use Prim.Native.Nat.{ℕ, zero, suc, _+_, _*_, _/_, _%_, _≤_, _<_}
+use Prim.Native.Nat.{ℕ, suc, _+_, _/_, _%_, _≤_, _<_}
 use mathlib.Core.Path.{_≡_, refl, ap, _∙_}
 use mathlib.Core.List.{List, [], _∷_, _++_}
 use native.Mathlib.Omega.{arith}
-use native.Mathlib.Nat.{not-suc-le-zero, le-of-suc-le-suc}
 use native.Mathlib.Numerals.{add-one}
-use lib.ListN.{getD, set}
+use lib.ListN.{set}
 use lib.Seq.{sets}
 use borrow.Author.Tests.{le-leb, lt-leb}
 use Rattle.list.specs.declared.Record.{Record}
@@ -23,39 +22,9 @@ pub digit-there : (w n : ℕ) → w ≤ n → 48 + n / w % 10 ≡ digit w n
 unfolding digit
 digit-there w n h = rw (le-leb w n h) refl
 
--- the digits of the numbers from m on, k of them, as they stand in the code from 0 to 99
-abbrev pub pairsFrom : (k m : ℕ) → List ℕ
-pairsFrom zero m = []
-pairsFrom (suc k) m = (48 + m / 10) ∷ (48 + m % 10) ∷ pairsFrom k (suc m)
-
-pair-at : (k m r : ℕ) → r < k
-    → (getD (pairsFrom k m) (2 * r) 0 ≡ 48 + (m + r) / 10) × (getD (pairsFrom k m) (2 * r + 1) 0 ≡ 48 + (m + r) % 10)
-pair-at zero m r h = absurd (not-suc-le-zero h)
-pair-at (suc k) m zero h = (ap (λ i. 48 + i / 10) (plain m), ap (λ i. 48 + i % 10) (plain m))
-  where
-    plain : (m : ℕ) → m ≡ m + 0
-    plain m = omega arith
-pair-at (suc k) m (suc r) h =
-    let next = pair-at k (suc m) r (le-of-suc-le-suc h) in (
-      ap (λ i. getD (pairsFrom (suc k) m) i 0) (two r) ∙ next .0 ∙ ap (λ i. 48 + i / 10) (shift m r),
-      ap (λ i. getD (pairsFrom (suc k) m) i 0) (three r) ∙ next .1 ∙ ap (λ i. 48 + i % 10) (shift m r),
-    )
-  where
-    two : (r : ℕ) → 2 * suc r ≡ suc (suc (2 * r))
-    two r = omega arith
-
-    three : (r : ℕ) → 2 * suc r + 1 ≡ suc (suc (2 * r + 1))
-    three r = omega arith
-
-    shift : (m r : ℕ) → suc m + r ≡ m + suc r
-    shift m r = omega arith
-
-pub pair-laid : (text : List ℕ) (at r : ℕ) → r < 100
-    → set (set text at (getD (pairsFrom 100 0) (2 * r) 0)) (at + 1) (getD (pairsFrom 100 0) (2 * r + 1) 0) ≡ sets text at (both r)
-pair-laid text at r h = rw (pair-at 100 0 r h .0, pair-at 100 0 r h .1, plain r, add-one) refl
-  where
-    plain : (r : ℕ) → 0 + r ≡ r
-    plain r = omega arith
+-- both digits of a number below 100
+pub pair-laid : (text : List ℕ) (at r : ℕ) → set (set text at (48 + r / 10)) (at + 1) (48 + r % 10) ≡ sets text at (both r)
+pair-laid text at r = rw add-one refl
 
 -- the upper two columns of a number, then the lower
 module _ (text : List ℕ) (at n a b : ℕ) (p : a ≡ digit 1000 n) (q : b ≡ digit 100 n) where

@@ -35,17 +35,13 @@ fn digit(weight: u16, n: u16) -> u8
     48 + (n / weight % 10) as u8
 }
 
-// Writes both digits of r into the two columns from byte `at` on: they are looked up, since a division costs more.
+// Writes both digits of r into the two columns from byte `at` on.
 fn pair(text: &mut Text, at: usize, r: u16)
     requires { ⌜ (at + 2 ≤ 19008) × (r < 100) ⌝ }
     ensures { λ _. ⌜ now (text .exit) ≡ sets (now (text .entry)) at (both r) ⌝ }
 {
-    let pairs =
-        b"0001020304050607080910111213141516171819202122232425262728293031323334353637383940414243444546474849\
-        5051525354555657585960616263646566676869707172737475767778798081828384858687888990919293949596979899";
-    let i = 2 * (r as usize);
-    text[at] = pairs[i];
-    text[at + 1] = pairs[i + 1];
+    text[at] = 48 + (r / 10) as u8;
+    text[at + 1] = 48 + (r % 10) as u8;
 }
 
 // Writes n into the four columns from byte `at` on, at their right.
