@@ -1,8 +1,10 @@
 /* Prints a design's arbiter list, as the list program does, and runs its circuit under that list: run FILE.table [ARGUMENTS..]
+   Or prints its arbiter sheet, as the sheet program does: run --sheet FILE.table
    Exit status 0; 1 where something is refused; 2 where the call is wrong or the file can't be read, with one line on standard error. */
 #include <stdbool.h>
 #include <stdint.h>
 #include <stdio.h>
+#include <string.h>
 
 #include "safl.h"
 
@@ -72,6 +74,17 @@ static uint32_t print_list(const uint8_t *table, size_t len, uint8_t *tags, size
     return 0;
 }
 
+/* The arbiter sheet of a table; a zero byte is not put after it. */
+static int print_sheet(const uint8_t *table, size_t len) {
+    static uint8_t text[SAFL_SHEET_BYTES];
+    uint64_t answer = sheet_fill(table, len, text);
+    if (safl_kind(answer) == SAFL_REFUSED) {
+        return refused(safl_lower(answer));
+    }
+    fwrite(text, 1, safl_lower(answer), stdout);
+    return 0;
+}
+
 /* Main's run from its start to its answer, to a rest or to the end of the budget. */
 static int run(const uint8_t *table, size_t len, const uint8_t *tags, size_t tags_len, const uint32_t *args, size_t count) {
     struct safl_state state = {0};
@@ -104,9 +117,10 @@ int main(int argc, char **argv) {
     size_t len, count = 0;
 
     if (argc < 2) {
-        return complain("usage: run FILE.table [ARGUMENTS..]");
+        return complain("usage: run FILE.table [ARGUMENTS..], or run --sheet FILE.table");
     }
-    for (int i = 2; i < argc; i++) {
+    bool sheet = argc == 3 && strcmp(argv[1], "--sheet") == 0;
+    for (int i = 2; i < argc && !sheet; i++) {
         uint32_t number;
         if (!parse(argv[i], &number)) {
             return complain("run: an argument is no number from 0 to 4294967295");
@@ -115,8 +129,11 @@ int main(int argc, char **argv) {
             args[count++] = number;
         }
     }
-    if (!read_file(argv[1], table, sizeof table, &len)) {
+    if (!read_file(argv[sheet ? 2 : 1], table, sizeof table, &len)) {
         return complain("run: the table file can't be read");
+    }
+    if (sheet) {
+        return print_sheet(table, len);
     }
 
     uint32_t refusal = table_check(table, len);

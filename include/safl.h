@@ -86,8 +86,8 @@ uint32_t list_fill_records(const uint8_t *table, size_t table_len, struct safl_r
 
 /* ---- The arbiter sheet: the list by resource, in pages of 24 lines of 32 characters and a line feed. */
 
-/* Prints the sheet of a table into the text, from the front; bytes past its end stay as they were. SAFL_VALUE: the number of its bytes;
-   SAFL_REFUSED, 1 to 9 of the table, the text as it was. */
+/* Prints the sheet of a table into the text, from the front; bytes past its end stay as they were, and no zero byte is put there.
+   SAFL_VALUE: the number of its bytes; SAFL_REFUSED, 1 to 9 of the table, the text as it was. */
 uint64_t sheet_fill(const uint8_t *table, size_t table_len, uint8_t text[SAFL_SHEET_BYTES]);
 
 /* ---- The circuit under a tag list. Refusals 1 to 10 of table and tags come first; then 11 of a start; 12, 24, 20, and 21, 22 or 23 of a

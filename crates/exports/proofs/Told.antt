@@ -1,4 +1,4 @@
--- from what the entries promise, the circuit's of the lent arrays, to what the C functions promise
+-- from what the entries promise to what the C functions promise: of the sheet's number, and of the circuit's lent arrays
 use Prim.Native.Nat.{ℕ}
 use mathlib.Core.Path.{_≡_, refl, sym, ap, _∙_}
 use mathlib.Core.List.{List}

@@ -40,7 +40,8 @@ due-changes last f = go (eqb last 0) (eqb last f)
     go false true = omega arith
     go false false = omega arith
 
--- the rows after so many, as pages: each but the last takes its 23 lines of calls and changes
+-- `rows` rows follow where `left` lines are left and c calls and changes are to come: they are whole pages after this one, and each page
+-- but the last takes its 23 lines of calls and changes
 record Paged (left c rows : ℕ) : Type 0 where
   pages : ℕ
   size : rows ≡ left + 24 * pages
@@ -97,6 +98,10 @@ paged page left last (r ∷ rs) = go (decLt left (due last (resource r) + 1))
             → (q .pages ≡ 0) ⊎ (23 * q .pages + left ≤ one (not (eqb last (resource r))) + suc (cost (resource r) rs) + 22)
         more (inl e) = inl e
         more (inr l) = inr (omega (arith, l, h, due-changes last (resource r)))
+
+-- the lines left on the page are there in any case
+pub rows-least : (page left last : ℕ) (rs : List Record) → left ≤ length (rowsAfter page left last rs)
+rows-least page left last rs = omega (arith, paged page left last rs .size)
 
 rows-size : (rs : List Record) → length (rowsOf rs) ≡ 24 * (paged 1 23 0 rs .pages + 1)
 unfolding rowsOf

@@ -3,13 +3,15 @@ pub mod LineLaws
 pub mod RowLaws
 pub mod RowTexts
 pub mod PageLaws
-pub mod StandsLaws
 pub mod BoundLaws
+pub mod StandsLaws
 pub mod FoundLaws
 pub mod SheetLaws
 pub mod Titles
 pub mod Spacing
 pub mod OneLayout
+pub mod LineShown
+pub mod NumberShown
 pub mod LineFacts
 pub mod Once
 pub mod Theorems

@@ -9,7 +9,7 @@ use lib.Seq.{sets}
 use borrow.Author.Tests.{le-leb, lt-leb}
 use Rattle.list.specs.declared.Record.{Record}
 use Rattle.pages.specs.Rows.{title, gap, entry}
-use Rattle.pages.specs.Lines.{spaces, lineFeed, RES, CALL, NODE, PAGE, digit, right, lineOf}
+use Rattle.pages.specs.Lines.{spaces, lineFeed, titleWords, digit, right, lineOf}
 use Rattle.pages.specs.Working.{both, callOver}
 use Rattle.pages.proofs.OverLaws.{sets-in}
 
@@ -69,7 +69,7 @@ blank-line = refl
 
 -- a title without its number
 abbrev head : List ℕ
-head = spaces 1 ++ RES ++ spaces 4 ++ CALL ++ spaces 4 ++ NODE ++ spaces 2 ++ PAGE ++ spaces 6 ++ lineFeed
+head = titleWords ++ spaces 6 ++ lineFeed
 
 title-line : (p : ℕ) → sets head 28 (right p) ≡ lineOf (title p)
 unfolding right lineOf

@@ -6,7 +6,7 @@ use native.Mathlib.Omega.{arith}
 use native.Mathlib.Nat.{not-suc-le-zero, le-of-suc-le-suc, suc-add}
 use native.Mathlib.Numerals.{add-one}
 use lib.ListN.{length, getD, set, take, drop, length-set}
-use lib.Seq.{sets, sets-eq, set-set, set-comm, take-suc, set-append-left}
+use lib.Seq.{length-take-le, sets, sets-eq, set-set, set-comm, take-suc, set-append-left}
 
 module _ {A : Type 0} where
   -- one list after another
@@ -27,12 +27,7 @@ module _ {A : Type 0} where
       ap (λ x. set x (at + i) (getD d i z)) q ∙ sym (step ∙ one (at + length (take i d)) (at + i) (sym (reach d i h)))
     where
       reach : (d : List A) (i : ℕ) → i < length d → at + i ≡ at + length (take i d)
-      reach d i h = ap (λ k. at + k) (sym (full d i h))
-        where
-          full : (d : List A) (i : ℕ) → i < length d → length (take i d) ≡ i
-          full d zero h = refl
-          full [] (suc i) h = absurd (not-suc-le-zero h)
-          full (x ∷ d) (suc i) h = ap suc (full d i (le-of-suc-le-suc h))
+      reach d i h = ap (λ k. at + k) (sym (length-take-le i d (omega (arith, h))))
 
       step : sets l at (take (i + 1) d) ≡ sets (sets l at (take i d)) (at + length (take i d)) (getD d i z ∷ [])
       step = ap (λ k. sets l at (take k d)) (add-one i) ∙ ap (λ x. sets l at x) (take-suc d i z h) ∙ sets-append l at (take i d)
@@ -41,17 +36,17 @@ module _ {A : Type 0} where
       one : (j k : ℕ) → j ≡ k → sets (sets l at (take i d)) j (getD d i z ∷ []) ≡ set (sets l at (take i d)) k (getD d i z)
       one j k q = ap (λ m. set (sets l at (take i d)) m (getD d i z)) q
 
-  -- one place past or before those written
-  set-past : (l : List A) (i k : ℕ) (a : List A) (x : A) → k < i → set (sets l i a) k x ≡ sets (set l k x) i a
-  set-past l i k [] x h = refl
-  set-past l i k (y ∷ a) x h = set-past (set l i y) (suc i) k a x (omega arith)
+  -- a place before those written can be set first
+  set-ahead : (l : List A) (i k : ℕ) (a : List A) (x : A) → k < i → set (sets l i a) k x ≡ sets (set l k x) i a
+  set-ahead l i k [] x h = refl
+  set-ahead l i k (y ∷ a) x h = set-ahead (set l i y) (suc i) k a x (omega arith)
       ∙ ap (λ m. sets m (suc i) a) (set-comm l i k y x (λ e. omega (arith, e)))
 
   -- one of them anew
   set-in : (l : List A) (i j : ℕ) (a : List A) (x : A) → j < length a → set (sets l i a) (i + j) x ≡ sets l i (set a j x)
   set-in l i j [] x h = absurd (not-suc-le-zero h)
   set-in l i zero (y ∷ a) x h =
-      ap (λ k. set (sets (set l i y) (suc i) a) k x) (plain i) ∙ set-past (set l i y) (suc i) i a x (omega arith)
+      ap (λ k. set (sets (set l i y) (suc i) a) k x) (plain i) ∙ set-ahead (set l i y) (suc i) i a x (omega arith)
       ∙ ap (λ m. sets m (suc i) a) (set-set l i y x)
     where
       plain : (i : ℕ) → i + 0 ≡ i

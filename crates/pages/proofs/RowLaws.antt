@@ -1,16 +1,14 @@
 -- the rows call by call: which lines of spaces are due, a call that stays on its page, and a call that begins a new one
 use Prim.Native.Nat.{ℕ, _+_, _-_, _≤_, _<_}
-use mathlib.Core.Path.{_≡_, refl, ap}
+use mathlib.Core.Path.{_≡_, refl}
 use mathlib.Core.Bool.{Bool, true, false, _&&_, not}
 use mathlib.Core.List.{List, [], _∷_, _++_}
 use native.Mathlib.Omega.{arith}
-use native.Mathlib.Decide.{decLt}
 use lib.Dec.{eqb}
-use lib.ListN.{length, length-append, length-replicate}
 use borrow.Author.Tests.{eq-eqb, ne-eqb, le-leb, lt-leb}
 use Rattle.table.specs.Pick.{pick}
 use Rattle.list.specs.declared.Record.{Record}
-use Rattle.pages.specs.Rows.{title, gap, entry, gaps, resource, due, rowsAfter}
+use Rattle.pages.specs.Rows.{title, entry, gaps, resource, due, rowsAfter}
 
 -- as the code tests for them
 pub due-first : (last f : ℕ) → last ≡ 0 → 0 ≡ due last f
@@ -52,26 +50,3 @@ module _ (page left last : ℕ) (r : Record) (rs : List Record) where
       → rowsAfter page left last (r ∷ rs) ≡ gaps left ++ title (page + 1) ∷ entry r ∷ rowsAfter (page + 1) 22 (resource r) rs
   unfolding rowsAfter
   rows-new h = rw (lt-leb (due last (resource r) + 1) left h) refl
-
--- the page's lines are there in any case
-pub rows-least : (page left last : ℕ) (rs : List Record) → left ≤ length (rowsAfter page left last rs)
-rows-least page left last [] = omega (arith, ap length (rows-end page left last), length-replicate left gap)
-rows-least page left last (r ∷ rs) = go (decLt left (due last (resource r) + 1))
-    (rows-least page (left - (due last (resource r) + 1)) (resource r) rs)
-  where
-    go : Dec (left < due last (resource r) + 1)
-        → left - (due last (resource r) + 1) ≤ length (rowsAfter page (left - (due last (resource r) + 1)) (resource r) rs)
-        → left ≤ length (rowsAfter page left last (r ∷ rs))
-    go (yes h) _ = omega (
-      arith,
-      ap length (rows-new page left last r rs h),
-      length-append (gaps left) (title (page + 1) ∷ entry r ∷ rowsAfter (page + 1) 22 (resource r) rs),
-      length-replicate left gap,
-    )
-    go (no h) l = omega (
-      arith,
-      ap length (rows-on page left last r rs (omega (arith, h))),
-      length-append (gaps (due last (resource r))) (entry r ∷ rowsAfter page (left - (due last (resource r) + 1)) (resource r) rs),
-      length-replicate (due last (resource r)) gap,
-      l,
-    )

@@ -38,7 +38,7 @@ unfolding linesOf
 lines-cons row rows = refl
 
 -- rows after rows
-pub lines-append : (a b : List Row) → linesOf (a ++ b) ≡ linesOf a ++ linesOf b
+lines-append : (a b : List Row) → linesOf (a ++ b) ≡ linesOf a ++ linesOf b
 unfolding linesOf
 lines-append [] b = refl
 lines-append (row ∷ a) b = ap (λ l. lineOf row ++ l) (lines-append a b) ∙ sym (append-assoc (lineOf row) (linesOf a) (linesOf b))
@@ -64,9 +64,9 @@ pub gaps-more : (k : ℕ) → gaps (k + 1) ≡ gaps k ++ gap ∷ []
 gaps-more k = sym (replicate-append-replicate k 1 gap)
 
 -- rows written over a text, and then more of them
-pub rows-laid : (text₀ text : List ℕ) (at : ℕ) (a b : List Row) → text ≡ sets text₀ at (linesOf a)
+pub rows-over : (text₀ text : List ℕ) (at : ℕ) (a b : List Row) → text ≡ sets text₀ at (linesOf a)
     → sets text (at + 33 * length a) (linesOf b) ≡ sets text₀ at (linesOf (a ++ b))
-rows-laid text₀ text at a b e =
+rows-over text₀ text at a b e =
     ap (λ x. sets x (at + 33 * length a) (linesOf b)) e
     ∙ ap (λ k. sets (sets text₀ at (linesOf a)) (at + k) (linesOf b)) (sym (lines-size a))
     ∙ sym (ap (sets text₀ at) (lines-append a b) ∙ sets-append text₀ at (linesOf a) (linesOf b))

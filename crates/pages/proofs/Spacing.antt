@@ -1,7 +1,7 @@
 -- the lines of spaces and the pages' ends, read from the top; the calls in their order
 use Prim.Native.Nat.{ℕ, zero, suc, _+_, _-_, _<_}
 use mathlib.Core.Path.{_≡_, refl, sym, subst, ap, _∙_}
-use mathlib.Core.List.{List, [], _∷_, _++_}
+use mathlib.Core.List.{List, [], _∷_, _++_, append-nil}
 use native.Mathlib.Omega.{arith}
 use native.Mathlib.Decide.{decLt}
 use Rattle.list.specs.declared.Record.{Record}
@@ -20,12 +20,9 @@ spaced-gaps last k (suc n) rows s = spaced-gaps last (suc k) n rows (subst (λ i
     next : (k n : ℕ) → k + suc n ≡ suc k + n
     next k n = omega arith
 
-spaced-end : (last k n : ℕ) → Spaced last k (gaps n)
-spaced-end last k zero = tt
-spaced-end last k (suc n) = spaced-end last (suc k) n
-
 spaced-after : (page left last : ℕ) (rs : List Record) → Spaced last 0 (rowsAfter page left last rs)
-spaced-after page left last [] = subst (Spaced last 0) (sym (rows-end page left last)) (spaced-end last 0 left)
+spaced-after page left last [] =
+    subst (Spaced last 0) (append-nil (gaps left) ∙ sym (rows-end page left last)) (spaced-gaps last 0 left [] tt)
 spaced-after page left last (r ∷ rs) = go (decLt left (due last (resource r) + 1))
     (spaced-after page (left - (due last (resource r) + 1)) (resource r) rs) (spaced-after (page + 1) 22 (resource r) rs)
   where
@@ -51,19 +48,15 @@ unfolding rowsOf
 rows-spaced rs = spaced-after 1 23 0 rs
 
 -- the calls
-pub entries-gaps : (n : ℕ) (rows : List Row) → entriesOf (gaps n ++ rows) ≡ entriesOf rows
+entries-gaps : (n : ℕ) (rows : List Row) → entriesOf (gaps n ++ rows) ≡ entriesOf rows
 unfolding entriesOf
 entries-gaps zero rows = refl
 entries-gaps (suc n) rows = entries-gaps n rows
 
-no-entries : (n : ℕ) → entriesOf (gaps n) ≡ []
-unfolding entriesOf
-no-entries zero = refl
-no-entries (suc n) = no-entries n
-
 entries-after : (page left last : ℕ) (rs : List Record) → entriesOf (rowsAfter page left last rs) ≡ rs
 unfolding entriesOf
-entries-after page left last [] = ap entriesOf (rows-end page left last) ∙ no-entries left
+entries-after page left last [] =
+    ap entriesOf (rows-end page left last ∙ sym (append-nil (gaps left))) ∙ entries-gaps left []
 entries-after page left last (r ∷ rs) = go (decLt left (due last (resource r) + 1))
     (entries-after page (left - (due last (resource r) + 1)) (resource r) rs) (entries-after (page + 1) 22 (resource r) rs)
   where

@@ -10,8 +10,9 @@ use Rattle.pages.specs.declared.layout.Reached.{Reached}
 use Rattle.pages.specs.Rows.{Row, title, gap, entry, gaps, resource, due, rowsAfter, rowsOf}
 use Rattle.pages.specs.Lines.{linesOf}
 use Rattle.pages.specs.Working.{callOver, Roomy, Stands}
-use Rattle.pages.proofs.RowLaws.{rows-end, rows-on, rows-new, rows-least}
-use Rattle.pages.proofs.RowTexts.{lines-size, rows-laid, call-over}
+use Rattle.pages.proofs.RowLaws.{rows-end, rows-on, rows-new}
+use Rattle.pages.proofs.BoundLaws.{rows-least}
+use Rattle.pages.proofs.RowTexts.{lines-size, rows-over, call-over}
 
 -- the first page, with its title alone
 pub stands-first : (all : List Record) (text₀ text : List ℕ) → text ≡ sets text₀ (792 * 0) (linesOf (title (0 + 1) ∷ gaps 23))
@@ -100,7 +101,7 @@ module _ (all rest : List Record) (text₀ text : List ℕ) (w : Reached) (r : R
       begun : text₁ ≡ sets text₀ 0 (linesOf (titled ++ gap ∷ gaps 22))
       begun =
           b ∙ ap (λ k. sets text k (linesOf (title (w .pages + 1) ∷ gaps 23))) (place (w .pages) (length full) full-size)
-          ∙ rows-laid text₀ text 0 full (title (w .pages + 1) ∷ gaps 23) (s .written)
+          ∙ rows-over text₀ text 0 full (title (w .pages + 1) ∷ gaps 23) (s .written)
           ∙ ap (λ g. sets text₀ 0 (linesOf g)) (sym (append-assoc full (title (w .pages + 1) ∷ []) (gaps 23)))
         where
           place : (p n : ℕ) → n ≡ 24 * p → 792 * p ≡ 0 + 33 * n

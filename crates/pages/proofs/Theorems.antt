@@ -12,7 +12,7 @@ use Rattle.list.specs.Tags.{listed}
 use Rattle.list.specs.Records.{recordAt, recordsOf}
 use Rattle.list.proofs.EachRecord.{each-record}
 use Rattle.pages.specs.Rows.{Row, title, rowsOf}
-use Rattle.pages.specs.Layout.{timesOf, Laid, Lines, SheetStands}
+use Rattle.pages.specs.Layout.{timesOf, Laid, LinesShow, SheetStands}
 use Rattle.pages.specs.Sheet.{sheetOf}
 use Rattle.pages.proofs.RowTexts.{lines-size, line-at}
 use Rattle.pages.proofs.BoundLaws.{rows-whole, few-pages, empty-page}
@@ -23,8 +23,8 @@ use Rattle.pages.proofs.OneLayout as OneLayout
 use Rattle.pages.proofs.LineFacts as LineFacts
 use Rattle.pages.proofs.Once.{listed-once}
 
--- 32 characters and a line feed; words and numbers in their columns
-pub lines-show : Lines
+-- 32 characters and a line feed; words and numbers in their columns; no two rows have one line
+pub lines-show : LinesShow
 lines-show = LineFacts.lines-show
 
 -- the rows of any records are pages of 24 with these calls, spaced as asked for

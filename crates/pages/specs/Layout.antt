@@ -25,8 +25,8 @@ entriesOf (title p ∷ rows) = entriesOf rows
 entriesOf (gap ∷ rows) = entriesOf rows
 entriesOf (entry r ∷ rows) = r ∷ entriesOf rows
 
--- the row after a title is a call that had no room on the page before, which ends with k lines of spaces after a call of `last`, or has no
--- call where that is 0: the lines of spaces that were due before it and its own are more than k
+-- a page that ends with k lines of spaces, its last call being of `last`, 0 for none, had no room for the call after the next title: the
+-- lines of spaces due before that call, and the call's own line, are more than k
 abbrev pub NoRoom : (last k : ℕ) → List Row → Type 0
 NoRoom last k [] = ⊥
 NoRoom last k (title p ∷ rows) = ⊥
@@ -41,7 +41,7 @@ Spaced last k (title p ∷ rows) = NoRoom last k rows × Spaced 0 0 rows
 Spaced last k (gap ∷ rows) = Spaced last (suc k) rows
 Spaced last k (entry r ∷ rows) = (k ≡ due last (resource r)) × Spaced (resource r) 0 rows
 
--- there is a first row, and the rows after it are so
+-- there is a first row, and the rows after it are spaced so
 abbrev pub SpacedPages : List Row → Type 0
 SpacedPages [] = ⊥
 SpacedPages (row ∷ rows) = Spaced 0 0 rows
@@ -69,8 +69,14 @@ unfoldable pub numberIn : (before : ℕ) → List ℕ → ℕ
 numberIn v [] = v
 numberIn v (c ∷ s) = numberIn (10 * v + pick (eqb c 32) 0 (c - 48)) s
 
+-- a row whose numbers four columns can tell
+abbrev pub Told : Row → Type 0
+Told (title p) = p < 10000
+Told gap = Unit {0}
+Told (entry r) = (r .callee .0 < 10000) × (r .caller .0 < 10000) × (r .node .0 < 10000)
+
 -- the lines
-pub record Lines : Type 0 where
+pub record LinesShow : Type 0 where
   pub line : (row : Row) → Line (lineOf row)
   pub title-words : (p : ℕ)
       → (columns 2 4 (lineOf (title p)) ≡ RES) × (columns 9 12 (lineOf (title p)) ≡ CALL)
@@ -79,7 +85,7 @@ pub record Lines : Type 0 where
   pub call-numbers : (r : Record)
       → (columns 1 4 (lineOf (entry r)) ≡ right (r .callee .0)) × (columns 9 12 (lineOf (entry r)) ≡ right (r .caller .0))
       × (columns 17 20 (lineOf (entry r)) ≡ right (r .node .0))
-  -- all else is spaces
+  -- the other columns are blank
   pub title-blanks : (p : ℕ)
       → (columns 1 1 (lineOf (title p)) ≡ spaces 1) × (columns 5 8 (lineOf (title p)) ≡ spaces 4)
       × (columns 13 16 (lineOf (title p)) ≡ spaces 4) × (columns 21 22 (lineOf (title p)) ≡ spaces 2)
@@ -93,6 +99,8 @@ pub record Lines : Type 0 where
   pub unpadded : (n : ℕ)
       → (n < 1000 → columns 1 1 (right n) ≡ spaces 1) × (n < 100 → columns 1 2 (right n) ≡ spaces 2)
       × (n < 10 → columns 1 3 (right n) ≡ spaces 3)
+  -- a line is that of one row alone
+  pub apart : (a b : Row) → Told a → Told b → lineOf a ≡ lineOf b → a ≡ b
 
 -- how many of the records are of node n
 unfoldable pub timesOf : ℕ → List Record → ℕ
@@ -101,7 +109,7 @@ timesOf n (r ∷ rs) = one (eqb (r .node .0) n) + timesOf n rs
 
 -- the sheet of an accepted table
 pub record SheetStands (t : List ℕ) : Type 0 where
-  -- its rows are laid out as asked for, and no others are; an empty list gives one page
+  -- its rows are laid out as asked for, and no others are; where nothing is listed there is one page
   pub laid : Laid (recordsOf t) (rowsOf (recordsOf t))
   pub only : (rows : List Row) → Laid (recordsOf t) rows → rows ≡ rowsOf (recordsOf t)
   pub empty : recordsOf t ≡ [] → length (rowsOf (recordsOf t)) ≡ 24

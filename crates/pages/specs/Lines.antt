@@ -33,10 +33,13 @@ digit w n = pick (leb w n) (48 + n / w % 10) 32
 unfoldable pub right : ℕ → List ℕ
 right n = digit 1000 n ∷ digit 100 n ∷ digit 10 n ∷ (48 + n % 10) ∷ []
 
--- columns 2 to 4, 9 to 12, 17 to 20, 23 to 26 and 29 to 32 of a title; 1 to 4, 9 to 12 and 17 to 20 of a call
+-- columns 2 to 4, 9 to 12, 17 to 20 and 23 to 26 of a title
+abbrev pub titleWords : List ℕ
+titleWords = spaces 1 ++ RES ++ spaces 4 ++ CALL ++ spaces 4 ++ NODE ++ spaces 2 ++ PAGE
+
+-- a title has its number in columns 29 to 32, a call its three in 1 to 4, 9 to 12 and 17 to 20
 unfoldable pub lineOf : Row → List ℕ
-lineOf (title p) =
-    spaces 1 ++ RES ++ spaces 4 ++ CALL ++ spaces 4 ++ NODE ++ spaces 2 ++ PAGE ++ spaces 2 ++ right p ++ lineFeed
+lineOf (title p) = titleWords ++ spaces 2 ++ right p ++ lineFeed
 lineOf gap = spaces 32 ++ lineFeed
 lineOf (entry r) =
     right (r .callee .0) ++ spaces 4 ++ right (r .caller .0) ++ spaces 4 ++ right (r .node .0) ++ spaces 12 ++ lineFeed

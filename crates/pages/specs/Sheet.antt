@@ -16,7 +16,7 @@ use Rattle.pages.specs.Lines.{linesOf}
 unfoldable pub sheetOf : List ℕ → List ℕ
 sheetOf t = linesOf (rowsOf (recordsOf t))
 
--- what a text gets of any table: no bytes where it is refused, for which the program prints the refusal
+-- what a text gets of any table: no bytes where it is refused, and the program prints the refusal then
 unfoldable pub sheetBytes : List ℕ → List ℕ
 sheetBytes t = ifAccepted (checkOf t) (sheetOf t) []
 

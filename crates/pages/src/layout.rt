@@ -42,7 +42,7 @@ fn begin(text: &mut Text, k: usize)
     ensures { λ _. ⌜ now (text .exit) ≡ sets (now (text .entry)) (792 * k) (linesOf (title (k + 1) ∷ gaps 23)) ⌝ }
 {
     let first = 24 * k;
-    lines::heading(text, first, (k + 1) as u16);
+    lines::title(text, first, (k + 1) as u16);
     let mut i: usize = 0;
     while i < 23 {
         lines::blank(text, first + 1 + i);
@@ -61,17 +61,20 @@ fn add(text: &mut Text, w: Reached, r: Record) -> Reached
     let row = w.rows + due(w.last, callee.0);
     if row < end {
         lines::call(text, row, r);
+        let rows = row + 1;
         return Reached {
             pages: w.pages,
-            rows: row + 1,
+            rows,
             last: callee.0,
         };
     }
     begin(text, w.pages);
     lines::call(text, end + 1, r);
+    let pages = w.pages + 1;
+    let rows = end + 2;
     Reached {
-        pages: w.pages + 1,
-        rows: end + 2,
+        pages,
+        rows,
         last: callee.0,
     }
 }

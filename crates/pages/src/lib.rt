@@ -8,7 +8,7 @@ ghost use Rattle.pages.specs.Sheet.{Printed, FilledWith};
 
 // The bytes of a sheet, zeros after them, how many they are, and what the check of the table says; none where that is a refusal.
 pub struct Sheet {
-    pub text: [u8; 19008],
+    pub text: Text,
     pub length: usize,
     pub checked: Checked,
 }

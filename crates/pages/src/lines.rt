@@ -4,7 +4,7 @@ ghost use mathlib.Core.Path.{_≡_};
 ghost use Prim.Native.Nat.{_+_, _*_, _≤_, _<_};
 ghost use lib.ListN.{length};
 ghost use lib.Seq.{sets};
-ghost use Rattle.pages.specs.Rows.{title, gap};
+ghost use Rattle.pages.specs.Rows as Rows;
 ghost use Rattle.pages.specs.Lines as Lines;
 ghost use Rattle.pages.specs.Lines.{right, lineOf};
 ghost use Rattle.pages.specs.Working.{both, callOver};
@@ -70,15 +70,15 @@ fn number(text: &mut Text, at: usize, n: u16)
 // Row `row` becomes a line of spaces.
 pub(crate) fn blank(text: &mut Text, row: usize)
     requires { ⌜ row < 576 ⌝ }
-    ensures { λ _. ⌜ now (text .exit) ≡ sets (now (text .entry)) (33 * row) (lineOf gap) ⌝ }
+    ensures { λ _. ⌜ now (text .exit) ≡ sets (now (text .entry)) (33 * row) (lineOf Rows.gap) ⌝ }
 {
     lay(text, 33 * row, b"                                \n");
 }
 
 // Row `row` becomes the title of this page.
-pub(crate) fn heading(text: &mut Text, row: usize, page: u16)
+pub(crate) fn title(text: &mut Text, row: usize, page: u16)
     requires { ⌜ row < 576 ⌝ }
-    ensures { λ _. ⌜ now (text .exit) ≡ sets (now (text .entry)) (33 * row) (lineOf (title page)) ⌝ }
+    ensures { λ _. ⌜ now (text .exit) ≡ sets (now (text .entry)) (33 * row) (lineOf (Rows.title page)) ⌝ }
 {
     lay(text, 33 * row, b" RES    CALL    NODE  PAGE      \n");
     number(text, 33 * row + 28, page);

@@ -41,8 +41,8 @@ call-requires c κs =
     let on : tie.Then1 = search in
     omega (arith, on .if1 .taken, s .pre .paged)
 
-add-t11 : tie.Need-add-t11
-add-t11 c =
+add-rows : tie.Need-add-rows
+add-rows c =
     let s : tie.Start = search in
     let on : tie.Then1 = search in
     omega (arith, on .if1 .taken, s .pre .paged)
@@ -65,13 +65,13 @@ add-call c =
 call-requires-2 : tie.Need-call-requires-2
 call-requires-2 c κs = omega (arith, new-page (search))
 
-add-t7 : tie.Need-add-t7
-add-t7 c =
+add-pages : tie.Need-add-pages
+add-pages c =
     let s : tie.Start = search in
     omega (arith, s .pre .paged)
 
-add-t15 : tie.Need-add-t15
-add-t15 c =
+add-rows-2 : tie.Need-add-rows-2
+add-rows-2 c =
     let s : tie.Start = search in
     omega (arith, s .pre .paged)
 
@@ -91,11 +91,11 @@ add-spec =
     due-requires
     add-row
     call-requires
-    add-t11
+    add-rows
     returns
     begin-requires
     add-call
     call-requires-2
-    add-t7
-    add-t15
+    add-pages
+    add-rows-2
     returns-2)

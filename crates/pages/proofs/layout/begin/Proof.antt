@@ -18,14 +18,14 @@ abbrev μ-loop : tie.MeasureT-loop
 mul-first : tie.Need-mul-first Inv-loop μ-loop
 mul-first c = omega arith
 
-add-heading : tie.Need-add-heading Inv-loop μ-loop
-add-heading c = omega arith
+add-title : tie.Need-add-title Inv-loop μ-loop
+add-title c = omega arith
 
-cast-heading : tie.Need-cast-heading Inv-loop μ-loop
-cast-heading c = omega arith
+cast-title : tie.Need-cast-title Inv-loop μ-loop
+cast-title c = omega arith
 
-heading-requires : tie.Need-heading-requires Inv-loop μ-loop
-heading-requires c κs = omega arith
+title-requires : tie.Need-title-requires Inv-loop μ-loop
+title-requires c κs = omega arith
 
 loop-holds : tie.Need-loop-holds Inv-loop μ-loop
 loop-holds c = (omega arith, page-none _ _)
@@ -54,8 +54,8 @@ loop-again c =
 returns : tie.Need-returns Inv-loop μ-loop
 returns c =
     let l : tie.At-loop Inv-loop μ-loop = search in
-    let h : tie.After-heading Inv-loop μ-loop = search in
-    page-whole _ _ _ _ (l .loop .i) (h .heading .ensures) (omega arith) (l .loop .inv .1)
+    let h : tie.After-title Inv-loop μ-loop = search in
+    page-whole _ _ _ _ (l .loop .i) (h .title .ensures) (omega arith) (l .loop .inv .1)
 
 pub begin-spec : {M : Type 1} → statement M
 begin-spec =
@@ -64,9 +64,9 @@ begin-spec =
     Inv-loop
     μ-loop
     mul-first
-    add-heading
-    cast-heading
-    heading-requires
+    add-title
+    cast-title
+    title-requires
     loop-holds
     add-blank
     add-blank-2

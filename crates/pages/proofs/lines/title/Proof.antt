@@ -1,8 +1,8 @@
--- `lines::heading` meets its contract: the title's words, and the number over their line.
+-- `lines::title` meets its contract: the title's words, and the number over their line.
 use borrow.Author.Needs.{needs}
 use Rattle.pages.proofs.LineLaws.{title-laid}
-use Rattle.pages.proofs.lines.heading.Statement.{statement}
-use Rattle.pages.proofs.lines.heading.Tie as tie
+use Rattle.pages.proofs.lines.title.Statement.{statement}
+use Rattle.pages.proofs.lines.title.Tie as tie
 
 mul-lay : tie.Need-mul-lay
 mul-lay c = search needs
@@ -27,8 +27,8 @@ returns c =
     let words : tie.After-lay = search in
     title-laid _ _ _ _ _ (words .lay .ensures) (c .number .ensures)
 
-pub heading-spec : {M : Type 1} → statement M
-heading-spec =
+pub title-spec : {M : Type 1} → statement M
+title-spec =
     tie.close
     (tie.spec
     mul-lay
