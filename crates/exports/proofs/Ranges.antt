@@ -13,14 +13,11 @@ use Rattle.table.specs.Find.{lowest}
 use Rattle.table.specs.Check.{Verdict, accepted, refused, stage, sizes, checkOf}
 use Rattle.table.specs.Working.{Taken}
 use Rattle.table.proofs.SurveyLaws.{taken-by}
-use Rattle.table.proofs.Family.{owner-few}
 use Rattle.list.specs.declared.Record.{Record}
 use Rattle.list.specs.Tags.{after, listed, tagFits, checkWith, fillVerdict, tagsRefusal}
 use Rattle.list.specs.Records.{noRecord, recordAt, recordsOf, recordsVerdict}
 use Rattle.list.proofs.NodeLaws.{few}
-use Rattle.list.proofs.TagFacts.{listed-call}
-use Rattle.list.proofs.CallLaws.{listed-called}
-use Rattle.list.proofs.EachRecord.{each-record}
+use Rattle.list.proofs.EachRecord.{each-record, record-small}
 use Rattle.pages.specs.Sheet.{sheetBytes}
 use Rattle.pages.proofs.SheetLaws.{bytes-fit}
 use Rattle.exports.specs.Codes.{item, past, itemAfter, itemOf, extentAfter, extentOf}
@@ -98,11 +95,8 @@ module _ (t : List ℕ) where
 module _ (t : List ℕ) (ok : Taken t) where
   record-fits : (n : ℕ) → listed t n ≡ true → FitsItem (item (recordAt t n))
   record-fits n e =
-      let f = few t ok in (
-        omega (arith, listed-called t ok n e .1, f .0),
-        omega (arith, owner-few t n, f .0),
-        omega (arith, listed-call t (functions t) (nodes t) ok n e .0 .1, f .1),
-      )
+      let s = record-small t ok n e in
+      (omega (arith, s .0), omega (arith, s .1), omega (arith, s .2))
 
   -- at every place of the list, and past it
   pub list-fits : (i : ℕ) → FitsItem (item (getD (recordsOf t) i noRecord))

@@ -1,5 +1,5 @@
--- what holds of the record of every listed call holds of each record of the list
-use Prim.Native.Nat.{ℕ, zero, suc, _<_}
+-- what holds of the record of every listed call holds of each record of the list; how large its numbers are
+use Prim.Native.Nat.{ℕ, zero, suc, _≤_, _<_}
 use mathlib.Core.Path.{_≡_, refl}
 use mathlib.Core.Bool.{Bool, true, false, _&&_}
 use mathlib.Core.List.{List, [], _∷_, _++_}
@@ -9,9 +9,15 @@ use lib.Dec.{eqb}
 use lib.ListN.{length, getD}
 use Rattle.table.specs.Pick.{pick}
 use Rattle.table.specs.Bytes.{functions, nodes}
+use Rattle.table.specs.Naming.{owner}
+use Rattle.table.specs.Working.{Taken}
+use Rattle.table.proofs.Family.{owner-few}
 use Rattle.list.specs.declared.Record.{Record}
 use Rattle.list.specs.Tags.{calleeOf, listed}
 use Rattle.list.specs.Records.{noRecord, recordAt, callsFrom, recordsFrom, recordsOf}
+use Rattle.list.proofs.NodeLaws.{few}
+use Rattle.list.proofs.TagFacts.{listed-call}
+use Rattle.list.proofs.CallLaws.{listed-called}
 
 module _ (t : List ℕ) (P : Record → Type 0) (p : (n : ℕ) → listed t n ≡ true → P (recordAt t n)) where
   abbrev pub Each : List Record → Type 0
@@ -52,3 +58,12 @@ module _ (t : List ℕ) (P : Record → Type 0) (p : (n : ℕ) → listed t n �
   pub each-record : Each (recordsOf t)
   unfolding recordsOf
   each-record = each-from (functions t) 1
+
+-- functions are among 32, nodes among 512
+pub record-small : (t : List ℕ) → Taken t → (n : ℕ) → listed t n ≡ true → (calleeOf t n ≤ 32) × (owner t n ≤ 32) × (n ≤ 512)
+record-small t ok n e =
+    let f = few t ok in (
+      omega (arith, listed-called t ok n e .1, f .0),
+      omega (arith, owner-few t n, f .0),
+      omega (arith, listed-call t (functions t) (nodes t) ok n e .0 .1, f .1),
+    )

@@ -6,13 +6,15 @@ use mathlib.Core.List.{List, _++_}
 use native.Mathlib.Omega.{arith}
 use lib.ListN.{length, drop}
 use Rattle.table.specs.Check.{checkOf, accepted}
+use Rattle.table.specs.Working.{Taken}
 use Rattle.table.proofs.SurveyLaws.{taken-by}
 use Rattle.list.specs.declared.Record.{Record}
 use Rattle.list.specs.Tags.{listed}
 use Rattle.list.specs.Records.{recordAt, recordsOf}
-use Rattle.list.proofs.EachRecord.{each-record}
-use Rattle.pages.specs.Rows.{Row, title, rowsOf}
-use Rattle.pages.specs.Layout.{timesOf, Laid, LinesShow, SheetStands}
+use Rattle.list.proofs.NodeLaws.{few}
+use Rattle.list.proofs.EachRecord.{each-record, record-small}
+use Rattle.pages.specs.Rows.{Row, title, entry, rowsOf}
+use Rattle.pages.specs.Layout.{timesOf, Laid, Told, LinesShow, SheetStands}
 use Rattle.pages.specs.Sheet.{sheetOf}
 use Rattle.pages.proofs.RowTexts.{lines-size, line-at}
 use Rattle.pages.proofs.BoundLaws.{rows-whole, few-pages, empty-page}
@@ -45,6 +47,11 @@ rows-laid rs = record {
 pub rows-only : (rs : List Record) (rows : List Row) → Laid rs rows → rows ≡ rowsOf rs
 rows-only = OneLayout.only-rows
 
+record-told : (t : List ℕ) → Taken t → (n : ℕ) → listed t n ≡ true → Told (entry (recordAt t n))
+record-told t ok n e =
+    let s = record-small t ok n e in
+    (omega (arith, s .0), omega (arith, s .1), omega (arith, s .2))
+
 -- the sheet of a table
 pub sheet-stands : (t : List ℕ) (F N : ℕ) → checkOf t ≡ accepted F N → SheetStands t
 unfolding sheetOf
@@ -58,7 +65,8 @@ sheet-stands t F N e =
       size = lines-size (rowsOf (recordsOf t));
       lines = line-at (rowsOf (recordsOf t));
       once = λ n. ap (timesOf n) (rows-entries (recordsOf t)) ∙ listed-once t ok n;
-      call = each-record t (λ r. (r ≡ recordAt t (r .node .0)) × (listed t (r .node .0) ≡ true)) (λ n l. (refl, l));
+      call = each-record t (λ r. (r ≡ recordAt t (r .node .0)) × (listed t (r .node .0) ≡ true) × Told (entry r))
+          (λ n l. (refl, l, record-told t ok n l));
       few = few-pages t ok;
       over = λ text q. over-room t text q ∙ ap (λ b. b ++ drop (length b) text) (bytes-of t F N e);
     }

@@ -117,10 +117,10 @@ pub record SheetStands (t : List ℕ) : Type 0 where
   pub bytes : sheetBytes t ≡ sheetOf t
   pub size : length (sheetOf t) ≡ 33 * length (rowsOf (recordsOf t))
   pub lines : (i : ℕ) → i < length (rowsOf (recordsOf t)) → take 33 (drop (33 * i) (sheetOf t)) ≡ lineOf (rowAt (rowsOf (recordsOf t)) i)
-  -- each listed call is on it once, and no other; what is said of a call are its callee, its function and its node
+  -- each listed call is on it once, and no other; what is said of a call are its callee, its function and its node, and its line tells them
   pub once : (n : ℕ) → timesOf n (entriesOf (rowsOf (recordsOf t))) ≡ one (listed t n)
   pub call : (i : ℕ) → i < length (recordsOf t)
-      → let r = getD (recordsOf t) i noRecord in (r ≡ recordAt t (r .node .0)) × (listed t (r .node .0) ≡ true)
+      → let r = getD (recordsOf t) i noRecord in (r ≡ recordAt t (r .node .0)) × (listed t (r .node .0) ≡ true) × Told (entry r)
   -- at most 24 pages, for which the text has room
   pub few : length (rowsOf (recordsOf t)) ≤ 24 * 24
   pub over : (text : List ℕ) → length text ≡ room → sheetOver t text ≡ sheetOf t ++ drop (length (sheetOf t)) text
