@@ -16,13 +16,13 @@ use Rattle.pages.proofs.RowTexts.{lines-size, rows-over, call-over}
 
 -- the first page, with its title alone
 pub stands-first : (all : List Record) (text₀ text : List ℕ) → text ≡ sets text₀ (792 * 0) (linesOf (title (0 + 1) ∷ gaps 23))
-    → Stands all all text₀ text (record { pages = 1; rows = 1; last = 0 })
+    → Stands all all text₀ text (record { pages = 1; rows = 1; last = record { 0 = 0 } })
 unfolding rowsOf
 stands-first all text₀ text e = record { done = title 1 ∷ []; count = refl; within = omega arith; onward = refl; written = e }
 
 module _ (all rest : List Record) (text₀ text : List ℕ) (w : Reached) (r : Record) (s : Stands all (r ∷ rest) text₀ text w) where
   abbrev d : ℕ
-  d = due (w .last) (resource r)
+  d = due (w .last .0) (resource r)
 
   abbrev left : ℕ
   left = 24 * w .pages - w .rows
@@ -48,7 +48,7 @@ module _ (all rest : List Record) (text₀ text : List ℕ) (w : Reached) (r : R
         parts : (p n d row : ℕ) → row ≡ n + d → row < 24 * p → 24 * p - n ≡ d + (1 + (24 * p - (row + 1)))
         parts p n d row e h = omega arith
 
-    pub stands-on : Stands all rest text₀ text′ (record { pages = w .pages; rows = row + 1; last = resource r })
+    pub stands-on : Stands all rest text₀ text′ (record { pages = w .pages; rows = row + 1; last = r .callee })
     stands-on = record {
       done = before ++ entry r ∷ [];
       count = length-append before (entry r ∷ []) ∙ ap (λ k. k + 1) before-size;
@@ -57,7 +57,7 @@ module _ (all rest : List Record) (text₀ text : List ℕ) (w : Reached) (r : R
           append-assoc before (entry r ∷ []) (rowsAfter (w .pages) after (resource r) rest)
           ∙ append-assoc (s .done) (gaps d) (entry r ∷ rowsAfter (w .pages) after (resource r) rest)
           ∙ ap (λ k. s .done ++ (gaps d ++ entry r ∷ rowsAfter (w .pages) k (resource r) rest)) (less (w .pages) (w .rows) d row e)
-          ∙ ap (λ g. s .done ++ g) (sym (rows-on (w .pages) left (w .last) r rest (fits (w .pages) (w .rows) d row e h))) ∙ s .onward;
+          ∙ ap (λ g. s .done ++ g) (sym (rows-on (w .pages) left (w .last .0) r rest (fits (w .pages) (w .rows) d row e h))) ∙ s .onward;
       written =
           q ∙ ap (λ k. callOver text (33 * k) r) (sym before-size)
           ∙ call-over text₀ text before (gaps after) r (s .written ∙ ap (λ g. sets text₀ 0 (linesOf g)) split)
@@ -88,7 +88,7 @@ module _ (all rest : List Record) (text₀ text : List ℕ) (w : Reached) (r : R
     rest-of : full ++ title (w .pages + 1) ∷ entry r ∷ rowsAfter (w .pages + 1) 22 (resource r) rest ≡ rowsOf all
     rest-of =
         append-assoc (s .done) (gaps left) (title (w .pages + 1) ∷ entry r ∷ rowsAfter (w .pages + 1) 22 (resource r) rest)
-        ∙ ap (λ g. s .done ++ g) (sym (rows-new (w .pages) left (w .last) r rest none)) ∙ s .onward
+        ∙ ap (λ g. s .done ++ g) (sym (rows-new (w .pages) left (w .last .0) r rest none)) ∙ s .onward
 
     module _ (text₁ text′ : List ℕ) (b : text₁ ≡ sets text (792 * w .pages) (linesOf (title (w .pages + 1) ∷ gaps 23)))
         (q : text′ ≡ callOver text₁ (33 * (24 * w .pages + 1)) r) where
@@ -107,7 +107,7 @@ module _ (all rest : List Record) (text₀ text : List ℕ) (w : Reached) (r : R
           place : (p n : ℕ) → n ≡ 24 * p → 792 * p ≡ 0 + 33 * n
           place p n e = omega arith
 
-      pub stands-new : Stands all rest text₀ text′ (record { pages = w .pages + 1; rows = 24 * w .pages + 2; last = resource r })
+      pub stands-new : Stands all rest text₀ text′ (record { pages = w .pages + 1; rows = 24 * w .pages + 2; last = r .callee })
       stands-new = record {
         done = titled ++ entry r ∷ [];
         count = length-append titled (entry r ∷ []) ∙ ap (λ k. k + 1) titled-size ∙ two (24 * w .pages);
@@ -149,10 +149,10 @@ begun-fit all rest text₀ text w s =
     omega (
       arith,
       ap length (s .onward),
-      length-append (s .done) (rowsAfter (w .pages) left (w .last) rest),
+      length-append (s .done) (rowsAfter (w .pages) left (w .last .0) rest),
       s .count,
       s .within,
-      rows-least (w .pages) left (w .last) rest,
+      rows-least (w .pages) left (w .last .0) rest,
     )
 
 -- the next call has a row on a sheet of 24 pages
@@ -167,7 +167,7 @@ stands-roomy all rest text₀ text w r s few = record {
 -- where no call is left, all of the sheet stands
 module _ (all : List Record) (text₀ text : List ℕ) (w : Reached) (s : Stands all [] text₀ text w) where
   last-rows : s .done ++ gaps (24 * w .pages - w .rows) ≡ rowsOf all
-  last-rows = ap (λ g. s .done ++ g) (sym (rows-end (w .pages) (24 * w .pages - w .rows) (w .last))) ∙ s .onward
+  last-rows = ap (λ g. s .done ++ g) (sym (rows-end (w .pages) (24 * w .pages - w .rows) (w .last .0))) ∙ s .onward
 
   pub stands-all : text ≡ sets text₀ 0 (linesOf (rowsOf all))
   stands-all = s .written ∙ ap (λ g. sets text₀ 0 (linesOf g)) last-rows

@@ -21,12 +21,12 @@ callOver text at r = sets (sets (sets text at (right (r .callee .0))) (at + 8) (
 pub record Roomy (w : Reached) (r : Record) : Type 0 where
   pub within : w .rows ≤ 24 * w .pages
   pub paged : w .pages ≤ 24
-  pub more : 24 * w .pages ≤ w .rows + due (w .last) (resource r) → w .pages < 24
+  pub more : 24 * w .pages ≤ w .rows + due (w .last .0) (resource r) → w .pages < 24
 
 -- the sheet of all has been printed over a text so far that the calls `rest` are left: `w .rows` rows stand, and the page is filled up
 pub record Stands (all rest : List Record) (text₀ text : List ℕ) (w : Reached) : Type 0 where
   pub done : List Row
   pub count : length done ≡ w .rows
   pub within : w .rows ≤ 24 * w .pages
-  pub onward : done ++ rowsAfter (w .pages) (24 * w .pages - w .rows) (w .last) rest ≡ rowsOf all
+  pub onward : done ++ rowsAfter (w .pages) (24 * w .pages - w .rows) (w .last .0) rest ≡ rowsOf all
   pub written : text ≡ sets text₀ 0 (linesOf (done ++ gaps (24 * w .pages - w .rows)))

@@ -4,6 +4,7 @@ use crate::lines;
 use crate::lines::Text;
 use list::Listing;
 use list::Record;
+use table::Function;
 ghost use mathlib.Core.Path.{_≡_};
 ghost use Prim.Native.Nat.{ℕ, _+_, _*_, _<_};
 ghost use mathlib.Core.List.{List, _∷_};
@@ -16,21 +17,21 @@ ghost use Rattle.pages.specs.Rows.{title, gaps, rowsOf};
 ghost use Rattle.pages.specs.Lines.{linesOf};
 ghost use Rattle.pages.specs.Working.{Roomy, Stands};
 
-// How far the printing has come: pages begun, rows used, and the resource of the last call on the page, 0 for none.
+// How far the printing has come: pages begun, rows used, and the resource of the last call on the page, none where there is no call yet.
 pub struct Reached {
     pub pages: usize,
     pub rows: usize,
-    pub last: u16,
+    pub last: Function,
 }
 
 // The lines of spaces that are due before a call of f.
-fn due(last: u16, f: u16) -> usize
-    ensures { λ r. ⌜ r ≡ Rows.due last f ⌝ }
+fn due(last: Function, f: Function) -> usize
+    ensures { λ r. ⌜ r ≡ Rows.due (last .0) (f .0) ⌝ }
 {
-    if last == 0 {
+    if last.0 == 0 {
         return 0;
     }
-    if last == f {
+    if last.0 == f.0 {
         return 0;
     }
     1
@@ -58,14 +59,15 @@ fn add(text: &mut Text, w: Reached, r: Record) -> Reached
 {
     let callee = r.callee;
     let end = 24 * w.pages;
-    let row = w.rows + due(w.last, callee.0);
+    let last = w.last;
+    let row = w.rows + due(last, callee);
     if row < end {
         lines::call(text, row, r);
         let rows = row + 1;
         return Reached {
             pages: w.pages,
             rows,
-            last: callee.0,
+            last: callee,
         };
     }
     begin(text, w.pages);
@@ -75,7 +77,7 @@ fn add(text: &mut Text, w: Reached, r: Record) -> Reached
     Reached {
         pages,
         rows,
-        last: callee.0,
+        last: callee,
     }
 }
 
@@ -90,7 +92,7 @@ pub(crate) fn print(table: &[u8], found: Listing, text: &mut Text) -> usize
     let mut w = Reached {
         pages: 1,
         rows: 1,
-        last: 0,
+        last: Function(0),
     };
     let mut i: usize = 0;
     while i < count {

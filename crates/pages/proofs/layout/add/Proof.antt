@@ -33,7 +33,7 @@ add-row : tie.Need-add-row
 add-row c =
     let d : tie.After-due = search in
     let s = start d in
-    omega (arith, s .pre .within, s .pre .paged, d .due .ensures, due-few (s .args .w .last) (s .args .r .callee .0))
+    omega (arith, s .pre .within, s .pre .paged, d .due .ensures, due-few (s .args .w .last .0) (s .args .r .callee .0))
 
 call-requires : tie.Need-call-requires
 call-requires c κs =
