@@ -103,9 +103,11 @@ fn examples_and_inputs_of_any_length() -> Outcome {
 fn input_in_pieces() -> Outcome {
     let mut seen = Seen::default();
     let full = longest(&mut Random::new(432), 31);
+    for piece in [10, 100, 4096] {
+        agree_in_pieces(&mut seen, &full[..full.len() - 1], piece)?;
+        agree_in_pieces(&mut seen, &full, piece)?;
+    }
     for piece in [1, 3, 7, 10, 100, 4096] {
-        agree_in_pieces(&mut seen, &full[..full.len() - 1], piece.max(10))?;
-        agree_in_pieces(&mut seen, &full, piece.max(10))?;
         agree_in_pieces(&mut seen, &tower_beside()[..300], piece)?;
     }
     Ok(())
