@@ -3,7 +3,7 @@ use Prim.Native.Nat.{ℕ}
 use mathlib.Core.Bool.{false}
 use mathlib.Core.Path.{_≡_, refl, sym, ap, _∙_}
 use mathlib.Core.List.{List}
-use lib.ListN.{length, replicate}
+use lib.ListN.{length, getD, replicate, List·getD-map}
 use borrow.Author.Tests.{eq-eqb, ne-eqb}
 use Rattle.table.specs.Syntax.{id}
 use Rattle.table.specs.Bytes.{functions, root, params}
@@ -11,16 +11,21 @@ use Rattle.table.specs.Check.{stage}
 use Rattle.table.specs.Expressions.{bodyOf}
 use Rattle.list.specs.Tags.{after, checkWith}
 use Rattle.rules.specs.State.{write, fill, blank, circuitStart}
-use Rattle.rules.specs.Circuit.{started, turned, startOf, checkStart, startAfter}
+use Rattle.rules.specs.Arithmetic.{handed, arithmetic}
+use Rattle.rules.specs.Circuit.{started, opening, turned, startOf, checkStart, startAfter}
 use Rattle.circuit.specs.Meaning.{stateAs}
 use Rattle.table.specs.Working.{Taken}
 use Rattle.circuit.specs.Working.{Agreed}
 use Rattle.circuit.proofs.TurnLaws.{main-root}
 use Rattle.table.specs.Check as TableCheck
 
+-- an argument, as a function keeps it; past the last it is 0
+pub handed-at : (t : List ℕ) (f : ℕ) (vs : List ℕ) (i : ℕ) → getD (handed (arithmetic t) f vs) i 0 ≡ arithmetic t .keep f (getD vs i 0)
+handed-at t f vs i = List·getD-map (arithmetic t .keep f) vs i 0
+
 pub start-is : (t args : List ℕ) → Taken t → (a d : List ℕ) (r : ℕ) → r ≡ root t (functions t) → a ≡ write (replicate 512 0) r 1
-    → d ≡ fill (functions t) args (replicate 256 0)
-    → stateAs a (replicate 512 false) (replicate 512 0) d (replicate 32 0) ≡ circuitStart (functions t) (bodyOf t) args
+    → d ≡ fill (functions t) (handed (arithmetic t) (functions t) args) (replicate 256 0)
+    → stateAs a (replicate 512 false) (replicate 512 0) d (replicate 32 0) ≡ opening t args
 unfolding circuitStart blank
 start-is t args fair a d r er ea ed =
     let q : a ≡ write (replicate 512 0) (id (bodyOf t (functions t))) 1 = ea ∙ ap (λ m. write (replicate 512 0) m 1)
@@ -38,6 +43,6 @@ module _ (t tags args : List ℕ) where
     unfolding startOf startAfter checkStart after stage
     start-count d = sym (rw (ag .tagging, ne-eqb (length args) (params t (functions t)) (λ z. d (z ∙ sym ep))) refl)
 
-    pub start-goes : length args ≡ p → started (circuitStart (functions t) (bodyOf t) args) ≡ startOf t tags args
+    pub start-goes : length args ≡ p → started (opening t args) ≡ startOf t tags args
     unfolding startOf startAfter checkStart after stage
     start-goes e = sym (rw (ag .tagging, eq-eqb (length args) (params t (functions t)) (e ∙ ep)) refl)

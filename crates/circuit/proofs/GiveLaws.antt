@@ -2,7 +2,7 @@
 use Prim.Native.Nat.{ℕ, _+_, _-_, _*_, _/_, _%_, _≤_, _<_}
 use mathlib.Core.Bool.{Bool, true, false, _&&_}
 use mathlib.Core.Path.{_≡_, refl, subst, sym, ap, _∙_}
-use mathlib.Core.List.{List, [], map}
+use mathlib.Core.List.{List, [], _∷_, map}
 use mathlib.Core.Logic.{_⊎_, inl, inr}
 use native.Mathlib.Omega.{arith}
 use native.Mathlib.Decide.{ℕ-discrete, decLt}
@@ -115,67 +115,48 @@ filled-end vs l₀ l g i h q = ext-getD 0 l (fill g vs l₀) (h .sized ∙ sym (
         (ap (λ b. eqb (k / 8 + 1) g && b) (lt-ltb (k % 8) i (omega arith)) ∙ and-true (eqb (k / 8 + 1) g))
 
 -- .. from the values of a chain, of which `at` comes next; those after the last value with 0
-pub record GivenTo (t value vs l₀ l : List ℕ) (g i at : ℕ) : Type 0 where
+pub record GivenTo (keep : ℕ → ℕ) (t value vs l₀ l : List ℕ) (g i at : ℕ) : Type 0 where
   pub inside : at ≤ nodes t
-  pub tail : drop i vs ≡ map (entry value 0) (chain t at)
+  pub tail : drop i vs ≡ map keep (map (entry value 0) (chain t at))
   pub filled : FilledTo vs l₀ l g i
 
-module _ (t : List ℕ) (fair : Taken t) (value : List ℕ) (c : ℕ) (low : c ≤ nodes t) (l₀ : List ℕ) (g : ℕ) where
+module _ (keep : ℕ → ℕ) (t : List ℕ) (fair : Taken t) (value : List ℕ) (c : ℕ) (low : c ≤ nodes t) (l₀ : List ℕ) (g : ℕ) where
   abbrev vs : List ℕ
-  vs = map (entry value 0) (chain t c)
+  vs = map keep (map (entry value 0) (chain t c))
 
-  pub given-start : GivenTo t value vs l₀ l₀ g 0 c
+  pub given-start : GivenTo keep t value vs l₀ l₀ g 0 c
   given-start = record {
     inside = low;
     tail = refl;
     filled = filled-start vs l₀ g;
   }
 
-  module _ (l : List ℕ) (i at : ℕ) (h : GivenTo t value vs l₀ l g i at) (few : i < 8) (some : 1 ≤ g) (base x on : ℕ)
-      (eb : base ≡ 8 * (g - 1))
-      (ex : x ≡ entry value 0 at) (eo : on ≡ pick (eqb at 0) 0 (next t at)) where
-    head-is : getD (map (entry value 0) (chain t at)) 0 0 ≡ entry value 0 at
-    unfolding entry
-    head-is = go (ℕ-discrete at 0)
-      where
-        go : Dec (at ≡ 0) → getD (map (entry value 0) (chain t at)) 0 0 ≡ entry value 0 at
-        go (yes z) = ap (λ m. getD (map (entry value 0) m) 0 0) (chain-end t fair at z) ∙ sym (ap (entry value 0) z)
-        go (no z) = ap (λ m. getD (map (entry value 0) m) 0 0) (chain-here t fair at z (h .inside) (next t at) refl)
+  module _ (l : List ℕ) (i at : ℕ) (h : GivenTo keep t value vs l₀ l g i at) (few : i < 8) (some : 1 ≤ g) (base x on : ℕ)
+      (eb : base ≡ 8 * (g - 1)) (here : at ≡ 0 → ⊥) (ex : x ≡ keep (entry value 0 at)) (eo : on ≡ next t at) where
+    chain-is : map keep (map (entry value 0) (chain t at)) ≡ keep (entry value 0 at) ∷ map keep (map (entry value 0) (chain t on))
+    chain-is = ap (λ m. map keep (map (entry value 0) m)) (chain-here t fair at here (h .inside) on eo)
 
     value-is : x ≡ getD vs i 0
-    value-is = ex ∙ sym head-is ∙ ap (λ m. getD m 0 0) (sym (h .tail)) ∙ getD-drop i vs 0 0 ∙ ap (λ j. getD vs j 0) plain
+    value-is = ex ∙ ap (λ m. getD m 0 0) (sym chain-is) ∙ ap (λ m. getD m 0 0) (sym (h .tail)) ∙ getD-drop i vs 0 0
+        ∙ ap (λ j. getD vs j 0) plain
       where
         plain : i + 0 ≡ i
         plain = omega arith
 
-    on-is : (on ≤ nodes t) × (drop 1 (map (entry value 0) (chain t at)) ≡ map (entry value 0) (chain t on))
-    on-is = go (ℕ-discrete at 0)
-      where
-        go : Dec (at ≡ 0) → (on ≤ nodes t) × (drop 1 (map (entry value 0) (chain t at)) ≡ map (entry value 0) (chain t on))
-        go (yes z) =
-            let o : on ≡ 0 = eo ∙ ap (λ b. pick b 0 (next t at)) (eq-eqb at 0 z) in (
-              omega arith,
-              ap (λ m. drop 1 (map (entry value 0) m)) (chain-end t fair at z) ∙ sym
-                  (ap (map (entry value 0)) (chain-end t fair on o)),
-            )
-        go (no z) =
-            let o : on ≡ next t at = eo ∙ ap (λ b. pick b 0 (next t at)) (ne-eqb at 0 z) in
-            (next-in t fair at z (h .inside) on o, ap (λ m. drop 1 (map (entry value 0) m)) (chain-here t fair at z (h .inside) on o))
-
-    pub given-next : GivenTo t value vs l₀ (set l (base + i) x) g (i + 1) on
+    pub given-next : GivenTo keep t value vs l₀ (set l (base + i) x) g (i + 1) on
     given-next = record {
-      inside = on-is .0;
-      tail = sym (drop-drop 1 i vs) ∙ ap (drop 1) (h .tail) ∙ on-is .1;
+      inside = next-in t fair at here (h .inside) on eo;
+      tail = sym (drop-drop 1 i vs) ∙ ap (drop 1) (h .tail ∙ chain-is);
       filled = filled-next vs l₀ l g i (h .filled) few some base x eb value-is;
     }
 
   -- at the end of the chain, or of the registers
-  pub given-end : (z l : List ℕ) (i at : ℕ) → l₀ ≡ fill g [] z → GivenTo t value vs l₀ l g i at → (at ≡ 0) ⊎ (8 ≤ i) → l ≡ fill g vs z
+  pub given-end : (z l : List ℕ) (i at : ℕ) → l₀ ≡ fill g [] z → GivenTo keep t value vs l₀ l g i at → (at ≡ 0) ⊎ (8 ≤ i) → l ≡ fill g vs z
   given-end z l i at ez h q = filled-over vs z l₀ l g i ez (h .filled) (λ j a b. past q j a b)
     where
       past : (at ≡ 0) ⊎ (8 ≤ i) → (j : ℕ) → i ≤ j → j < 8 → getD vs j 0 ≡ 0
       past (inl e) j a b =
           let back : i + (j - i) ≡ j = omega arith in
           sym (ap (λ m. getD vs m 0) back) ∙ sym (getD-drop i vs (j - i) 0)
-          ∙ ap (λ m. getD m (j - i) 0) (h .tail ∙ ap (map (entry value 0)) (chain-end t fair at e))
+          ∙ ap (λ m. getD m (j - i) 0) (h .tail ∙ ap (λ m. map keep (map (entry value 0) m)) (chain-end t fair at e))
       past (inr e) j a b = absurd (omega arith)

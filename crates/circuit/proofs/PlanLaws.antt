@@ -15,6 +15,7 @@ use Rattle.table.specs.Naming.{owner, chain, children, initial}
 use Rattle.rules.specs.State.{entry, register}
 use Rattle.rules.specs.Step.{Act, stuck, blocked, does, begins, turns, finishes, enters, leaves, restarts}
 use Rattle.rules.specs.Operations.{lastValue, operate}
+use Rattle.rules.specs.Arithmetic.{arithmetic}
 use Rattle.table.specs.Check.{formed}
 use Rattle.table.specs.Working.{Taken, IsNode}
 use Rattle.table.proofs.FindLaws.{both}
@@ -22,7 +23,7 @@ use Rattle.table.proofs.KindLaws.{leaf, parameter}
 use Rattle.rules.specs.Circuit.{actOf}
 use Rattle.circuit.specs.Meaning.{stateAs}
 use Rattle.circuit.proofs.OperationLaws.{operateBy}
-use Rattle.circuit.specs.Working.{allDone, leading, lastFrom, given, opens, passed, goes}
+use Rattle.circuit.specs.Working.{allDone, leading, lastFrom, handedTo, opens, passed, goes}
 use Rattle.circuit.proofs.ActBy.{open-is, busy-is, openBy, primBy, selfBy, callBy, branchBy, condBy, bindBy, busyBy}
 use Rattle.circuit.proofs.ChainLaws.{ok, chain-end, chain-here, next-in, operate-by}
 
@@ -42,7 +43,7 @@ module _ (t status : List ℕ) (n c : ℕ) (ec : c ≡ first t n) (a : Bool) (ea
   all-kids : a ≡ allDone (entry status 0) (children t n)
   all-kids = ea ∙ ap (allDone (entry status 0)) kids
 
-  pub self-yes : (value : List ℕ) → a ≡ true → does (restarts (owner t n) (given t value n)) ≡ selfBy t status value n
+  pub self-yes : (value : List ℕ) → a ≡ true → does (restarts (owner t n) (handedTo t value (owner t n) n)) ≡ selfBy t status value n
   unfolding selfBy
   self-yes value h = sym (rw (sym all-kids ∙ h) refl)
 
@@ -54,11 +55,12 @@ module _ (t status : List ℕ) (n c : ℕ) (ec : c ≡ first t n) (a : Bool) (ea
   unfolding primBy
   prim-no value h = sym (rw (sym all-kids ∙ h) refl)
 
-  pub prim-yes : (value : List ℕ) (e v : ℕ) → a ≡ true → e ≡ extra t n → v ≡ operate e (map (entry value 0) (chain t c))
-      → does (finishes v) ≡ primBy t status value n
+  pub prim-yes : (value : List ℕ) (e x f v : ℕ) → a ≡ true → e ≡ extra t n → x ≡ operate e (map (entry value 0) (chain t c))
+      → f ≡ owner t n → v ≡ arithmetic t .keep f x → does (finishes v) ≡ primBy t status value n
   unfolding primBy
-  prim-yes value e v h ee ev =
-      ap (λ x. does (finishes x)) (ev ∙ ap₂ (λ o l. operate o (map (entry value 0) l)) ee kids) ∙ sym (rw (sym all-kids ∙ h) refl)
+  prim-yes value e x f v h ee ex ef ev =
+      ap (λ y. does (finishes y)) (ev ∙ ap₂ (arithmetic t .keep) ef (ex ∙ ap₂ (λ o l. operate o (map (entry value 0) l)) ee kids))
+      ∙ sym (rw (sym all-kids ∙ h) refl)
 
 -- a call of another function
 module _ (t status : List ℕ) (second : List Bool) (value occupant : List ℕ) (n g : ℕ) (eg : g ≡ word t n) (b : Bool)
@@ -71,9 +73,10 @@ module _ (t status : List ℕ) (second : List Bool) (value occupant : List ℕ) 
     unfolding callBy
     leave-no d = sym (rw (sym eb ∙ h, ne-eqb (entry status 0 (root t (word t n))) 3 (λ z. d (ex ∙ ap (entry status 0) there ∙ z))) refl)
 
-    pub leave-yes : x ≡ 3 → (v : ℕ) → v ≡ entry value 0 r → does (leaves g v) ≡ callBy t status second value occupant n
+    pub leave-yes : x ≡ 3 → (y f v : ℕ) → y ≡ entry value 0 r → f ≡ owner t n → v ≡ arithmetic t .keep f y
+        → does (leaves g v) ≡ callBy t status second value occupant n
     unfolding callBy
-    leave-yes d v ev = ap₂ (λ f y. does (leaves f y)) eg (ev ∙ ap (entry value 0) there)
+    leave-yes d y f v ey ef ev = ap₂ (λ g v. does (leaves g v)) eg (ev ∙ ap₂ (arithmetic t .keep) ef (ey ∙ ap (entry value 0) there))
         ∙ sym (rw (sym eb ∙ h, eq-eqb (entry status 0 (root t (word t n))) 3 (sym (ap (entry status 0) there) ∙ sym ex ∙ d)) refl)
 
   module _ (h : b ≡ false) (c : ℕ) (ec : c ≡ first t n) (a : Bool) (ea : a ≡ allDone (entry status 0) (leading false (chain t c))) where
@@ -90,9 +93,9 @@ module _ (t status : List ℕ) (second : List Bool) (value occupant : List ℕ) 
         ne-eqb (entry occupant 0 (word t n)) 0 (λ q. z (eo ∙ ap (entry occupant 0) eg ∙ q)),
       ) refl)
 
-      pub enter-yes : o ≡ 0 → does (enters g (given t value n)) ≡ callBy t status second value occupant n
+      pub enter-yes : o ≡ 0 → does (enters g (handedTo t value g n)) ≡ callBy t status second value occupant n
       unfolding callBy
-      enter-yes z = ap (λ f. does (enters f (given t value n))) eg ∙ sym (rw (
+      enter-yes z = ap (λ f. does (enters f (handedTo t value f n))) eg ∙ sym (rw (
         sym eb ∙ h,
         sym (all-kids t status n c ec a ea) ∙ d,
         eq-eqb (entry occupant 0 (word t n)) 0 (sym (ap (entry occupant 0) eg) ∙ sym eo ∙ z),

@@ -22,7 +22,7 @@ use Rattle.list.specs.Tags.{tagged, checkWith}
 use Rattle.rules.specs.State.{State512, view, entry}
 use Rattle.rules.specs.Step.{Act, stuck, blocked, does, Reply, taken, answered, denied, Stepped, refusal, done, told, outcome, perform}
 use Rattle.rules.specs.Step.{circuitStep, over}
-use Rattle.rules.specs.Operations.{operate}
+use Rattle.rules.specs.Arithmetic.{arithmetic}
 use Rattle.rules.specs.Play.{IsTaken}
 use Rattle.rules.specs.Circuit.{actOf, circuitOf, stepAfter, stepOf}
 use Rattle.table.specs.Working.{Taken}
@@ -81,7 +81,7 @@ module _ (t tags : List ℕ) (fair : Taken t) (s : State512) (n : ℕ) where
 
       pub by-main : (b : Bool) → done (view s) main ≡ b
           → circuitOf t tags s n ≡ pick b (refusal s 20 n)
-          (outcome operate (functions t) (nodes t) (bodyOf t) (exprAt t) (owner t) (tagged tags) s n (actOf t s n))
+          (outcome (arithmetic t) (functions t) (nodes t) (bodyOf t) (exprAt t) (owner t) (tagged tags) s n (actOf t s n))
       unfolding circuitOf circuitStep
       by-main b e = let p = stands-parts t s st in rw (ne-eqb n 0 d, ltb-no (nodes t) n (λ q. omega arith), p .0, p .1, e) refl
 
@@ -93,12 +93,12 @@ module _ (t tags : List ℕ) (fair : Taken t) (s : State512) (n : ℕ) where
         turn-over e = sym (by-main true (eq-eqb (entry (s .status) 0 main) 3 (sym main-is ∙ e)))
 
         pub turn-on : (x ≡ 3 → ⊥) → circuitOf t tags s n
-            ≡ outcome operate (functions t) (nodes t) (bodyOf t) (exprAt t) (owner t) (tagged tags) s n (actOf t s n)
+            ≡ outcome (arithmetic t) (functions t) (nodes t) (bodyOf t) (exprAt t) (owner t) (tagged tags) s n (actOf t s n)
         turn-on e = by-main false (ne-eqb (entry (s .status) 0 main) 3 (λ q. e (main-is ∙ q)))
 
   -- what the code says of a step
   abbrev pub Out : Act → Stepped
-  Out a = outcome operate (functions t) (nodes t) (bodyOf t) (exprAt t) (owner t) (tagged tags) s n a
+  Out a = outcome (arithmetic t) (functions t) (nodes t) (bodyOf t) (exprAt t) (owner t) (tagged tags) s n a
 
   module _ (s′ : State512) (f : Effect) where
     -- two effects at once

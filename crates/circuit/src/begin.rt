@@ -1,22 +1,23 @@
 // The state that a start makes, in the lent arrays.
 use crate::store;
 use crate::types::Opening;
+use crate::widths;
 use table::Function;
 use table::Node;
 use table::decoded;
 use table::decoded::Cells;
 ghost use mathlib.Core.Path.{_≡_};
 ghost use lib.ListN.{getD};
-ghost use Prim.Native.Nat.{ℕ, _≤_};
+ghost use Prim.Native.Nat.{ℕ};
 ghost use Rattle.table.specs.Bytes.{functions, nodes};
-ghost use Rattle.table.specs.Expressions.{bodyOf};
-ghost use Rattle.rules.specs.State.{fill, circuitStart};
-ghost use Rattle.rules.specs.Circuit.{startOf};
+ghost use Rattle.rules.specs.Arithmetic.{handed, arithmetic};
+ghost use Rattle.rules.specs.State.{fill};
+ghost use Rattle.rules.specs.Circuit.{opening, startOf};
 ghost use Rattle.table.specs.Check.{accepted};
 ghost use Rattle.list.specs.Tags.{checkWith};
 ghost use mathlib.Core.List.{List};
 ghost use Rattle.circuit.specs.Meaning.{OpenedAs, stateAs};
-ghost use Rattle.table.specs.Working.{Read};
+ghost use Rattle.table.specs.Working.{IsFunction, Read};
 
 fn argument(args: &[u32], i: usize) -> u32
     ensures { λ r. ⌜ r ≡ getD (now (args .entry)) i 0 ⌝ }
@@ -24,16 +25,17 @@ fn argument(args: &[u32], i: usize) -> u32
     if i < args.len() { args[i] } else { 0 }
 }
 
-// Main's registers hold the arguments.
-fn fill_main(registers: &mut [u32; 256], main: Function, args: &[u32])
-    requires { ⌜ (1 ≤ main .0) × (main .0 ≤ 32) ⌝ }
-    ensures { λ _. ⌜ now (registers .exit) ≡ fill (main .0) (now (args .entry)) (now (registers .entry)) ⌝ }
+// Main's registers hold what it keeps of the arguments.
+fn fill_main(table: &[u8], cells: &Cells, registers: &mut [u32; 256], main: Function, args: &[u32])
+    requires { ⌜ Read (now table) (now cells) × IsFunction (now table) (main .0) ⌝ }
+    ensures { λ _. ⌜ now (registers .exit)
+        ≡ fill (main .0) (handed (arithmetic (now (table .entry))) (main .0) (now (args .entry))) (now (registers .entry)) ⌝ }
 {
     let f = main.0 as usize;
     let base = 8 * (f - 1);
     let mut i: usize = 0;
     while i < 8 {
-        registers[base + i] = argument(args, i);
+        registers[base + i] = widths::keep(table, cells, main, argument(args, i));
         i += 1;
     }
 }
@@ -88,7 +90,7 @@ fn open_main(
 )
     requires { ⌜ Read (now table) (now cells) ⌝ }
     ensures { λ _. ⌜ stateAs (now (status .exit)) (now (second .exit)) (now (value .exit)) (now (registers .exit)) (now (occupant .exit))
-        ≡ circuitStart (functions (now (table .entry))) (bodyOf (now (table .entry))) (now (args .entry)) ⌝ }
+        ≡ opening (now (table .entry)) (now (args .entry)) ⌝ }
 {
     let main = decoded::main(cells);
     let root = decoded::root(cells, main);
@@ -98,5 +100,5 @@ fn open_main(
     *registers = [0u32; 256];
     *occupant = [0u16; 32];
     store::set_status(status, root, 1);
-    fill_main(registers, main, args);
+    fill_main(table, cells, registers, main, args);
 }

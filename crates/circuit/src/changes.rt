@@ -4,6 +4,7 @@ use crate::groups;
 use crate::plan;
 use crate::plan::Plan;
 use crate::store;
+use crate::widths;
 use table::Function;
 use table::Node;
 use table::decoded;
@@ -15,6 +16,7 @@ ghost use Prim.Native.Nat.{ℕ, _≤_};
 ghost use Rattle.table.specs.Bytes.{nodes, root};
 ghost use Rattle.table.specs.Naming.{owner, chain};
 ghost use Rattle.table.specs.Working.{IsNode, IsFunction, Read};
+ghost use Rattle.rules.specs.Arithmetic.{handed, arithmetic};
 ghost use Rattle.rules.specs.State.{entry, write, opened, clear, fill};
 ghost use Rattle.rules.specs.Step.{mine};
 ghost use Rattle.rules.specs.Circuit.{actOf};
@@ -35,7 +37,7 @@ fn blank(registers: &mut [u32; 256], g: Function)
     }
 }
 
-// The registers of g: the values of the nodes from c on, then zeros.
+// The registers of g: what it keeps of the values of the nodes from c on, then zeros.
 fn give(
     table: &[u8],
     cells: &Cells,
@@ -46,7 +48,8 @@ fn give(
 )
     requires { ⌜ Read (now table) (now cells) × IsFunction (now table) (g .0) × (c .0 ≤ nodes (now table)) ⌝ }
     ensures { λ _. ⌜ now (registers .exit)
-        ≡ fill (g .0) (map (entry (now (value .entry)) 0) (chain (now (table .entry)) (c .0))) (now (registers .entry)) ⌝ }
+        ≡ fill (g .0) (handed (arithmetic (now (table .entry))) (g .0)
+        (map (entry (now (value .entry)) 0) (chain (now (table .entry)) (c .0)))) (now (registers .entry)) ⌝ }
 {
     blank(registers, g);
     let f = g.0 as usize;
@@ -57,7 +60,7 @@ fn give(
         if at.0 == 0 {
             return;
         }
-        registers[base + i] = store::value_at(value, at);
+        registers[base + i] = widths::keep(table, cells, g, store::value_at(value, at));
         at = decoded::next(cells, at);
         i += 1;
     }
@@ -115,7 +118,8 @@ fn reset(
         × (now (second .exit) ≡ clear (mine (nodes (now (table .entry))) (owner (now (table .entry))) (g .0)) false (now (second .entry)))
         × (now (value .exit) ≡ clear (mine (nodes (now (table .entry))) (owner (now (table .entry))) (g .0)) 0 (now (value .entry)))
         × (now (registers .exit)
-        ≡ fill (g .0) (map (entry (now (value .entry)) 0) (chain (now (table .entry)) (c .0))) (now (registers .entry))) ⌝ }
+        ≡ fill (g .0) (handed (arithmetic (now (table .entry))) (g .0)
+        (map (entry (now (value .entry)) 0) (chain (now (table .entry)) (c .0)))) (now (registers .entry))) ⌝ }
 {
     give(table, cells, value, registers, g, c);
     groups::clear_nodes(

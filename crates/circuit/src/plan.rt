@@ -1,6 +1,7 @@
 // The step that a busy node has, read off its record and the state; nothing is changed here.
 use crate::chain;
 use crate::store;
+use crate::widths;
 use table::Function;
 use table::Node;
 use table::decoded;
@@ -55,7 +56,7 @@ pub(crate) fn busy(
     }
 }
 
-// Done once all children are.
+// Done once all children are, with what its function keeps of the result.
 fn busy_primitive(
     table: &[u8],
     cells: &Cells,
@@ -72,7 +73,8 @@ fn busy_primitive(
     if !chain::all_done(table, cells, status, c, false) {
         return Plan::Stuck;
     }
-    Plan::Finishes(chain::operation(table, cells, value, decoded::extra(cells, n), c))
+    let v = chain::operation(table, cells, value, decoded::extra(cells, n), c);
+    Plan::Finishes(widths::keep(table, cells, decoded::owner(cells, n), v))
 }
 
 // A self call is one whose callee is its own function.
@@ -114,7 +116,8 @@ fn again(table: &[u8], cells: &Cells, status: &[u8; 512], n: Node) -> Plan
     }
 }
 
-// A call of another function g: it enters once the arguments are done and g is free, and leaves once g's root is done.
+// A call of another function g: it enters once the arguments are done and g is free, and leaves once g's root is done, with what its own
+// function keeps of the answer.
 fn across(
     table: &[u8],
     cells: &Cells,
@@ -137,7 +140,8 @@ fn across(
         if store::status_at(status, r) != 3 {
             return Plan::Stuck;
         }
-        return Plan::Leaves(g, store::value_at(value, r));
+        let v = store::value_at(value, r);
+        return Plan::Leaves(g, widths::keep(table, cells, decoded::owner(cells, n), v));
     }
     let c = decoded::first(cells, n);
     if !chain::all_done(table, cells, status, c, false) {

@@ -3,7 +3,7 @@ use Prim.Native.Nat.{ℕ, zero, suc}
 use mathlib.Core.Bool.{Bool, true, false, _&&_}
 use mathlib.Core.Path.{_≡_, refl, sym, ap, _∙_}
 use mathlib.Core.Logic.{inl, inr}
-use mathlib.Core.List.{List, [], _∷_}
+use mathlib.Core.List.{[], _∷_}
 use native.Mathlib.Decide.{ℕ-discrete}
 use lib.Dec.{eqb}
 use borrow.Author.Tests.{ne-eqb}
@@ -11,6 +11,7 @@ use Rattle.table.specs.Syntax.{Expr, Exprs, const, param, prim, call, self, con
 use Rattle.table.specs.Environment.{values}
 use Rattle.table.specs.Pick.{pick}
 use Rattle.table.proofs.SyntaxLaws.{node-id}
+use Rattle.rules.specs.Arithmetic.{Arithmetic, handed}
 use Rattle.rules.specs.State.{View}
 use Rattle.rules.specs.Step.{Act, stuck, blocked, does, begins, turns, finishes, enters, leaves, restarts, done, all-done}
 use Rattle.rules.specs.Step.{branch, by-status, act}
@@ -104,33 +105,34 @@ module _ (body : ℕ → Expr) (h : ℕ) (s s′ : View) where
   read-own (bind n ds e) f b =
       (f n (inl refl) .0, f n (inl refl) .1, heads s s′ ds (λ m k. f m (inr (inl k))), head s s′ e (λ m k. f m (inr (inr k))))
 
-module _ (apply : ℕ → List ℕ → ℕ) (body : ℕ → Expr) (h : ℕ) (s s′ : View) where
-  pub act-same : (u : Expr) → SameRead body h s s′ u → act apply body h s′ u ≡ act apply body h s u
+module _ (units : Arithmetic) (body : ℕ → Expr) (h : ℕ) (s s′ : View) where
+  pub act-same : (u : Expr) → SameRead body h s s′ u → act units body h s′ u ≡ act units body h s u
   act-same (const n v) x = (λ i. by-status (x i) (does (finishes v)) stuck)
   act-same (param n k) x = (λ i. by-status (x .0 i) (does (finishes (x .1 i))) stuck)
   act-same (bound n d) x = (λ i. by-status (x .0 i) (does (finishes (x .1 i))) stuck)
   act-same (prim n op es) x =
       let y = all-same s s′ es (x .1) in
       let z = values-same s s′ es (x .1) in
-      (λ i. by-status (x .0 i) (does (begins (roots es))) (pick (y i) (does (finishes (apply op (z i)))) stuck))
+      (λ i. by-status (x .0 i) (does (begins (roots es))) (pick (y i) (does (finishes (units .operate h op (z i)))) stuck))
   act-same (self n es) x =
       let y = all-same s s′ es (x .1) in
       let z = values-same s s′ es (x .1) in
-      (λ i. by-status (x .0 i) (does (begins (roots es))) (pick (y i) (does (restarts h (z i))) stuck))
+      (λ i. by-status (x .0 i) (does (begins (roots es))) (pick (y i) (does (restarts h (handed units h (z i)))) stuck))
   act-same (call n g es) x =
       (λ i. by-status (x .0 i) (does (begins (roots es))) (pick (x .1 i) (leaving s′) (entering s′)))
       ∙ by-phase (s .status n) (s .second n) (does (begins (roots es))) (leaving s′) (leaving s) (entering s′) (entering s)
       (λ t w. let r = x .3 .0 (t, w) in
       let d = done-same s s′ (id (body g)) r in
-      (λ i. pick (d i) (does (leaves g (r .1 i))) stuck))
+      (λ i. pick (d i) (does (leaves g (units .keep h (r .1 i)))) stuck))
       (λ t w. let o = x .3 .1 (t, w) in
-      (λ i. pick (y i) (pick (eqb (o i) 0) (does (enters g (z i))) blocked) stuck))
+      (λ i. pick (y i) (pick (eqb (o i) 0) (does (enters g (handed units g (z i)))) blocked) stuck))
     where
       leaving : View → Act
-      leaving s = pick (done s (id (body g))) (does (leaves g (s .value (id (body g))))) stuck
+      leaving s = pick (done s (id (body g))) (does (leaves g (units .keep h (s .value (id (body g)))))) stuck
 
       entering : View → Act
-      entering s = pick (all-done s es) (pick (eqb (s .occupant g) 0) (does (enters g (values (s .value) es))) blocked) stuck
+      entering s = pick (all-done s es)
+          (pick (eqb (s .occupant g) 0) (does (enters g (handed units g (values (s .value) es)))) blocked) stuck
 
       y : all-done s′ es ≡ all-done s es
       y = all-same s s′ es (x .2)

@@ -15,6 +15,7 @@ use Rattle.rules.proofs.Within.{done-not}
 use Rattle.rules.proofs.Moves.{Inner}
 use Rattle.table.specs.Well.{Apart, CallIn, Fn, Well}
 use Rattle.table.proofs.CallPlaces.{call-node, sub-call}
+use Rattle.rules.specs.Arithmetic.{Arithmetic}
 use Rattle.rules.proofs.Places.{sub-live}
 use Rattle.rules.proofs.Invariant.{Active, active?, InnerStep, EnterStep, LeaveStep, AgainStep, Holder, Sound}
 
@@ -118,20 +119,22 @@ inner-moving apply s s′ args (bound n d) r = open-moves s n (r .0 .0)
 
 -- the node of each of the four kinds of step
 module _ {F : ℕ} {body : ℕ → Expr} (well : Well F body) {s : View} (sound : Sound F body s) {h : ℕ} (r : Fn F body h) where
-  pub inner-acts : {apply : ℕ → List ℕ → ℕ} {s′ : View} {u : Expr} → InnerStep apply body s s′ h u → Acting F body s h u
-  inner-acts {apply} {s′} {u} st = record {
+  pub inner-acts : {units : Arithmetic} {s′ : View} {u : Expr} → InnerStep units body s s′ h u → Acting F body s h u
+  inner-acts {units} {s′} {u} st = record {
     well = well;
     sound = sound;
     fn = r;
     place = st .place;
-    moving = inner-moving apply s s′ (s .register h) u (st .rule);
+    moving = inner-moving (units .operate h) s s′ (s .register h) u (st .rule);
   }
 
-  pub enter-acts : {s′ : View} {n g : ℕ} {es : Exprs} → EnterStep body s s′ h n g es → Acting F body s h (call n g es)
+  pub enter-acts : {units : Arithmetic} {s′ : View} {n g : ℕ} {es : Exprs} → EnterStep units body s s′ h n g es
+      → Acting F body s h (call n g es)
   enter-acts {n = n} st = record { well = well; sound = sound; fn = r; place = st .place; moving = busy-moves s n (st .waits .0) }
 
-  pub leave-acts : {s′ : View} {n g : ℕ} {es : Exprs} → LeaveStep body s s′ h n g es → Acting F body s h (call n g es)
+  pub leave-acts : {units : Arithmetic} {s′ : View} {n g : ℕ} {es : Exprs} → LeaveStep units body s s′ h n g es
+      → Acting F body s h (call n g es)
   leave-acts {n = n} st = record { well = well; sound = sound; fn = r; place = st .place; moving = busy-moves s n (st .holds .0) }
 
-  pub again-acts : {s′ : View} {n : ℕ} {es : Exprs} → AgainStep body s s′ h n es → Acting F body s h (self n es)
+  pub again-acts : {units : Arithmetic} {s′ : View} {n : ℕ} {es : Exprs} → AgainStep units body s s′ h n es → Acting F body s h (self n es)
   again-acts {n = n} st = record { well = well; sound = sound; fn = r; place = st .place; moving = busy-moves s n (st .waits) }

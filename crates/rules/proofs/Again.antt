@@ -5,6 +5,7 @@ use mathlib.Core.Path.{_≡_, subst, sym, _∙_}
 use mathlib.Core.Logic.{inl}
 use native.Mathlib.Decide.{ℕ-discrete}
 use Rattle.table.specs.Syntax.{Expr, Exprs, self, Every, Node}
+use Rattle.rules.specs.Arithmetic.{Arithmetic}
 use Rattle.rules.specs.State.{View}
 use Rattle.rules.proofs.Shape.{Still, Busy, Opened}
 use Rattle.rules.proofs.Frame.{still-over, opened-over}
@@ -14,8 +15,8 @@ use Rattle.rules.proofs.SelfCalls.{self-alone}
 use Rattle.rules.proofs.Invariant.{Active, active-over, AgainStep, Holder, Sound, new-live}
 use Rattle.rules.proofs.Acting.{Acting, active, live, elsewhere, holder-over}
 
-module _ {F : ℕ} {body : ℕ → Expr} {s s′ : View} {h n : ℕ} {es : Exprs} (x : Acting F body s h (self n es))
-    (st : AgainStep body s s′ h n es) where
+module _ {units : Arithmetic} {F : ℕ} {body : ℕ → Expr} {s s′ : View} {h n : ℕ} {es : Exprs} (x : Acting F body s h (self n es))
+    (st : AgainStep units body s s′ h n es) where
   abbrev X : ℕ → Type 0
   X m = Node m (body h)
 

@@ -14,12 +14,13 @@ use Rattle.table.specs.Well.{Fn, Well}
 use Rattle.table.proofs.CallPlaces.{call-node}
 use Rattle.rules.proofs.Places.{still-busy}
 use Rattle.rules.proofs.Invariant.{Step, inner, enter, leave, again, Active, New, Holder, Sound, new-live}
-use Rattle.rules.specs.Reading.{val, Readings, Reads}
+use Rattle.rules.specs.Reading.{val, Readings, Reads, answers}
 use Rattle.rules.proofs.Counts.{left-reads, over-left}
 use Rattle.rules.proofs.Total.{step-before}
 use Rattle.table.specs.Find.{total}
+use Rattle.rules.specs.Arithmetic.{Arithmetic, handed}
 use Rattle.rules.proofs.SumLaws.{sum-zero, sum-last}
-use Rattle.rules.proofs.Remaining.{Closes, nowhere, Rest, Expects}
+use Rattle.rules.proofs.Remaining.{gets, Closes, nowhere, Rest, Expects}
 use Rattle.rules.proofs.Acting.{inner-acts, enter-acts, leave-acts, again-acts}
 use Rattle.rules.proofs.Inner.{inner-sound}
 use Rattle.rules.proofs.Enter.{enter-sound}
@@ -27,9 +28,9 @@ use Rattle.rules.proofs.Leave.{leave-sound}
 use Rattle.rules.proofs.Again.{again-sound}
 
 -- n steps lead from s to s′
-pub data Steps (apply : ℕ → List ℕ → ℕ) (F : ℕ) (body : ℕ → Expr) (s : View) : View → ℕ → Type 0 where
-  rest : Steps apply F body s s 0
-  then : {t u : View} {n : ℕ} → Steps apply F body s t n → Step apply F body t u → Steps apply F body s u (suc n)
+pub data Steps (units : Arithmetic) (F : ℕ) (body : ℕ → Expr) (s : View) : View → ℕ → Type 0 where
+  rest : Steps units F body s s 0
+  then : {t u : View} {n : ℕ} → Steps units F body s t n → Step units F body t u → Steps units F body s u (suc n)
 
 -- a started circuit: main's body new, every other body idle, every resource free
 pub record AtStart (F : ℕ) (body : ℕ → Expr) (s : View) (args : List ℕ) : Type 0 where
@@ -74,58 +75,61 @@ module _ {F : ℕ} {body : ℕ → Expr} (s : View) (sound : Sound F body s) (r 
               still-busy s (s .occupant f) (o .4 .0) (body (o .0)) (sound .rest (o .0) (o .1) (⊎-elim e (λ y. y z₀)))
               (call-node (s .occupant f) f (body (o .0)) (o .3))
 
-module _ {apply : ℕ → List ℕ → ℕ} {F : ℕ} {body : ℕ → Expr} (well : Well F body) where
-  pub step-sound : (s s′ : View) → Sound F body s → Step apply F body s s′ → Sound F body s′
+module _ {units : Arithmetic} {F : ℕ} {body : ℕ → Expr} (well : Well F body) where
+  pub step-sound : (s s′ : View) → Sound F body s → Step units F body s s′ → Sound F body s′
   step-sound s s′ d (inner h r u st) = inner-sound (inner-acts well d r st) st
   step-sound s s′ d (enter h r n g es st) = enter-sound (enter-acts well d r st) st
   step-sound s s′ d (leave h r n g es st) = leave-sound (leave-acts well d r st) st
   step-sound s s′ d (again h r n es st) = again-sound (again-acts well d r st) st
 
-  pub steps-sound : (s s′ : View) (n : ℕ) → Sound F body s → Steps apply F body s s′ n → Sound F body s′
+  pub steps-sound : (s s′ : View) (n : ℕ) → Sound F body s → Steps units F body s s′ n → Sound F body s′
   steps-sound s s′ n d rest = d
   steps-sound s s′ n d (then {t = t} p st) = step-sound t s′ (steps-sound s t _ d p) st
 
-  module _ {K : Readings} (reads : Closes apply F body K) where
-    pub steps-before : (s s′ : View) (n : ℕ) (W′ R′ : ℕ → ℕ) → Sound F body s → Steps apply F body s s′ n → Expects apply F body K s′ W′ R′
-        → (W R : ℕ → ℕ) × Expects apply F body K s W R × (total R F ≡ n + total R′ F) × (W 0 ≡ W′ 0)
+  module _ {K : Readings} (reads : Closes units F body K) where
+    pub steps-before : (s s′ : View) (n : ℕ) (W′ R′ : ℕ → ℕ) → Sound F body s → Steps units F body s s′ n → Expects units F body K s′ W′ R′
+        → (W R : ℕ → ℕ) × Expects units F body K s W R × (total R F ≡ n + total R′ F) × (W 0 ≡ W′ 0)
     steps-before s s′ n W′ R′ d rest e = (W′, R′, e, omega arith, refl)
     steps-before s s′ n W′ R′ d (then {t = t} {n = k} p st) e =
-        let b = step-before apply K t s′ e reads well (steps-sound s t k d p) st in
+        let b = step-before units K t s′ e reads well (steps-sound s t k d p) st in
         let c = steps-before s t k (b .0) (b .1) d p (b .2) in
         (c .0, c .1, c .2, omega (arith, c .3, b .3), c .4 ∙ b .4)
 
     end : (s : View) → Sound F body s → Fn F body F → s .status (id (body F)) ≡ 3
-        → Expects apply F body K s (λ m. s .value (id (body F))) (λ f. 0)
+        → Expects units F body K s (λ m. s .value (id (body F))) (λ f. 0)
     end s d r h = record { active = λ f q a. act f q a (ℕ-discrete f F); rest = λ f q a. refl }
       where
-        main : Rest apply body K s (λ m. s .value (id (body F))) F (s .value (id (body F))) 0
+        main : Rest units body K s (λ m. s .value (id (body F))) F (s .value (id (body F))) 0
         main = (
           val (s .value (id (body F))),
           0,
           0,
-          over-left apply K s (λ m. s .value (id (body F))) (s .register F) (body F) nowhere
+          over-left (units .operate F) (answers (units .keep F) K) s (λ m. units .keep F (s .value (id (body F)))) (s .register F)
+              (body F) nowhere
               (val (s .value (id (body F)))) 0 (h, refl, refl),
           (refl, refl),
           refl,
         )
 
         act : (f : ℕ) → Fn F body f → Active F s f → Dec (f ≡ F)
-            → Rest apply body K s (λ m. s .value (id (body F))) f (s .value (id (body F))) 0
-        act f q a (yes e) = subst (λ y. Rest apply body K s (λ m. s .value (id (body F))) y (s .value (id (body F))) 0) (sym e) main
+            → Rest units body K s (λ m. s .value (id (body F))) f (s .value (id (body F))) 0
+        act f q a (yes e) = subst (λ y. Rest units body K s (λ m. s .value (id (body F))) y (s .value (id (body F))) 0) (sym e) main
         act f q (inl a) (no e) = absurd (e a)
         act f q (inr a) (no e) = absurd (a (asleep s d r h (suc F) f (omega arith) q e))
 
     -- the third demand's last sentence
-    pub answer : (s s′ : View) (args : List ℕ) (n : ℕ) → Fn F body F → AtStart F body s args → Steps apply F body s s′ n
+    pub answer : (s s′ : View) (args : List ℕ) (n : ℕ) → Fn F body F → AtStart F body s (handed units F args) → Steps units F body s s′ n
         → s′ .status (id (body F)) ≡ 3 → K F args (s′ .value (id (body F))) n
     answer s s′ args n r st p h =
-        let d = started-sound s args st in
+        let d = started-sound s (handed units F args) st in
         let d′ = steps-sound s s′ n d p in
         let c = steps-before s s′ n (λ m. s′ .value (id (body F))) (λ f. 0) d p (end s′ d′ r h) in
         let x = c .2 .active F r (inl refl) in
-        let q = left-reads apply K s (c .0) (s .register F) (body F) (inr (st .main .0 .0)) nowhere (x .0) (x .1) (x .3) in
+        let q = left-reads (units .operate F) (answers (units .keep F) K) s (gets units F (c .0)) (s .register F) (body F)
+        (inr (st .main .0 .0)) nowhere (x .0) (x .1) (x .3) in
         let k = reads F (c .0 (s .occupant F)) args (x .0) (x .1) (x .2) r
-        (subst (λ y. Reads apply K y (body F) nowhere (x .0) (x .1)) (fun-ext (st .arguments)) q) (x .4) in
+        (subst (λ y. Reads (units .operate F) (answers (units .keep F) K) y (body F) nowhere (x .0) (x .1)) (fun-ext (st .arguments)) q)
+        (x .4) in
         let total : x .1 + x .2 ≡ n = omega (
           arith,
           x .5,

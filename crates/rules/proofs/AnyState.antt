@@ -21,7 +21,7 @@ use Rattle.list.specs.Tags.{tagged, checkWith}
 use Rattle.rules.specs.State.{State512, Sized, view}
 use Rattle.rules.specs.Step.{taken, answered, denied, Stepped, refusal, done, perform, circuitStep}
 use Rattle.rules.specs.Play.{IsTaken}
-use Rattle.rules.specs.Operations.{operate}
+use Rattle.rules.specs.Arithmetic.{arithmetic}
 use Rattle.rules.specs.Circuit.{circuitOf, stepAfter, stepOf, Possible}
 use Rattle.rules.specs.Runs.{MainDone}
 use Rattle.rules.specs.Companions.{AgreeWithin, AgreePast}
@@ -60,7 +60,7 @@ bound-node t ok n m d i e = go (node-case t ok n i)
 
 module _ (t tags : List ℕ) where
   abbrev circuit : State512 → ℕ → Stepped
-  circuit s n = circuitStep operate (functions t) (nodes t) (bodyOf t) (exprAt t) (owner t) (tagged tags) s n
+  circuit s n = circuitStep (arithmetic t) (functions t) (nodes t) (bodyOf t) (exprAt t) (owner t) (tagged tags) s n
 
   -- a step is refused by table or tags, or it is the circuit's
   pub by-check : (P : (State512 → ℕ → Stepped) → Type 0) → ((k p : ℕ) → P (λ s n. refusal s k p))
@@ -75,7 +75,7 @@ module _ (t tags : List ℕ) where
   -- "The state is unchanged by a refusal"
   pub refused-unchanged : (s : State512) (n k p : ℕ) → stepOf t tags s n .answer ≡ denied k p → stepOf t tags s n ≡ refusal s k p
   refused-unchanged s n k p = by-check (λ f. f s n .answer ≡ denied k p → f s n ≡ refusal s k p) (λ i q e. same-refusal i q e)
-      (λ F N c. step-cases operate (functions t) (nodes t) (bodyOf t) (exprAt t) (owner t) (tagged tags) s n
+      (λ F N c. step-cases (arithmetic t) (functions t) (nodes t) (bodyOf t) (exprAt t) (owner t) (tagged tags) s n
       (λ r. r .answer ≡ denied k p → r ≡ refusal s k p) (λ c. same-refusal (number c) (place c))
       (λ r e m h. not-refused (done (view (perform (nodes t) (owner t) (bodyOf t) s n m)) (id (bodyOf t (functions t)))) _
       (perform (nodes t) (owner t) (bodyOf t) s n m)))
@@ -91,7 +91,7 @@ module _ (t tags : List ℕ) where
   -- where main's root is done no step is possible: "once main's root is done the query says none"
   pub done-none : (s : State512) (n : ℕ) → MainDone t s → Possible t tags s n → ⊥
   done-none s n d = by-check (λ f. IsTaken (f s n .answer) → ⊥) (λ k p x. x)
-      (λ F N c. step-cases operate (functions t) (nodes t) (bodyOf t) (exprAt t) (owner t) (tagged tags) s n
+      (λ F N c. step-cases (arithmetic t) (functions t) (nodes t) (bodyOf t) (exprAt t) (owner t) (tagged tags) s n
       (λ r. IsTaken (r .answer) → ⊥) (λ c x. x)
       (λ r e m h x. eqb-false (view s .status (id (bodyOf t (functions t)))) 3 e d))
 
@@ -100,10 +100,10 @@ module _ (t tags : List ℕ) where
       → (stepOf t tags s n .answer ≡ stepOf t tags s′ n .answer) × AgreeWithin t (stepOf t tags s n .state) (stepOf t tags s′ n .state)
   step-ignores s s′ z z′ a n = by-check (λ f. (f s n .answer ≡ f s′ n .answer) × AgreeWithin t (f s n .state) (f s′ n .state))
       (λ k p. (refl, a))
-      (λ F N c. step-agree operate (lay t F N c) (tagged tags) s s′ z z′ a n (λ m d r e. bound-node t (passed t F N c .0) n m d r e))
+      (λ F N c. step-agree (arithmetic t) (lay t F N c) (tagged tags) s s′ z z′ a n (λ m d r e. bound-node t (passed t F N c .0) n m d r e))
 
   -- "and keeps" them
   pub step-keeps : (s : State512) → Sized s → (n : ℕ) → AgreePast t s (stepOf t tags s n .state)
   step-keeps s z n = by-check (λ f. AgreePast t s (f s n .state))
       (λ k p. agree-same (λ m. nodes t < m) (λ f. functions t < f) (view s))
-      (λ F N c. step-past operate (lay t F N c) (tagged tags) s z n)
+      (λ F N c. step-past (arithmetic t) (lay t F N c) (tagged tags) s z n)

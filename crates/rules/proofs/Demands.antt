@@ -7,11 +7,12 @@ use mathlib.Core.List.{List, [], _∷_}
 use native.Mathlib.Omega.{arith}
 use lib.Dec.{T, eqb, eqb→eq}
 use lib.ListN.{length, take}
-use Rattle.rules.specs.State.{State512, In, view, circuitStart}
+use Rattle.rules.specs.State.{State512, In, view}
 use Rattle.rules.specs.Step.{denied, over, circuitStep}
 use Rattle.rules.specs.Play.{Ask, asks, Log, IsTaken, played, count}
-use Rattle.rules.specs.Operations.{operate}
-use Rattle.rules.specs.Circuit.{started, checkStart, startAfter, startOf, circuitOf, stepAfter, stepOf, playsOf, playOf, entriesOf}
+use Rattle.rules.specs.Arithmetic.{arithmetic}
+use Rattle.rules.specs.Circuit.{opening, started, checkStart, startAfter, startOf, circuitOf, stepAfter, stepOf, playsOf, playOf}
+use Rattle.rules.specs.Circuit.{entriesOf}
 use Rattle.rules.specs.Circuit.{leavingsOf, Possible}
 use Rattle.rules.specs.Demand.{Answers, DemandThree, ThirdDemand, ReadingUnique}
 use Rattle.rules.specs.Companions.{UnderAnyTags, ReadingFixed}
@@ -42,7 +43,7 @@ pub record Passes (t tags args : List ℕ) (s : State512) : Type 0 where
   pub check : checkOf t ≡ accepted (functions t) (nodes t)
   pub check-tags : checkWith t tags ≡ accepted (functions t) (nodes t)
   pub count : length args ≡ params t (functions t)
-  pub state : s ≡ circuitStart (functions t) (bodyOf t) args
+  pub state : s ≡ opening t args
 
 pub after-both : (c : Verdict) (rest : Unit {0} → Verdict) (F N : ℕ) → after c rest ≡ accepted F N
     → ((F′ N′ : ℕ) × (c ≡ accepted F′ N′)) × (rest tt ≡ accepted F N)
@@ -61,7 +62,7 @@ own-size t F N e = let p = passed t F N e in e ∙ sym (λ i. accepted (p .1 i) 
 pub start-passes : (t tags args : List ℕ) (s : State512) → startOf t tags args ≡ started s → Passes t tags args s
 unfolding startOf checkStart checkWith tagsRefusal
 start-passes t tags args s e =
-    let a = start-both (checkStart t tags args) (circuitStart (functions t) (bodyOf t) args) s e in
+    let a = start-both (checkStart t tags args) (opening t args) s e in
     let b = after-both (checkWith t tags) _ (a .0 .0) (a .0 .1) (a .0 .2) in
     let c = after-both (checkOf t) _ (b .0 .0) (b .0 .1) (b .0 .2) in
     let d = passes 11 (eqb (length args) (params t (functions t))) 0 _ (a .0 .0) (a .0 .1) (b .1) in
@@ -80,18 +81,18 @@ module _ (t : List ℕ) (F N : ℕ) (check : checkOf t ≡ accepted F N) where
 
   -- a step whose tags are taken is the circuit's
   pub step-same : (tags : List ℕ) (F N : ℕ) → checkWith t tags ≡ accepted F N → (s : State512) (n : ℕ)
-      → stepOf t tags s n ≡ circuitStep operate (functions t) (nodes t) (bodyOf t) (exprAt t) (owner t) (tagged tags) s n
+      → stepOf t tags s n ≡ circuitStep (arithmetic t) (functions t) (nodes t) (bodyOf t) (exprAt t) (owner t) (tagged tags) s n
   unfolding stepOf stepAfter circuitOf
   step-same tags F N e s n = ap (λ c. stepAfter c s (circuitOf t tags s n)) e
 
   -- a step that isn't refused is the circuit's
   possible-same : (tags : List ℕ) (s : State512) (n : ℕ) → Possible t tags s n
-      → IsTaken (circuitStep operate (functions t) (nodes t) (bodyOf t) (exprAt t) (owner t) (tagged tags) s n .answer)
+      → IsTaken (circuitStep (arithmetic t) (functions t) (nodes t) (bodyOf t) (exprAt t) (owner t) (tagged tags) s n .answer)
   unfolding stepOf stepAfter circuitOf
   possible-same tags s n = go (checkWith t tags)
     where
       go : (c : Verdict) → IsTaken (stepAfter c s (circuitOf t tags s n) .answer)
-          → IsTaken (circuitStep operate (functions t) (nodes t) (bodyOf t) (exprAt t) (owner t) (tagged tags) s n .answer)
+          → IsTaken (circuitStep (arithmetic t) (functions t) (nodes t) (bodyOf t) (exprAt t) (owner t) (tagged tags) s n .answer)
       go (accepted F N) x = x
       go (refused i p) x = absurd x
 
@@ -121,11 +122,11 @@ module _ (t : List ℕ) (F N : ℕ) (check : checkOf t ≡ accepted F N) where
 
   module _ (args : List ℕ) (number : length args ≡ params t (functions t)) where
     abbrev s₀ : State512
-    s₀ = circuitStart (functions t) (bodyOf t) args
+    s₀ = opening t args
 
     -- what holds after any list of steps
     abbrev pub KeptFrom : Log → Type 0
-    KeptFrom l = Kept operate lay (view s₀) l
+    KeptFrom l = Kept (arithmetic t) lay (view s₀) l
 
     -- a step with tags that are not taken changes nothing, another is the circuit's
     more-kept : (l : Log) → KeptFrom l → (a : Ask (List ℕ)) → KeptFrom (more (stepOf t) l a)
@@ -133,33 +134,35 @@ module _ (t : List ℕ) (F N : ℕ) (check : checkOf t ≡ accepted F N) where
     more-kept l k a = go (checkWith t (a .tags))
       where
         go : (c : Verdict) → KeptFrom (logged l (a .node) (stepAfter c (l .state) (circuitOf t (a .tags) (l .state) (a .node))))
-        go (accepted F N) = Lists.more-kept operate lay (view s₀) l k (record { tags = tagged (a .tags); node = a .node })
-        go (refused i p) = refused-kept operate lay (view s₀) l k (a .node) i p
+        go (accepted F N) = Lists.more-kept (arithmetic t) lay (view s₀) l k (record { tags = tagged (a .tags); node = a .node })
+        go (refused i p) = refused-kept (arithmetic t) lay (view s₀) l k (a .node) i p
 
     plays-kept : (l : Log) → KeptFrom l → (asked : List (Ask (List ℕ))) → KeptFrom (plays (stepOf t) l asked)
     plays-kept l k [] = k
     plays-kept l k (a ∷ asked) = plays-kept (more (stepOf t) l a) (more-kept l k a) asked
 
     table-kept : (asked : List (Ask (List ℕ))) → KeptFrom (played (stepOf t) s₀ asked)
-    table-kept asked = kept-alike operate lay (view s₀) (plays (stepOf t) (begin s₀) asked) (played (stepOf t) s₀ asked)
+    table-kept asked = kept-alike (arithmetic t) lay (view s₀) (plays (stepOf t) (begin s₀) asked) (played (stepOf t) s₀ asked)
         (plays-alike (stepOf t) s₀ asked)
-        (plays-kept (begin s₀) (start-kept operate lay args (main-few args number)) asked)
+        (plays-kept (begin s₀) (start-kept (arithmetic t) lay args (main-few args number)) asked)
 
     any-tags : (asked : List (Ask (List ℕ))) → UnderAnyTags t args s₀ asked
     unfolding entriesOf leavingsOf playsOf
     any-tags asked = record {
-      balance = λ f p q. kept-balance operate lay args (main-few args number) l k f (p, q);
-      phases = λ c f p q e tags a. kept-phases operate lay (view s₀) l k c f (p, q) e (tagged tags) (possible-same tags (l .state) c a);
+      balance = λ f p q. kept-balance (arithmetic t) lay args (main-few args number) l k f (p, q);
+      phases = λ c f p q e tags a. kept-phases (arithmetic t) lay (view s₀) l k c f (p, q) e (tagged tags)
+          (possible-same tags (l .state) c a);
       answered-done = k .said;
       done-answered = λ e. let x = k .says e in subst (λ v. Answers l v) (sym (k .said (x .0) (x .1) .1)) (x .1);
       lively = λ F N tags c.
           ⊎-elim inl (λ x. inr (x .0, subst (λ r. IsTaken (r .answer)) (sym (step-same tags F N c (l .state) (x .0))) (x .1)))
-          (kept-lively operate lay (view s₀) l k (tagged tags));
+          (kept-lively (arithmetic t) lay (view s₀) l k (tagged tags));
       stands = λ F N tags c. stands-well tags F N c (l .state) (k .good);
-      main-free = kept-main-free operate lay (view s₀) l k;
+      main-free = kept-main-free (arithmetic t) lay (view s₀) l k;
       right = right;
       never = λ h v i. h v (length (l .nodes)) (right v i);
-      over = λ v n F N tags i p q c. step-same tags F N c (l .state) n ∙ kept-over operate lay (view s₀) l k v n (tagged tags) i (p, q);
+      over = λ v n F N tags i p q c. step-same tags F N c (l .state) n ∙ kept-over (arithmetic t) lay (view s₀) l k v n (tagged tags) i
+          (p, q);
     }
       where
         l : Log
@@ -169,14 +172,14 @@ module _ (t : List ℕ) (F N : ℕ) (check : checkOf t ≡ accepted F N) where
         k = table-kept asked
 
         right : (v : ℕ) → Answers l v → ReadsTo t args v (length (l .nodes))
-        right = kept-right operate lay args (main-few args number) l k
+        right = kept-right (arithmetic t) lay args (main-few args number) l k
 
     -- under the tags of the start
     module _ (tags : List ℕ) (F′ N′ : ℕ) (taken : checkWith t tags ≡ accepted F′ N′) where
       -- where the tags hold the list, a step after any list of steps is not refused 23
       silent : Holding t tags → (l : Log) → KeptFrom l → (n p : ℕ) → denied 23 p ≡ stepOf t tags (l .state) n .answer → ⊥
       silent holds l k n p e =
-          kept-silent operate lay (tagged tags) held (view s₀) l k n p
+          kept-silent (arithmetic t) lay (tagged tags) held (view s₀) l k n p
           (e ∙ ap (λ r. r .answer) (step-same tags F′ N′ taken (l .state) n))
         where
           held : (n : ℕ) → Listed (bodyOf t) (exprAt t) (functions t) n → tagged tags n ≡ true
@@ -191,7 +194,7 @@ module _ (t : List ℕ) (F N : ℕ) (check : checkOf t ≡ accepted F N) where
 
       no-23 : Holding t tags → (ns : List ℕ) (p : ℕ) → In (denied 23 p) (playOf t tags s₀ ns .answers) → ⊥
       unfolding playOf
-      no-23 holds ns p i = plays-silent holds (begin s₀) (start-kept operate lay args (main-few args number)) (λ q z. z) ns p
+      no-23 holds ns p i = plays-silent holds (begin s₀) (start-kept (arithmetic t) lay args (main-few args number)) (λ q z. z) ns p
           (plays-alike (stepOf t) s₀ (asks tags ns) .into (denied 23 p) i)
 
       -- the rest of the third demand, from the state that start makes
@@ -199,11 +202,11 @@ module _ (t : List ℕ) (F N : ℕ) (check : checkOf t ≡ accepted F N) where
       unfolding playOf entriesOf leavingsOf
       from-start ns quiet = record {
         arbitrated = quiet;
-        exclusive = λ k f p q. kept-one operate lay args (main-few args number) (played (stepOf t) s₀ (asks tags (take k ns)))
+        exclusive = λ k f p q. kept-one (arithmetic t) lay args (main-few args number) (played (stepOf t) s₀ (asks tags (take k ns)))
             (table-kept (asks tags (take k ns))) f (p, q);
         lively = ⊎-elim inl (λ x. inr (x .0, subst (λ r. IsTaken (r .answer)) (sym (step-same tags F′ N′ taken (l .state) (x .0))) (x .1)))
-            (kept-lively operate lay (view s₀) l (table-kept (asks tags ns)) (tagged tags));
-        right = kept-right operate lay args (main-few args number) l (table-kept (asks tags ns));
+            (kept-lively (arithmetic t) lay (view s₀) l (table-kept (asks tags ns)) (tagged tags));
+        right = kept-right (arithmetic t) lay args (main-few args number) l (table-kept (asks tags ns));
       }
         where
           l : Log
@@ -228,17 +231,17 @@ under-any-tags t tags args s e asked =
 
 -- the reading has one value and one count
 pub reading-unique : ReadingUnique
-reading-unique t args v w k l x y = readings-unique operate (bodyOf t) (functions t) (functions t) args v w k l x y
+reading-unique t args v w k l x y = readings-unique (arithmetic t) (bodyOf t) (functions t) (functions t) args v w k l x y
 
 -- it is its body's, the callees read alike
 pub reading-fixed : (t : List ℕ) (F N : ℕ) → checkOf t ≡ accepted F N → ReadingFixed t
 reading-fixed t F N check =
     let well = lay t F N check .well in
-    let own = fixed operate (bodyOf t) (functions t) well in
+    let own = fixed (arithmetic t) (bodyOf t) (functions t) well in
     record {
       fixed = own;
       only = λ K x f r vs v k. (
-        into operate (bodyOf t) (functions t) well K (readingsOf t) x own f f (omega arith) r vs v k,
-        into operate (bodyOf t) (functions t) well (readingsOf t) K own x f f (omega arith) r vs v k,
+        into (arithmetic t) (bodyOf t) (functions t) well K (readingsOf t) x own f f (omega arith) r vs v k,
+        into (arithmetic t) (bodyOf t) (functions t) well (readingsOf t) K own x f f (omega arith) r vs v k,
       );
     }

@@ -5,6 +5,7 @@ use mathlib.Core.Path.{_≡_, subst, sym, _∙_}
 use mathlib.Core.Logic.{_⊎_, inl, inr}
 use native.Mathlib.Decide.{ℕ-discrete}
 use Rattle.table.specs.Syntax.{Expr, Exprs, call, Every, Node, Node*}
+use Rattle.rules.specs.Arithmetic.{Arithmetic}
 use Rattle.rules.specs.State.{View}
 use Rattle.rules.proofs.Shape.{Still, Busy, Live, Opened}
 use Rattle.rules.proofs.Frame.{Same, still-over, opened-over, done-over*, Avoids}
@@ -18,8 +19,8 @@ use Rattle.rules.proofs.Invariant.{Active, active-over, EnterStep, Hold
 use Rattle.rules.proofs.Acting.{Acting, active, live, apart, elsewhere, in-h, node-h, g<h, fn-g, n≢0, h≢g, F≢g, apart-callee}
 use Rattle.rules.proofs.Acting.{first-phase, apart-arguments, holder-over}
 
-module _ {F : ℕ} {body : ℕ → Expr} {s s′ : View} {h n g : ℕ} {es : Exprs} (x : Acting F body s h (call n g es))
-    (st : EnterStep body s s′ h n g es) where
+module _ {units : Arithmetic} {F : ℕ} {body : ℕ → Expr} {s s′ : View} {h n g : ℕ} {es : Exprs} (x : Acting F body s h (call n g es))
+    (st : EnterStep units body s s′ h n g es) where
   pub asleep : Active F s g → ⊥
   asleep (inl e) = F≢g x (sym e)
   asleep (inr z) = z (st .free)

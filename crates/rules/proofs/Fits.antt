@@ -22,8 +22,9 @@ use Rattle.rules.specs.State.{State512, view, entry, write, register, al
 use Rattle.rules.specs.Step.{Act, stuck, blocked, does, Move, begins, turns, finishes, enters, leaves, restarts, done, all-done}
 use Rattle.rules.specs.Step.{branch, act, mine, reset, finish, perform}
 use Rattle.rules.specs.Operations.{lastValue, wrap, operate}
+use Rattle.rules.specs.Arithmetic.{Arithmetic, handed, arithmetic}
 use Rattle.rules.specs.Play.{Ask, played}
-use Rattle.rules.specs.Circuit.{started, startOf, stepOf, playsOf}
+use Rattle.rules.specs.Circuit.{started, opening, startOf, stepOf, playsOf}
 use Rattle.rules.specs.Companions.{Word, Words, Bytes, Fits}
 use Rattle.rules.proofs.ActCases.{by-pick, by-state}
 use Rattle.rules.proofs.StepCases.{step-cases}
@@ -63,6 +64,20 @@ operate-word op vs h =
     (pick-word (eqb op 8) _ _ (pick-word (eqb x y) 1 0 (omega arith) (omega arith))
     (pick-word (eqb op 9) _ _ (pick-word (ltb x y) 1 0 (omega arith) (omega arith))
     (last-word vs h))))))))))
+
+-- of words the primitives of every function make words, and it keeps words
+pub record WordUnits (units : Arithmetic) : Type 0 where
+  pub operated : (f op : ℕ) (vs : List ℕ) → Words vs → Word (units .operate f op vs)
+  pub kept : (f v : ℕ) → Word v → Word (units .keep f v)
+
+-- the arithmetic of a table does
+pub table-words : (t : List ℕ) → WordUnits (arithmetic t)
+table-words t = record { operated = λ f. operate-word; kept = λ f v w. w }
+
+pub handed-words : (units : Arithmetic) → WordUnits units → (f : ℕ) (vs : List ℕ) → Words vs → Words (handed units f vs)
+handed-words units ok f [] w i = w i
+handed-words units ok f (v ∷ vs) w zero = ok .kept f v (w 0)
+handed-words units ok f (v ∷ vs) w (suc i) = handed-words units ok f vs (λ j. w (suc j)) i
 
 -- a constant of an accepted table
 pub const-word : (t : List ℕ) → Bytes t → Passed t → (n m v : ℕ) → IsNode t n → exprAt t n ≡ const m v → Word v
@@ -147,29 +162,33 @@ module _ (s : State512) (fits : Fits s) where
   values-words (some e es) zero = value-word (id e)
   values-words (some e es) (suc i) = values-words es i
 
-  act-fits : (body : ℕ → Expr) (h : ℕ) (u : Expr) → ((m v : ℕ) → u ≡ const m v → Word v) → ActFits (act operate body h (view s) u)
-  act-fits body h (const n v) c = by-state ActFits (view s .status n) _ _ (λ e. c n v refl) (λ e. tt) tt
-  act-fits body h (param n i) c = by-state ActFits (view s .status n) _ _
+  act-fits : (units : Arithmetic) → WordUnits units → (body : ℕ → Expr) (h : ℕ) (u : Expr) → ((m v : ℕ) → u ≡ const m v → Word v)
+      → ActFits (act units body h (view s) u)
+  act-fits units ok body h (const n v) c = by-state ActFits (view s .status n) _ _ (λ e. c n v refl) (λ e. tt) tt
+  act-fits units ok body h (param n i) c = by-state ActFits (view s .status n) _ _
       (λ e. register-word (s .registers) h i (fits .registers)) (λ e. tt) tt
-  act-fits body h (bound n d) c = by-state ActFits (view s .status n) _ _ (λ e. value-word d) (λ e. tt) tt
-  act-fits body h (prim n op es) c = by-state ActFits (view s .status n) _ _ (λ e. tt)
-      (λ e. by-pick ActFits (all-done (view s) es) _ _ (λ e. operate-word op (values (view s .value) es) (values-words es)) (λ e. tt)) tt
-  act-fits body h (call n g es) c = by-state ActFits (view s .status n) _ _ (λ e. tt)
+  act-fits units ok body h (bound n d) c = by-state ActFits (view s .status n) _ _ (λ e. value-word d) (λ e. tt) tt
+  act-fits units ok body h (prim n op es) c = by-state ActFits (view s .status n) _ _ (λ e. tt)
+      (λ e. by-pick ActFits (all-done (view s) es) _ _ (λ e. ok .operated h op (values (view s .value) es) (values-words es)) (λ e. tt)) tt
+  act-fits units ok body h (call n g es) c = by-state ActFits (view s .status n) _ _ (λ e. tt)
       (λ e. by-pick ActFits (view s .second n) _ _
-      (λ e. by-pick ActFits (done (view s) (id (body g))) _ _ (λ e. value-word (id (body g))) (λ e. tt))
+      (λ e. by-pick ActFits (done (view s) (id (body g))) _ _ (λ e. ok .kept h (view s .value (id (body g))) (value-word (id (body g))))
+      (λ e. tt))
       (λ e. by-pick ActFits (all-done (view s) es) _ _
-      (λ e. by-pick ActFits (eqb (view s .occupant g) 0) _ _ (λ e. values-words es) (λ e. tt)) (λ e. tt)))
+      (λ e. by-pick ActFits (eqb (view s .occupant g) 0) _ _ (λ e. handed-words units ok g (values (view s .value) es) (values-words es))
+      (λ e. tt)) (λ e. tt)))
       tt
-  act-fits body h (self n es) c = by-state ActFits (view s .status n) _ _ (λ e. tt)
-      (λ e. by-pick ActFits (all-done (view s) es) _ _ (λ e. values-words es) (λ e. tt)) tt
-  act-fits body h (cond n a b d) c =
+  act-fits units ok body h (self n es) c = by-state ActFits (view s .status n) _ _ (λ e. tt)
+      (λ e. by-pick ActFits (all-done (view s) es) _ _ (λ e. handed-words units ok h (values (view s .value) es) (values-words es))
+      (λ e. tt)) tt
+  act-fits units ok body h (cond n a b d) c =
       let r : Expr = branch (view s .value (id a)) b d in
       by-state ActFits (view s .status n) _ _ (λ e. tt)
       (λ e. by-pick ActFits (view s .second n) _ _
       (λ e. by-pick ActFits (done (view s) (id r)) _ _ (λ e. value-word (id r)) (λ e. tt))
       (λ e. by-pick ActFits (done (view s) (id a)) _ _ (λ e. tt) (λ e. tt)))
       tt
-  act-fits body h (bind n ds b) c = by-state ActFits (view s .status n) _ _ (λ e. tt)
+  act-fits units ok body h (bind n ds b) c = by-state ActFits (view s .status n) _ _ (λ e. tt)
       (λ e. by-pick ActFits (view s .second n) _ _
       (λ e. by-pick ActFits (done (view s) (id b)) _ _ (λ e. value-word (id b)) (λ e. tt))
       (λ e. by-pick ActFits (all-done (view s) ds) _ _ (λ e. tt) (λ e. tt)))
@@ -196,10 +215,10 @@ module _ (s : State512) (fits : Fits s) where
 -- a step keeps a state of words, whatever the table, the tags and the state
 pub step-fits : (t tags : List ℕ) → Bytes t → (s : State512) → Fits s → (n : ℕ) → Fits (stepOf t tags s n .state)
 step-fits t tags b s fits n = by-check t tags (λ f. Fits (f s n .state)) (λ k p. fits)
-    (λ F N c. step-cases operate (functions t) (nodes t) (bodyOf t) (exprAt t) (owner t) (tagged tags) s n
+    (λ F N c. step-cases (arithmetic t) (functions t) (nodes t) (bodyOf t) (exprAt t) (owner t) (tagged tags) s n
     (λ r. Fits (r .state)) (λ c. fits)
     (λ r e m h. perform-fits s fits (nodes t) (owner t) (bodyOf t) n m
-    (subst ActFits h (act-fits s fits (bodyOf t) (owner t n) (exprAt t n)
+    (subst ActFits h (act-fits s fits (arithmetic t) (table-words t) (bodyOf t) (owner t n) (exprAt t n)
     (λ i v q. const-word t b (passed t F N c .0) n i v r q)))))
 
 blank-words : (k : ℕ) → Words (blank k 0)
@@ -208,9 +227,12 @@ blank-words zero i = omega arith
 blank-words (suc k) zero = omega arith
 blank-words (suc k) (suc i) = blank-words k i
 
-start-fits : (F : ℕ) (body : ℕ → Expr) (args : List ℕ) → Words args → Fits (circuitStart F body args)
+start-fits : (t args : List ℕ) → Words args → Fits (opening t args)
 unfolding circuitStart
-start-fits F body args w = record { value = blank-words 512; registers = fill-words F args (blank 256 0) w (blank-words 256) }
+start-fits t args w = record {
+  value = blank-words 512;
+  registers = fill-words (functions t) _ (blank 256 0) (handed-words (arithmetic t) (table-words t) (functions t) args w) (blank-words 256);
+}
 
 pub plays-fit : (t : List ℕ) → Bytes t → (s : State512) → Fits s → (asked : List (Ask (List ℕ))) → Fits (played (stepOf t) s asked .state)
 plays-fit t b s fits [] = fits
@@ -222,4 +244,4 @@ pub fits-from-start : (t tags args : List ℕ) (s : State512) → startOf t tags
 unfolding playsOf
 fits-from-start t tags args s e b w asked =
     let p = start-passes t tags args s e in
-    plays-fit t b s (subst Fits (sym (p .state)) (start-fits (functions t) (bodyOf t) args w)) asked
+    plays-fit t b s (subst Fits (sym (p .state)) (start-fits t args w)) asked

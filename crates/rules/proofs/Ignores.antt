@@ -2,7 +2,6 @@
 use Prim.Native.Nat.{ℕ}
 use mathlib.Core.Bool.{Bool, true, false}
 use mathlib.Core.Path.{_≡_, refl, subst, ap}
-use mathlib.Core.List.{List}
 use native.Mathlib.Omega.{arith}
 use lib.Dec.{eqb, ltb}
 use borrow.Author.Tests.{eqb-false, ltb-false}
@@ -11,6 +10,7 @@ use Rattle.table.specs.Pick.{pick, Range}
 use Rattle.table.specs.Well.{Laid}
 use Rattle.table.proofs.SyntaxLaws.{node-id, sub-node}
 use Rattle.table.proofs.CallPlaces.{sub-call}
+use Rattle.rules.specs.Arithmetic.{Arithmetic}
 use Rattle.rules.specs.State.{View, State512, Sized, view}
 use Rattle.rules.specs.Step.{Act, stuck, blocked, does, done, act, over, taken, answered, Stepped, outcome, circuitStep}
 use Rattle.rules.specs.Companions.{Agree}
@@ -21,7 +21,7 @@ use Rattle.rules.proofs.ListsAgree.{over-agree}
 use Rattle.rules.proofs.MovesAgree.{perform-agree}
 
 -- which step a node has: all that it reads lies within N and F
-module _ (apply : ℕ → List ℕ → ℕ) {F N : ℕ} {body at : ℕ → Expr} {home : ℕ → ℕ} (laid : Laid F N body at home)
+module _ (units : Arithmetic) {F N : ℕ} {body at : ℕ → Expr} {home : ℕ → ℕ} (laid : Laid F N body at home)
     (s s′ : View) (agree : Agree (Range N) (Range F) s s′) (h : ℕ) (r : Range F h) where
   within : (f m : ℕ) → Range F f → Node m (body f) → Same s′ s m
   within f m q k =
@@ -41,15 +41,15 @@ module _ (apply : ℕ → List ℕ → ℕ) {F N : ℕ} {body at : ℕ → Expr}
   beside (cond n x y z) p b = tt
   beside (bind n ds e) p b = tt
 
-  act-agree : (u : Expr) → Sub u (body h) → ((n d : ℕ) → u ≡ bound n d → Range N d) → act apply body h s u ≡ act apply body h s′ u
-  act-agree u p b = act-same apply body h s′ s u
+  act-agree : (u : Expr) → Sub u (body h) → ((n d : ℕ) → u ≡ bound n d → Range N d) → act units body h s u ≡ act units body h s′ u
+  act-agree u p b = act-same units body h s′ s u
       (read-own body h s′ s u (λ m k. within h m r (sub-node u m (body h) p k)) (beside u p b))
 
 -- two answers that are one, with states that agree
 abbrev pub OneAnswer : (F N : ℕ) → Stepped → Stepped → Type 0
 OneAnswer F N x y = (x .answer ≡ y .answer) × Agree (Range N) (Range F) (view (x .state)) (view (y .state))
 
-module _ (apply : ℕ → List ℕ → ℕ) {F N : ℕ} {body at : ℕ → Expr} {home : ℕ → ℕ} (laid : Laid F N body at home) (tags : ℕ → Bool)
+module _ (units : Arithmetic) {F N : ℕ} {body at : ℕ → Expr} {home : ℕ → ℕ} (laid : Laid F N body at home) (tags : ℕ → Bool)
     (s s′ : State512) (z : Sized s) (z′ : Sized s′) (agree : Agree (Range N) (Range F) (view s) (view s′)) (n : ℕ)
     (bounds : (m d : ℕ) → Range N n → at n ≡ bound m d → Range N d) where
   main-in : Range N (id (body F))
@@ -63,7 +63,7 @@ module _ (apply : ℕ → List ℕ → ℕ) {F N : ℕ} {body at : ℕ → Expr}
       go true q = f
       go false q = g q
 
-  outcome-agree : (a : Act) → OneAnswer F N (outcome apply F N body at home tags s n a) (outcome apply F N body at home tags s′ n a)
+  outcome-agree : (a : Act) → OneAnswer F N (outcome units F N body at home tags s n a) (outcome units F N body at home tags s′ n a)
   outcome-agree stuck = (refl, agree)
   outcome-agree blocked = (refl, agree)
   outcome-agree (does m) =
@@ -72,7 +72,7 @@ module _ (apply : ℕ → List ℕ → ℕ) {F N : ℕ} {body at : ℕ → Expr}
       let v = x .value (id (body F)) main-in in
       ((λ i. pick (eqb (p i) 3) (answered (v i)) taken), x)
 
-  pub step-agree : OneAnswer F N (circuitStep apply F N body at home tags s n) (circuitStep apply F N body at home tags s′ n)
+  pub step-agree : OneAnswer F N (circuitStep units F N body at home tags s n) (circuitStep units F N body at home tags s′ n)
   unfolding circuitStep
   step-agree =
       both-tests (eqb n 0) (eqb n 0) _ _ _ _ refl (refl, agree)
@@ -83,12 +83,12 @@ module _ (apply : ℕ → List ℕ → ℕ) {F N : ℕ} {body at : ℕ → Expr}
       (over-agree N F (s .occupant) (s′ .occupant) (λ f p q. agree .occupant f (p, q))) (refl, agree)
       (λ e3. both-tests (done (view s) (id (body F))) (done (view s′) (id (body F))) _ _ _ _
       (ap (λ x. eqb x 3) (agree .status (id (body F)) main-in)) (refl, agree)
-      (λ e4. subst (λ a. OneAnswer F N (outcome apply F N body at home tags s n (act apply body (home n) (view s) (at n)))
-      (outcome apply F N body at home tags s′ n a)) (acts (there e0 e1)) (outcome-agree (act apply body (home n) (view s) (at n))))))))
+      (λ e4. subst (λ a. OneAnswer F N (outcome units F N body at home tags s n (act units body (home n) (view s) (at n)))
+      (outcome units F N body at home tags s′ n a)) (acts (there e0 e1)) (outcome-agree (act units body (home n) (view s) (at n))))))))
     where
       there : eqb n 0 ≡ false → ltb N n ≡ false → Range N n
       there a b = (omega (arith, eqb-false n 0 a), ltb-false N n b)
 
-      acts : Range N n → act apply body (home n) (view s) (at n) ≡ act apply body (home n) (view s′) (at n)
-      acts r = act-agree apply laid (view s) (view s′) agree (home n) (laid .home-there n r) (at n)
+      acts : Range N n → act units body (home n) (view s) (at n) ≡ act units body (home n) (view s′) (at n)
+      acts r = act-agree units laid (view s) (view s′) agree (home n) (laid .home-there n r) (at n)
           (laid .placed n r) (λ m d e. bounds m d r e)

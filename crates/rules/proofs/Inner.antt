@@ -2,10 +2,10 @@
 use Prim.Native.Nat.{ℕ}
 use mathlib.Core.Bool.{true}
 use mathlib.Core.Path.{_≡_, subst, sym, _∙_}
-use mathlib.Core.List.{List}
 use native.Mathlib.Omega.{arith}
 use native.Mathlib.Decide.{ℕ-discrete}
 use Rattle.table.specs.Syntax.{Expr, Exprs, call, id, Every, Node}
+use Rattle.rules.specs.Arithmetic.{Arithmetic}
 use Rattle.rules.specs.State.{View}
 use Rattle.rules.proofs.Shape.{Still, Busy, Opened}
 use Rattle.rules.proofs.Frame.{still-over, opened-over, Avoids}
@@ -18,8 +18,8 @@ use Rattle.rules.proofs.Places.{inner-busy}
 use Rattle.rules.proofs.Invariant.{Active, active-over, InnerStep, Holder, Sound}
 use Rattle.rules.proofs.Acting.{Acting, active, live, live-part, apart, elsewhere, holder-over}
 
-module _ {apply : ℕ → List ℕ → ℕ} {F : ℕ} {body : ℕ → Expr} {s s′ : View} {h : ℕ} {u : Expr} (x : Acting F body s h u)
-    (st : InnerStep apply body s s′ h u) where
+module _ {units : Arithmetic} {F : ℕ} {body : ℕ → Expr} {s s′ : View} {h : ℕ} {u : Expr} (x : Acting F body s h u)
+    (st : InnerStep units body s s′ h u) where
   holds : (g m : ℕ) → (Node m u → ⊥) → (m ≡ 0 → ⊥) → s .occupant g ≡ m → s′ .occupant g ≡ m
   holds g m k z e = st .keepsFn g .0 ∙ e
 
@@ -36,7 +36,8 @@ module _ {apply : ℕ → List ℕ → ℕ} {F : ℕ} {body : ℕ → Expr} {s s
     where
       opened-f : (f : ℕ) → Fn F body f → Active F s′ f → Dec (f ≡ h) → Opened s′ (body f)
       opened-f f q a (yes e) = subst (λ y. Opened s′ (body y)) (sym e)
-          (within s s′ u (st .keeps) holds (x .moving) (inner-live s s′ apply (s .register h) u (st .rule)) (body h) (apart x) (st .place)
+          (within s s′ u (st .keeps) holds (x .moving) (inner-live s s′ (units .operate h) (s .register h) u (st .rule)) (body h)
+          (apart x) (st .place)
           (live x))
       opened-f f q a (no e) = opened-over s s′ (λ m. Node m u) (st .keeps) holds (body f) (untouched f q e)
           (x .sound .opened f q (active-over (sym (st .keepsFn f .0)) a))
@@ -49,11 +50,11 @@ module _ {apply : ℕ → List ℕ → ℕ} {F : ℕ} {body : ℕ → Expr} {s s
       not-u : (f c g : ℕ) → Fn F body g → CallIn c f (body g) → Busy s c true → Node c u → ⊥
       not-u f c g q k b i =
           let e : g ≡ h = x .well .owner g h c q (x .fn) (call-node c f (body g) k) (sub-node u c (body h) (st .place) i) in
-          let j : c ≡ id u = inner-busy s c (b .0) apply (s .register h) s′ u (st .rule) (live-part x) i in
+          let j : c ≡ id u = inner-busy s c (b .0) (units .operate h) (s .register h) s′ u (st .rule) (live-part x) i in
           let t = call-at u c f (sym j) (body h) (apart x) (subst (λ y. CallIn c f (body y)) e k) (st .place) in
-          opens (t .0) (subst (Inner apply (s .register h) s s′) (t .1) (st .rule))
+          opens (t .0) (subst (Inner (units .operate h) (s .register h) s s′) (t .1) (st .rule))
         where
-          opens : (es : Exprs) → Inner apply (s .register h) s s′ (call c f es) → ⊥
+          opens : (es : Exprs) → Inner (units .operate h) (s .register h) s s′ (call c f es) → ⊥
           opens es o = omega (arith, o .0 .0, b .0)
 
       held-f : (f c : ℕ) → Fn F body f → s′ .occupant f ≡ c → (c ≡ 0 → ⊥) → Holder F body s′ f c

@@ -3,7 +3,6 @@ use Prim.Native.Nat.{ℕ, _<_}
 use mathlib.Core.Bool.{true, false}
 use mathlib.Core.Path.{_≡_, sym, _∙_}
 use mathlib.Core.Logic.{_⊎_, inl, inr, ⊎-elim}
-use mathlib.Core.List.{List}
 use native.Mathlib.Decide.{ℕ-discrete}
 use lib.ListN.{getD}
 use Rattle.table.specs.Syntax.{Expr, Exprs, const, param, prim, call, self, cond, bind, bound, id, Every, Node, Sub}
@@ -13,6 +12,7 @@ use Rattle.rules.proofs.Frame.{Same, SameFunction}
 use Rattle.table.specs.Environment.{values}
 use Rattle.rules.proofs.Moves.{Under, Finished*, Becomes, Inner}
 use Rattle.table.specs.Well.{CallIn, Fn}
+use Rattle.rules.specs.Arithmetic.{Arithmetic, handed}
 
 -- main, or occupied by a call
 abbrev pub Active : ℕ → View → ℕ → Type 0
@@ -31,35 +31,35 @@ active? F s f = go (ℕ-discrete f F) (ℕ-discrete (s .occupant f) 0)
     go (no e) (no z) = inl (inr z)
     go (no e) (yes z) = inr (⊎-elim e (λ k. k z))
 
+-- a body newly opened
+abbrev pub New : (body : ℕ → Expr) → View → ℕ → Type 0
+New body s f = Open s (id (body f)) × Under (Idle s) (body f)
+
 -- a step inside a body
-pub record InnerStep (apply : ℕ → List ℕ → ℕ) (body : ℕ → Expr) (s s′ : View) (h : ℕ) (u : Expr) : Type 0 where
+pub record InnerStep (units : Arithmetic) (body : ℕ → Expr) (s s′ : View) (h : ℕ) (u : Expr) : Type 0 where
   pub place : Sub u (body h)
-  pub rule : Inner apply (s .register h) s s′ u
+  pub rule : Inner (units .operate h) (s .register h) s s′ u
   pub keeps : (m : ℕ) → (Node m u → ⊥) → Same s s′ m
   pub keepsFn : (f : ℕ) → SameFunction s s′ f
 
-module _ (body : ℕ → Expr) where
-  -- a body newly opened
-  abbrev pub New : View → ℕ → Type 0
-  New s f = Open s (id (body f)) × Under (Idle s) (body f)
-
+module _ (units : Arithmetic) (body : ℕ → Expr) where
   pub record EnterStep (s s′ : View) (h n g : ℕ) (es : Exprs) : Type 0 where
     pub place : Sub (call n g es) (body h)
     pub waits : Busy s n false
     pub ready : Finished* s es
     pub free : s .occupant g ≡ 0
     pub enters : Busy s′ n true
-    pub new : New s′ g
+    pub new : New body s′ g
     pub keeps : (m : ℕ) → (m ≡ n → ⊥) → (Node m (body g) → ⊥) → Same s s′ m
     pub occupies : s′ .occupant g ≡ n
-    pub arguments : (i : ℕ) → s′ .register g i ≡ getD (values (s .value) es) i 0
+    pub arguments : (i : ℕ) → s′ .register g i ≡ getD (handed units g (values (s .value) es)) i 0
     pub keepsFn : (f : ℕ) → (f ≡ g → ⊥) → SameFunction s s′ f
 
   pub record LeaveStep (s s′ : View) (h n g : ℕ) (es : Exprs) : Type 0 where
     pub place : Sub (call n g es) (body h)
     pub holds : Busy s n true
     pub over : s .status (id (body g)) ≡ 3
-    pub becomes : Becomes s s′ n (s .value (id (body g)))
+    pub becomes : Becomes s s′ n (units .keep h (s .value (id (body g))))
     pub keeps : (m : ℕ) → (m ≡ n → ⊥) → Same s s′ m
     pub frees : s′ .occupant g ≡ 0
     pub registers : (i : ℕ) → s′ .register g i ≡ s .register g i
@@ -69,17 +69,17 @@ module _ (body : ℕ → Expr) where
     pub place : Sub (self n es) (body h)
     pub waits : s .status n ≡ 2
     pub ready : Finished* s es
-    pub new : New s′ h
+    pub new : New body s′ h
     pub keeps : (m : ℕ) → (Node m (body h) → ⊥) → Same s s′ m
-    pub arguments : (i : ℕ) → s′ .register h i ≡ getD (values (s .value) es) i 0
+    pub arguments : (i : ℕ) → s′ .register h i ≡ getD (handed units h (values (s .value) es)) i 0
     pub occupants : (f : ℕ) → s′ .occupant f ≡ s .occupant f
     pub keepsFn : (f : ℕ) → (f ≡ h → ⊥) → SameFunction s s′ f
 
-pub data Step (apply : ℕ → List ℕ → ℕ) (F : ℕ) (body : ℕ → Expr) (s s′ : View) : Type 0 where
-  inner : (h : ℕ) → Fn F body h → (u : Expr) → InnerStep apply body s s′ h u → Step apply F body s s′
-  enter : (h : ℕ) → Fn F body h → (n g : ℕ) (es : Exprs) → EnterStep body s s′ h n g es → Step apply F body s s′
-  leave : (h : ℕ) → Fn F body h → (n g : ℕ) (es : Exprs) → LeaveStep body s s′ h n g es → Step apply F body s s′
-  again : (h : ℕ) → Fn F body h → (n : ℕ) (es : Exprs) → AgainStep body s s′ h n es → Step apply F body s s′
+pub data Step (units : Arithmetic) (F : ℕ) (body : ℕ → Expr) (s s′ : View) : Type 0 where
+  inner : (h : ℕ) → Fn F body h → (u : Expr) → InnerStep units body s s′ h u → Step units F body s s′
+  enter : (h : ℕ) → Fn F body h → (n g : ℕ) (es : Exprs) → EnterStep units body s s′ h n g es → Step units F body s s′
+  leave : (h : ℕ) → Fn F body h → (n g : ℕ) (es : Exprs) → LeaveStep units body s s′ h n g es → Step units F body s s′
+  again : (h : ℕ) → Fn F body h → (n : ℕ) (es : Exprs) → AgainStep units body s s′ h n es → Step units F body s s′
 
 -- c is a call of f, in its second phase, in the body of a function above f
 abbrev pub Holder : (F : ℕ) (body : ℕ → Expr) → View → (f c : ℕ) → Type 0

@@ -7,7 +7,7 @@ use mathlib.Core.Logic.{_⊎_, inl, inr}
 use mathlib.Core.List.{List, []}
 use native.Mathlib.Omega.{arith}
 use native.Mathlib.Decide.{ℕ-discrete}
-use lib.ListN.{length}
+use lib.ListN.{length, length-map}
 use lib.Dec.{eqb}
 use borrow.Author.Tests.{eqb-true, eqb-false}
 use Rattle.table.proofs.LaidOut.{call-here}
@@ -18,6 +18,7 @@ use Rattle.table.specs.Pick.{pick, Range}
 use Rattle.rules.proofs.LaidFacts.{fn-main}
 use Rattle.rules.proofs.Levels.{closes}
 use Rattle.table.specs.Well.{Fn, CallIn, Laid}
+use Rattle.rules.specs.Arithmetic.{Arithmetic, handed}
 use Rattle.list.specs.Conflict.{C}
 use Rattle.rules.proofs.Invariant.{Sound}
 use Rattle.rules.proofs.Collide.{waiting-listed}
@@ -37,13 +38,13 @@ use Rattle.list.specs.CallSets.{callee, callee-at, sets, Listed}
 use Rattle.list.proofs.CallSetFacts.{body-calls}
 use Rattle.rules.proofs.StartFacts.{start-sized, start-started, start-rest, open-root}
 
-module _ (apply : ℕ → List ℕ → ℕ) {F N : ℕ} {body at : ℕ → Expr} {home : ℕ → ℕ} (laid : Laid F N body at home) where
+module _ (units : Arithmetic) {F N : ℕ} {body at : ℕ → Expr} {home : ℕ → ℕ} (laid : Laid F N body at home) where
   abbrev K : Readings
-  K = readings apply body F
+  K = readings units body F
 
   -- the readings are what the abstract proof asks for
-  program-reads : Closes apply F body K
-  program-reads = closes apply body F (laid .well)
+  program-reads : Closes units F body K
+  program-reads = closes units body F (laid .well)
 
   abbrev Root : ℕ
   Root = id (body F)
@@ -51,7 +52,7 @@ module _ (apply : ℕ → List ℕ → ℕ) {F N : ℕ} {body at : ℕ → Expr}
   -- what holds after any list of steps from s₀
   pub record Kept (s₀ : View) (l : Log) : Type 0 where
     pub good : Good F body (l .state)
-    pub steps : Steps apply F body s₀ (view (l .state)) (length (l .nodes))
+    pub steps : Steps units F body s₀ (view (l .state)) (length (l .nodes))
     pub phased : Phased F body (view (l .state)) (l .nodes)
     pub said : (v : ℕ) → In (answered v) (l .answers) → (view (l .state) .status (id (body F)) ≡ 3) ×
         (view (l .state) .value (id (body F)) ≡ v)
@@ -73,7 +74,7 @@ module _ (apply : ℕ → List ℕ → ℕ) {F N : ℕ} {body at : ℕ → Expr}
         said-more v (inr i) = k .said v i
 
     module _ (n : ℕ) (r : Range N n) (awake : done (view (l .state)) Root ≡ false) (m : Move)
-        (here : act apply body (home n) (view (l .state)) (at n) ≡ does m) where
+        (here : act units body (home n) (view (l .state)) (at n) ≡ does m) where
       abbrev t : State512
       t = perform N home body (l .state) n m
 
@@ -84,9 +85,9 @@ module _ (apply : ℕ → List ℕ → ℕ) {F N : ℕ} {body at : ℕ → Expr}
       moved-kept : (b : Bool) → done (view t) Root ≡ b
           → Kept s₀ (logged l n (record { answer = pick b (answered (view t .value Root)) taken; state = t }))
       moved-kept true e = record {
-        good = moved-good apply laid (l .state) (k .good) n r m here;
-        steps = then (k .steps) (moved-step apply laid (l .state) (k .good) n r m here .0);
-        phased = moved-phased apply laid (l .state) (k .good) n r m here (l .nodes) (k .phased);
+        good = moved-good units laid (l .state) (k .good) n r m here;
+        steps = then (k .steps) (moved-step units laid (l .state) (k .good) n r m here .0);
+        phased = moved-phased units laid (l .state) (k .good) n r m here (l .nodes) (k .phased);
         said = said-more;
         says = λ z. (view t .value Root, inl refl);
       }
@@ -96,9 +97,9 @@ module _ (apply : ℕ → List ℕ → ℕ) {F N : ℕ} {body at : ℕ → Expr}
           said-more v (inl q) = (eqb-true (view t .status Root) 3 e, cc)
           said-more v (inr i) = unsaid v i
       moved-kept false e = record {
-        good = moved-good apply laid (l .state) (k .good) n r m here;
-        steps = then (k .steps) (moved-step apply laid (l .state) (k .good) n r m here .0);
-        phased = moved-phased apply laid (l .state) (k .good) n r m here (l .nodes) (k .phased);
+        good = moved-good units laid (l .state) (k .good) n r m here;
+        steps = then (k .steps) (moved-step units laid (l .state) (k .good) n r m here .0);
+        phased = moved-phased units laid (l .state) (k .good) n r m here (l .nodes) (k .phased);
         said = said-more;
         says = λ z. absurd (eqb-false (view t .status Root) 3 e z);
       }
@@ -107,8 +108,8 @@ module _ (apply : ℕ → List ℕ → ℕ) {F N : ℕ} {body at : ℕ → Expr}
           said-more v (inl q) = let z : _≡_ {A = ℕ} 0 1 = cc in absurd (omega arith)
           said-more v (inr i) = unsaid v i
 
-    pub more-kept : (a : Ask (ℕ → Bool)) → Kept s₀ (more (circuitStep apply F N body at home) l a)
-    more-kept a = step-cases apply F N body at home (a .tags) (l .state) (a .node) (λ r. Kept s₀ (logged l (a .node) r))
+    pub more-kept : (a : Ask (ℕ → Bool)) → Kept s₀ (more (circuitStep units F N body at home) l a)
+    more-kept a = step-cases units F N body at home (a .tags) (l .state) (a .node) (λ r. Kept s₀ (logged l (a .node) r))
         (λ c. refused-kept (a .node) (number c) (place c))
         (λ r e m h. moved-kept (a .node) r e m h (done (view (perform N home body (l .state) (a .node) m)) (id (body F))) refl)
 
@@ -116,8 +117,8 @@ module _ (apply : ℕ → List ℕ → ℕ) {F N : ℕ} {body at : ℕ → Expr}
   pub kept-alike : (s₀ : View) (l p : Log) → Alike l p → Kept s₀ l → Kept s₀ p
   kept-alike s₀ l p j k = record {
     good = subst (Good F body) (j .state) (k .good);
-    steps = subst (λ x. Steps apply F body s₀ (view x) (length (p .nodes))) (j .state)
-        (subst (Steps apply F body s₀ (view (l .state))) (j .number) (k .steps));
+    steps = subst (λ x. Steps units F body s₀ (view x) (length (p .nodes))) (j .state)
+        (subst (Steps units F body s₀ (view (l .state))) (j .number) (k .steps));
     phased = λ f c g q i. ap (λ x. x % 3) (sym (j .counts c)) ∙ k .phased f c g q i ∙ ap (λ x. third (view x) c) (j .state);
     said = λ v i. subst (λ x. (view x .status (id (body F)) ≡ 3) × (view x .value (id (body F)) ≡ v)) (j .state)
         (k .said v (j .into (answered v) i));
@@ -125,26 +126,30 @@ module _ (apply : ℕ → List ℕ → ℕ) {F N : ℕ} {body at : ℕ → Expr}
   }
 
   module _ (args : List ℕ) (few : length args ≤ 8) where
-    abbrev s₀ : View
-    s₀ = view (circuitStart F body args)
+    -- main's arguments as it keeps them
+    abbrev kept-args : List ℕ
+    kept-args = handed units F args
 
-    started : AtStart F body s₀ args
-    started = start-started laid args few
+    abbrev s₀ : View
+    s₀ = view (circuitStart F body kept-args)
+
+    started : AtStart F body s₀ kept-args
+    started = start-started laid kept-args (omega (arith, few, length-map args (units .keep F)))
 
     no-steps : (c : ℕ) → count c [] % 3 ≡ 0
     unfolding count
     no-steps c = refl
 
-    pub start-kept : Kept s₀ (begin (circuitStart F body args))
+    pub start-kept : Kept s₀ (begin (circuitStart F body kept-args))
     start-kept = record {
       good = record {
-        sized = start-sized F body args;
-        sound = started-sound s₀ args started;
+        sized = start-sized F body kept-args;
+        sound = started-sound s₀ kept-args started;
       };
       steps = rest;
-      phased = λ f c g q i. no-steps c ∙ sym (third-rest s₀ c (start-rest laid args c));
+      phased = λ f c g q i. no-steps c ∙ sym (third-rest s₀ c (start-rest laid kept-args c));
       said = λ v i. absurd i;
-      says = λ e. absurd (omega (arith, e, open-root laid args));
+      says = λ e. absurd (omega (arith, e, open-root laid kept-args));
     }
 
     -- what such a log says
@@ -168,8 +173,8 @@ module _ (apply : ℕ → List ℕ → ℕ) {F N : ℕ} {body at : ℕ → Expr}
   module _ (s₀ : View) (l : Log) (k : Kept s₀ l) where
     -- after the answer, 20 at every node
     pub kept-over : (v n : ℕ) (tags : ℕ → Bool) → In (answered v) (l .answers) → Range N n
-        → circuitStep apply F N body at home tags (l .state) n ≡ refusal (l .state) 20 n
-    kept-over v n tags i r = step-over apply laid tags (l .state) (k .good) n r (k .said v i .0)
+        → circuitStep units F N body at home tags (l .state) n ≡ refusal (l .state) 20 n
+    kept-over v n tags i r = step-over units laid tags (l .state) (k .good) n r (k .said v i .0)
 
     -- main is entered by nobody
     pub kept-main-free : view (l .state) .occupant F ≡ 0
@@ -183,19 +188,19 @@ module _ (apply : ℕ → List ℕ → ℕ) {F N : ℕ} {body at : ℕ → Expr}
 
     -- main has answered, or some step would be taken
     pub kept-lively : (tags : ℕ → Bool) → ((v : ℕ) × In (answered v) (l .answers))
-        ⊎ ((n : ℕ) × IsTaken (circuitStep apply F N body at home tags (l .state) n .answer))
+        ⊎ ((n : ℕ) × IsTaken (circuitStep units F N body at home tags (l .state) n .answer))
     kept-lively tags = go (ℕ-discrete (view (l .state) .status (id (body F))) 3)
       where
         go : Dec (view (l .state) .status (id (body F)) ≡ 3) → ((v : ℕ) × In (answered v) (l .answers))
-            ⊎ ((n : ℕ) × IsTaken (circuitStep apply F N body at home tags (l .state) n .answer))
+            ⊎ ((n : ℕ) × IsTaken (circuitStep units F N body at home tags (l .state) n .answer))
         go (yes e) = inl (k .says e)
-        go (no e) = inr (some-step apply laid tags (l .state) (k .good) e)
+        go (no e) = inr (some-step units laid tags (l .state) (k .good) e)
 
     -- of the steps taken at a call, those that enter and those that leave
     pub kept-phases : (c f : ℕ) → Range N c → calls (at c) f ≡ true → (tags : ℕ → Bool)
-        → IsTaken (circuitStep apply F N body at home tags (l .state) c .answer)
-        → Phases (act apply body (home c) (view (l .state)) (at c)) f (count c (l .nodes))
-    kept-phases c f r e tags a = step-phases apply laid tags (l .state) c f r e a (count c (l .nodes))
+        → IsTaken (circuitStep units F N body at home tags (l .state) c .answer)
+        → Phases (act units body (home c) (view (l .state)) (at c)) f (count c (l .nodes))
+    kept-phases c f r e tags a = step-phases units laid tags (l .state) c f r e a (count c (l .nodes))
         (call-phase laid (view (l .state)) c f r e (l .nodes) (k .phased))
 
   -- a call that waits at an occupied resource is listed
@@ -219,7 +224,7 @@ module _ (apply : ℕ → List ℕ → ℕ) {F N : ℕ} {body at : ℕ → Expr}
     not-23 false e z = true≢false (sym e)
 
     -- where the tags hold the list, no step is refused 23
-    pub kept-silent : (l : Log) → Kept s₀ l → (n p : ℕ) → denied 23 p ≡ circuitStep apply F N body at home tags (l .state) n .answer → ⊥
+    pub kept-silent : (l : Log) → Kept s₀ l → (n p : ℕ) → denied 23 p ≡ circuitStep units F N body at home tags (l .state) n .answer → ⊥
     kept-silent l k n p e =
-        let w = step-waits apply laid tags (l .state) (k .good) n 23 p (sym e) (inr refl) in
+        let w = step-waits units laid tags (l .state) (k .good) n 23 p (sym e) (inr refl) in
         not-23 (tags n) (holds n (waits-listed (view (l .state)) (k .good .sound) n (w .0) (w .1))) (w .2)

@@ -4,6 +4,7 @@ use mathlib.Core.Path.{_≡_, subst, sym, ap, _∙_}
 use mathlib.Core.Logic.{inl, inr}
 use native.Mathlib.Decide.{ℕ-discrete}
 use Rattle.table.specs.Syntax.{Expr, Exprs, call, Every, Node, Node*}
+use Rattle.rules.specs.Arithmetic.{Arithmetic}
 use Rattle.rules.specs.State.{View}
 use Rattle.rules.proofs.Shape.{Still, Done, Live, Opened}
 use Rattle.rules.proofs.Frame.{still-over, opened-over, done-over*, Avoids}
@@ -15,8 +16,8 @@ use Rattle.rules.proofs.Invariant.{Active, active-over, LeaveStep, Hold
 use Rattle.rules.proofs.Acting.{Acting, active, live, live-part, apart, elsewhere, node-h, fn-g, n≢0, h≢g, F≢g, apart-arguments}
 use Rattle.rules.proofs.Acting.{second-phase, holder-over}
 
-module _ {F : ℕ} {body : ℕ → Expr} {s s′ : View} {h n g : ℕ} {es : Exprs} (x : Acting F body s h (call n g es))
-    (st : LeaveStep body s s′ h n g es) where
+module _ {units : Arithmetic} {F : ℕ} {body : ℕ → Expr} {s s′ : View} {h n g : ℕ} {es : Exprs} (x : Acting F body s h (call n g es))
+    (st : LeaveStep units body s s′ h n g es) where
   -- the resource is this call's
   pub mine : s .occupant g ≡ n
   mine = second-phase s n g es (st .holds) (live-part x) .1

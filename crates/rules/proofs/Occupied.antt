@@ -17,6 +17,7 @@ use Rattle.table.proofs.CallPlaces.{call-node, sub-call}
 use Rattle.table.specs.Pick.{pick, Range}
 use Rattle.table.specs.Environment.{put}
 use Rattle.table.specs.Find.{total}
+use Rattle.rules.specs.Arithmetic.{Arithmetic}
 use Rattle.rules.proofs.SumLaws.{sum-ext, sum-add, sum-put, sum-zero, put-same, put-other}
 use Rattle.rules.proofs.Invariant.{Holder, Sound}
 use Rattle.rules.proofs.Acting.{stepping-live, second-phase}
@@ -55,14 +56,14 @@ calls-call (cond n a b c) f e = absurd (true≢false (sym e))
 calls-call (bind n ds b) f e = absurd (true≢false (sym e))
 calls-call (bound n d) f e = absurd (true≢false (sym e))
 
-module _ (apply : ℕ → List ℕ → ℕ) {F N : ℕ} {body at : ℕ → Expr} {home : ℕ → ℕ} (laid : Laid F N body at home) where
+module _ (units : Arithmetic) {F N : ℕ} {body at : ℕ → Expr} {home : ℕ → ℕ} (laid : Laid F N body at home) where
   module _ (s : State512) (good : Good F body s) (n : ℕ) (r : Range N n) (m : Move)
-      (here : act apply body (home n) (view s) (at n) ≡ does m) where
+      (here : act units body (home n) (view s) (at n) ≡ does m) where
     pub moved-phased : (ns : List ℕ) → Phased F body (view s) ns → Phased F body (view (perform N home body s n m)) (n ∷ ns)
     moved-phased ns ph f c g q i = go (ℕ-discrete c n)
       where
         x : Does N home body (view s) (view (perform N home body s n m)) n m
-        x = moved-does apply laid s (good .sized) n r m here .1
+        x = moved-does units laid s (good .sized) n r m here .1
 
         own : c ≡ n → third (view (perform N home body s n m)) c ≡ (third (view s) c + 1) % 3
         own e =
@@ -70,18 +71,18 @@ module _ (apply : ℕ → List ℕ → ℕ) {F N : ℕ} {body at : ℕ → Expr}
             let o = laid .inside f c q (call-node c g (body f) i) in
             let p : Sub (call c g (k .0)) (body f) = subst (λ u. Sub u (body f)) (k .1)
             (subst (λ y. Sub (at c) (body y)) (o .0) (laid .placed c (o .1, o .2))) in
-            let a : act apply body (home c) (view s) (at c) ≡ act apply body f (view s) (call c g (k .0)) =
-            (λ j. act apply body (o .0 j) (view s) (k .1 j)) in
-            let b : act apply body (home c) (view s) (at c) ≡ does m = ap (λ y. act apply body (home y) (view s) (at y)) e ∙ here in
-            third-own apply laid (view s) (view (perform N home body s n m)) (good .sound) f c g (k .0) q p
+            let a : act units body (home c) (view s) (at c) ≡ act units body f (view s) (call c g (k .0)) =
+            (λ j. act units body (o .0 j) (view s) (k .1 j)) in
+            let b : act units body (home c) (view s) (at c) ≡ does m = ap (λ y. act units body (home y) (view s) (at y)) e ∙ here in
+            third-own units laid (view s) (view (perform N home body s n m)) (good .sound) f c g (k .0) q p
             (subst (Acted N home body (view s) (view (perform N home body s n m)) c) (sym b ∙ a)
             (subst (λ y. Does N home body (view s) (view (perform N home body s n m)) y m) (sym e) x))
 
         go : Dec (c ≡ n) → count c (n ∷ ns) % 3 ≡ third (view (perform N home body s n m)) c
         go (yes e) = ap (λ k. k % 3) (count-same c n ns e) ∙ next-third (count c ns) ∙ ap (λ k. (k + 1) % 3) (ph f c g q i) ∙ sym (own e)
         go (no e) = ap (λ k. k % 3) (count-other c n ns e) ∙ ph f c g q i
-            ∙ sym (third-other apply laid (view s) (view (perform N home body s n m)) (good .sound) f c g n q i m x
-            (moved-step apply laid s good n r m here .0) (moved-step apply laid s good n r m here .1) e)
+            ∙ sym (third-other units laid (view s) (view (perform N home body s n m)) (good .sound) f c g n q i m x
+            (moved-step units laid s good n r m here .0) (moved-step units laid s good n r m here .1) e)
 
 module _ {F N : ℕ} {body at : ℕ → Expr} {home : ℕ → ℕ} (laid : Laid F N body at home) where
   -- a node that calls f, as a call of its function's body

@@ -2,11 +2,11 @@
 use Prim.Native.Nat.{ℕ, _≤_, _<_}
 use mathlib.Core.Bool.{Bool}
 use mathlib.Core.Logic.{inl, inr}
-use mathlib.Core.List.{List}
 use native.Mathlib.Omega.{arith}
 use Rattle.table.specs.Syntax.{Expr}
 use Rattle.table.specs.Pick.{Range}
 use Rattle.table.specs.Well.{Laid}
+use Rattle.rules.specs.Arithmetic.{Arithmetic}
 use Rattle.rules.specs.State.{State512, Sized, view}
 use Rattle.rules.specs.Step.{Move, begins, turns, finishes, enters, leaves, restarts, perform, circuitStep}
 use Rattle.rules.specs.Companions.{Agree}
@@ -42,7 +42,7 @@ module _ (F N : ℕ) (home : ℕ → ℕ) (body : ℕ → Expr) (n : ℕ) (r : R
   alters-within (restarts g vs) q f (inl e) = omega (arith, e, q .1)
   alters-within (restarts g vs) q f (inr e) = absurd e
 
-module _ (apply : ℕ → List ℕ → ℕ) {F N : ℕ} {body at : ℕ → Expr} {home : ℕ → ℕ} (laid : Laid F N body at home)
+module _ (units : Arithmetic) {F N : ℕ} {body at : ℕ → Expr} {home : ℕ → ℕ} (laid : Laid F N body at home)
     (tags : ℕ → Bool) (s : State512) (sized : Sized s) (n : ℕ) where
   abbrev PastN : ℕ → Type 0
   PastN m = N < m
@@ -50,10 +50,10 @@ module _ (apply : ℕ → List ℕ → ℕ) {F N : ℕ} {body at : ℕ → Expr}
   abbrev PastF : ℕ → Type 0
   PastF f = F < f
 
-  pub step-past : Agree PastN PastF (view s) (view (circuitStep apply F N body at home tags s n .state))
-  step-past = step-cases apply F N body at home tags s n (λ r. Agree PastN PastF (view s) (view (r .state)))
+  pub step-past : Agree PastN PastF (view s) (view (circuitStep units F N body at home tags s n .state))
+  step-past = step-cases units F N body at home tags s n (λ r. Agree PastN PastF (view s) (view (r .state)))
       (λ c. agree-same PastN PastF (view s))
-      (λ r e a k. let d = moved-does apply laid s sized n r a k in
+      (λ r e a k. let d = moved-does units laid s sized n r a k in
       agree-fewer PastN PastF (λ m h w. omega (arith, h, writes-within F N home body n r a (d .0) m w))
       (λ f h w. omega (arith, h, alters-within F N home body n r a (d .0) f w))
       (keeps-rest N home body (view s) (view (perform N home body s n a)) n a (d .1)))

@@ -8,6 +8,7 @@ use lib.Dec.{eqb}
 use Rattle.table.specs.Syntax.{Expr, Exprs, call, id}
 use Rattle.table.specs.Pick.{Range}
 use Rattle.table.specs.Well.{Laid}
+use Rattle.rules.specs.Arithmetic.{Arithmetic}
 use Rattle.rules.specs.State.{View, State512, view}
 use Rattle.rules.specs.Step.{Act, does, begins, enters, leaves, done, all-done, act, circuitStep}
 use Rattle.rules.specs.Play.{calls, IsTaken}
@@ -43,11 +44,11 @@ module _ (f k : ℕ) where
     left = λ g w z. (e, cc);
   }
 
-module _ (apply : ℕ → List ℕ → ℕ) (body : ℕ → Expr) (s : View) (h n f : ℕ) (es : Exprs) (k : ℕ) (phase : k % 3 ≡ third s n) where
+module _ (units : Arithmetic) (body : ℕ → Expr) (s : View) (h n f : ℕ) (es : Exprs) (k : ℕ) (phase : k % 3 ≡ third s n) where
   abbrev Goal : Act → Type 0
   Goal x = Moves x → Phases x f k
 
-  call-phases : Goal (act apply body h s (call n f es))
+  call-phases : Goal (act units body h s (call n f es))
   call-phases = by-state Goal (s .status n) _ _
       (λ o m. begins-phase f k _ (phase ∙ third-rest s n (λ e. omega (arith, o, e))))
       (λ t. by-pick Goal (s .second n) _ _
@@ -57,19 +58,19 @@ module _ (apply : ℕ → List ℕ → ℕ) (body : ℕ → Expr) (s : View) (h 
       (λ e. absurd)))
       absurd
 
-module _ (apply : ℕ → List ℕ → ℕ) {F N : ℕ} {body at : ℕ → Expr} {home : ℕ → ℕ} (laid : Laid F N body at home)
+module _ (units : Arithmetic) {F N : ℕ} {body at : ℕ → Expr} {home : ℕ → ℕ} (laid : Laid F N body at home)
     (tags : ℕ → Bool) (s : State512) where
   -- a step taken at a node is its move
-  pub taken-moves : (n : ℕ) → IsTaken (circuitStep apply F N body at home tags s n .answer)
-      → Moves (act apply body (home n) (view s) (at n))
-  taken-moves n = step-cases apply F N body at home tags s n
-      (λ r. IsTaken (r .answer) → Moves (act apply body (home n) (view s) (at n))) (λ c. absurd) (λ r e m h a. subst Moves (sym h) tt)
+  pub taken-moves : (n : ℕ) → IsTaken (circuitStep units F N body at home tags s n .answer)
+      → Moves (act units body (home n) (view s) (at n))
+  taken-moves n = step-cases units F N body at home tags s n
+      (λ r. IsTaken (r .answer) → Moves (act units body (home n) (view s) (at n))) (λ c. absurd) (λ r e m h a. subst Moves (sym h) tt)
 
-  pub step-phases : (c f : ℕ) → Range N c → calls (at c) f ≡ true → IsTaken (circuitStep apply F N body at home tags s c .answer)
-      → (k : ℕ) → k % 3 ≡ third (view s) c → Phases (act apply body (home c) (view s) (at c)) f k
+  pub step-phases : (c f : ℕ) → Range N c → calls (at c) f ≡ true → IsTaken (circuitStep units F N body at home tags s c .answer)
+      → (k : ℕ) → k % 3 ≡ third (view s) c → Phases (act units body (home c) (view s) (at c)) f k
   step-phases c f r e a k ph =
       let x = calls-call (at c) f e in
       let i : x .0 ≡ c = sym (ap id (x .2)) ∙ laid .number c r in
-      subst (λ u. Phases (act apply body (home c) (view s) u) f k) (sym (x .2))
-      (call-phases apply body (view s) (home c) (x .0) f (x .1) k (ph ∙ ap (third (view s)) (sym i))
-      (subst (λ u. Moves (act apply body (home c) (view s) u)) (x .2) (taken-moves c a)))
+      subst (λ u. Phases (act units body (home c) (view s) u) f k) (sym (x .2))
+      (call-phases units body (view s) (home c) (x .0) f (x .1) k (ph ∙ ap (third (view s)) (sym i))
+      (subst (λ u. Moves (act units body (home c) (view s) u)) (x .2) (taken-moves c a)))

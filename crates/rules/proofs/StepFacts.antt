@@ -3,7 +3,6 @@ use Prim.Native.Nat.{ℕ, _≤_}
 use mathlib.Core.Bool.{Bool, true, false, true≢false}
 use mathlib.Core.Path.{_≡_, refl, subst, sym, _∙_}
 use mathlib.Core.Logic.{_⊎_, inl, inr, ⊎-elim}
-use mathlib.Core.List.{List}
 use native.Mathlib.Omega.{arith}
 use borrow.Author.Tests.{eqb-true, eq-eqb}
 use Rattle.table.specs.Syntax.{Expr, id, Node, Sub}
@@ -17,6 +16,7 @@ use Rattle.rules.specs.Step.{does, Move, done, act, Reply, taken, answer
 use Rattle.rules.proofs.Performed.{Does, Acted, Fair, FairAct, perform-does, perform-sized}
 use Rattle.rules.specs.Play.{IsTaken}
 use Rattle.table.specs.Well.{Fn, Laid}
+use Rattle.rules.specs.Arithmetic.{Arithmetic}
 use Rattle.rules.proofs.LaidFacts.{fn-main}
 use Rattle.rules.proofs.StepSound.{StepAt, acted-step}
 use Rattle.rules.proofs.StepTaken.{Moves, Blocks, Waits, act-fair, able-moves, blocked-waits}
@@ -33,26 +33,26 @@ pub record Good (F : ℕ) (body : ℕ → Expr) (s : State512) : Type 0 where
   pub sized : Sized s
   pub sound : Sound F body (view s)
 
-module _ (apply : ℕ → List ℕ → ℕ) {F N : ℕ} {body at : ℕ → Expr} {home : ℕ → ℕ} (laid : Laid F N body at home) where
+module _ (units : Arithmetic) {F N : ℕ} {body at : ℕ → Expr} {home : ℕ → ℕ} (laid : Laid F N body at home) where
   abbrev pub step : (ℕ → Bool) → State512 → ℕ → Stepped
-  step = circuitStep apply F N body at home
+  step = circuitStep units F N body at home
 
   -- what the move of a node changes, from any state of the right size
-  pub moved-does : (s : State512) → Sized s → (n : ℕ) → Range N n → (m : Move) → act apply body (home n) (view s) (at n) ≡ does m
+  pub moved-does : (s : State512) → Sized s → (n : ℕ) → Range N n → (m : Move) → act units body (home n) (view s) (at n) ≡ does m
       → Fair F N home body n m × Does N home body (view s) (view (perform N home body s n m)) n m
   moved-does s sized n r m here =
       let f = subst (λ x. FairAct F N home body x (does m)) (laid .number n r)
-      (subst (FairAct F N home body (id (at n))) here (act-fair apply laid (view s) (home n) (laid .home-there n r) (at n)
+      (subst (FairAct F N home body (id (at n))) here (act-fair units laid (view s) (home n) (laid .home-there n r) (at n)
       (laid .placed n r))) in
       (f, perform-does F N home (laid .functions) (laid .nodes) s sized body n m r f)
 
   module _ (s : State512) (good : Good F body s) (n : ℕ) (r : Range N n) (m : Move)
-      (here : act apply body (home n) (view s) (at n) ≡ does m) where
-    pub moved-step : StepAt apply F body (view s) (view (perform N home body s n m)) n
+      (here : act units body (home n) (view s) (at n) ≡ does m) where
+    pub moved-step : StepAt units F body (view s) (view (perform N home body s n m)) n
     moved-step =
         let t : View = view (perform N home body s n m) in
-        subst (StepAt apply F body (view s) t) (laid .number n r)
-        (acted-step apply laid (view s) t (good .sound) (home n) (laid .home-there n r) (at n) (laid .placed n r)
+        subst (StepAt units F body (view s) t) (laid .number n r)
+        (acted-step units laid (view s) t (good .sound) (home n) (laid .home-there n r) (at n) (laid .placed n r)
         (subst (Acted N home body (view s) t (id (at n))) (sym here)
         (subst (λ x. Does N home body (view s) t x m) (sym (laid .number n r))
         (moved-does s (good .sized) n r m here .1))))
@@ -66,11 +66,11 @@ module _ (apply : ℕ → List ℕ → ℕ) {F N : ℕ} {body at : ℕ → Expr}
   -- when a step is refused, and when it isn't
   module _ (tags : ℕ → Bool) (s : State512) (good : Good F body s) (n : ℕ) where
     abbrev Causes : Type 0
-    Causes = Cause apply F N body at home tags s n
+    Causes = Cause units F N body at home tags s n
 
     -- at a node of a sound state only two causes are left: main's root is done, or the node has no move
     sound-cause : Range N n → (c : Causes) → ((done (view s) (id (body F)) ≡ true) × (number c ≡ 20) × (place c ≡ n))
-        ⊎ ((done (view s) (id (body F)) ≡ false) × (Moves (act apply body (home n) (view s) (at n)) → ⊥))
+        ⊎ ((done (view s) (id (body F)) ≡ false) × (Moves (act units body (home n) (view s) (at n)) → ⊥))
     sound-cause r (no-node e) = absurd (e r)
     sound-cause r (bad-status q e) =
         absurd (true≢false (sym e ∙ over-none 3 N (s .status) (status-bound laid (view s) (good .sound))))
@@ -94,13 +94,13 @@ module _ (apply : ℕ → List ℕ → ℕ) {F N : ℕ} {body at : ℕ → Expr}
         let j : place c ≡ p = cc in
         let w = held-only c (⊎-elim (λ z. inl (i ∙ z)) (λ z. inr (i ∙ z)) h) in (
           w .0,
-          blocked-waits apply laid (view s) (home n) (laid .home-there n (w .0)) (at n) (subst Blocks (sym (w .1)) tt),
+          blocked-waits units laid (view s) (home n) (laid .home-there n (w .0)) (at n) (subst Blocks (sym (w .1)) tt),
           sym i ∙ w .2,
           sym j ∙ w .3,
         )
 
     pub step-waits : Held (step tags s n .answer)
-    step-waits = step-cases apply F N body at home tags s n (λ r. Held (r .answer)) cause-held
+    step-waits = step-cases units F N body at home tags s n (λ r. Held (r .answer)) cause-held
         (λ r e m h. told-not (done (view (perform N home body s n m)) (id (body F)))
         (view (perform N home body s n m) .value (id (body F))))
 
@@ -108,16 +108,16 @@ module _ (apply : ℕ → List ℕ → ℕ) {F N : ℕ} {body at : ℕ → Expr}
     pub step-over : Range N n → view s .status (id (body F)) ≡ 3 → step tags s n ≡ refusal s 20 n
     step-over r e =
         let d : done (view s) (id (body F)) ≡ true = eq-eqb (view s .status (id (body F))) 3 e in
-        step-cases apply F N body at home tags s n (λ r. r ≡ refusal s 20 n)
+        step-cases units F N body at home tags s n (λ r. r ≡ refusal s 20 n)
         (λ c. ⊎-elim (λ x. let p = x .1 in
         let q = x .2 in
         (λ i. refusal s (p i) (q i))) (λ x. absurd (true≢false (sym d ∙ x .0))) (sound-cause r c))
         (λ q f m h. absurd (true≢false (sym d ∙ f)))
 
     -- a node that moves isn't refused
-    pub step-moves : Range N n → (view s .status (id (body F)) ≡ 3 → ⊥) → Moves (act apply body (home n) (view s) (at n))
+    pub step-moves : Range N n → (view s .status (id (body F)) ≡ 3 → ⊥) → Moves (act units body (home n) (view s) (at n))
         → IsTaken (step tags s n .answer)
-    step-moves r e a = step-cases apply F N body at home tags s n (λ r. IsTaken (r .answer))
+    step-moves r e a = step-cases units F N body at home tags s n (λ r. IsTaken (r .answer))
         (λ c. ⊎-elim (λ x. e (eqb-true (view s .status (id (body F))) 3 (x .0))) (λ x. x .1 a) (sound-cause r c))
         (λ q f m h. told-taken (done (view (perform N home body s n m)) (id (body F)))
         (view (perform N home body s n m) .value (id (body F))))
@@ -125,8 +125,8 @@ module _ (apply : ℕ → List ℕ → ℕ) {F N : ℕ} {body at : ℕ → Expr}
     -- a node that is able to in the abstract circuit
     pub step-able : (h : ℕ) → Fn F body h → (u : Expr) → Sub u (body h) → id u ≡ n → Able body (view s) u
         → (view s .status (id (body F)) ≡ 3 → ⊥) → IsTaken (step tags s n .answer)
-    step-able h q u p e a d = step-moves there d (subst (λ f. Moves (act apply body f (view s) (at n))) (sym (i .0))
-        (subst (λ x. Moves (act apply body h (view s) x)) same (able-moves apply laid (view s) h q u a)))
+    step-able h q u p e a d = step-moves there d (subst (λ f. Moves (act units body f (view s) (at n))) (sym (i .0))
+        (subst (λ x. Moves (act units body h (view s) x)) same (able-moves units laid (view s) h q u a)))
       where
         i : (home n ≡ h) × (1 ≤ n) × (n ≤ N)
         i = laid .inside h n q (subst (λ m. Node m (body h)) e (sub-node u (id u) (body h) p (node-id u)))

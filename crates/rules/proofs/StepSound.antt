@@ -16,6 +16,7 @@ use Rattle.rules.proofs.Frame.{Same}
 use Rattle.table.proofs.SyntaxLaws.{node-id, apart-sub}
 use Rattle.rules.proofs.Moves.{Becomes, Opens, Opens*, Keeps, Keeps*, Inner}
 use Rattle.table.proofs.CallPlaces.{sub-call}
+use Rattle.rules.specs.Arithmetic.{Arithmetic, handed}
 use Rattle.rules.proofs.Invariant.{New, Sound, Step, inner, enter, leave, again}
 use Rattle.rules.proofs.Acting.{stepping-live}
 use Rattle.rules.specs.Step.{stuck, does, finishes, enters, done, all-done, branch, act}
@@ -24,18 +25,18 @@ use Rattle.rules.proofs.ActCases.{by-pick, by-state, live-open}
 use Rattle.rules.proofs.LaidFacts.{every-all, every-all*, under-all, root-node, opens-all, opens-all*, all-done-finished}
 use Rattle.rules.proofs.LaidFacts.{own-node, callee-fn}
 
-module _ (apply : ℕ → List ℕ → ℕ) (F : ℕ) (body : ℕ → Expr) where
+module _ (units : Arithmetic) (F : ℕ) (body : ℕ → Expr) where
   -- the node of a step
-  abbrev pub stepped : {s s′ : View} → Step apply F body s s′ → ℕ
+  abbrev pub stepped : {s s′ : View} → Step units F body s s′ → ℕ
   stepped (inner h r u st) = id u
   stepped (enter h r n g es st) = n
   stepped (leave h r n g es st) = n
   stepped (again h r n es st) = n
 
   abbrev pub StepAt : View → View → ℕ → Type 0
-  StepAt s s′ n = (st : Step apply F body s s′) × (stepped st ≡ n)
+  StepAt s s′ n = (st : Step units F body s s′) × (stepped st ≡ n)
 
-module _ (apply : ℕ → List ℕ → ℕ) {F N : ℕ} {body at : ℕ → Expr} {home : ℕ → ℕ} (laid : Laid F N body at home) where
+module _ (units : Arithmetic) {F N : ℕ} {body at : ℕ → Expr} {home : ℕ → ℕ} (laid : Laid F N body at home) where
   module _ (s s′ : View) (sound : Sound F body s) (h : ℕ) (r : Fn F body h) where
     open-at : (u : Expr) → Sub u (body h) → s .status (id u) ≡ 1 → Open s (id u)
     open-at u p e = live-open s u (stepping-live sound h r u p (open-moves s (id u) e)) e
@@ -44,8 +45,9 @@ module _ (apply : ℕ → List ℕ → ℕ) {F N : ℕ} {body at : ℕ → Expr}
     apart u p = apart-sub u (body h) (laid .well .apart h r) p
 
     -- a step inside the body that finishes the node
-    ends : (u : Expr) → Sub u (body h) → (v : ℕ) → Does N home body s s′ (id u) (finishes v) → Inner apply (s .register h) s s′ u
-        → StepAt apply F body s s′ (id u)
+    ends : (u : Expr) → Sub u (body h) → (v : ℕ) → Does N home body s s′ (id u) (finishes v) → Inner (units .operate h)
+        (s .register h) s s′ u
+        → StepAt units F body s s′ (id u)
     ends u p v d i = (
       inner h r u record {
         place = p;
@@ -58,7 +60,7 @@ module _ (apply : ℕ → List ℕ → ℕ) {F N : ℕ} {body at : ℕ → Expr}
 
     -- one that opens the nodes of ns
     starts : (u : Expr) → Sub u (body h) → (ns : List ℕ) → ((m : ℕ) → In m ns → Node m u) → Begins s s′ (id u) ns
-        → Inner apply (s .register h) s s′ u → StepAt apply F body s s′ (id u)
+        → Inner (units .operate h) (s .register h) s s′ u → StepAt units F body s s′ (id u)
     starts u p ns f d i = (
       inner h r u record {
         place = p;
@@ -69,8 +71,8 @@ module _ (apply : ℕ → List ℕ → ℕ) {F N : ℕ} {body at : ℕ → Expr}
       refl,
     )
 
-    turning : (u : Expr) → Sub u (body h) → (q : ℕ) → Node q u → Turns s s′ (id u) q → Inner apply (s .register h) s s′ u
-        → StepAt apply F body s s′ (id u)
+    turning : (u : Expr) → Sub u (body h) → (q : ℕ) → Node q u → Turns s s′ (id u) q → Inner (units .operate h) (s .register h) s s′ u
+        → StepAt units F body s s′ (id u)
     turning u p q f d i = (
       inner h r u record {
         place = p;
@@ -99,30 +101,30 @@ module _ (apply : ℕ → List ℕ → ℕ) {F N : ℕ} {body at : ℕ → Expr}
     kept : (n v : ℕ) (e : Expr) → (Node n e → ⊥) → Finishes s s′ n v → Keeps s s′ e
     kept n v e a d = every-all (Same s s′) e (λ m k. d .others m (λ p. a (subst (λ x. Node x e) p k)))
 
-    const-step : (n v : ℕ) → Sub (const n v) (body h) → Acted N home body s s′ n (act apply body h s (const n v))
-        → StepAt apply F body s s′ n
-    const-step n v p = by-state (λ x. Acted N home body s s′ n x → StepAt apply F body s s′ n) (s .status n) (does (finishes v)) stuck
+    const-step : (n v : ℕ) → Sub (const n v) (body h) → Acted N home body s s′ n (act units body h s (const n v))
+        → StepAt units F body s s′ n
+    const-step n v p = by-state (λ x. Acted N home body s s′ n x → StepAt units F body s s′ n) (s .status n) (does (finishes v)) stuck
         (λ o d. ends (const n v) p v d (open-at (const n v) p o, becomes n v (d .0))) (λ e. absurd) absurd
 
-    param-step : (n i : ℕ) → Sub (param n i) (body h) → Acted N home body s s′ n (act apply body h s (param n i))
-        → StepAt apply F body s s′ n
-    param-step n i p = by-state (λ x. Acted N home body s s′ n x → StepAt apply F body s s′ n) (s .status n)
+    param-step : (n i : ℕ) → Sub (param n i) (body h) → Acted N home body s s′ n (act units body h s (param n i))
+        → StepAt units F body s s′ n
+    param-step n i p = by-state (λ x. Acted N home body s s′ n x → StepAt units F body s s′ n) (s .status n)
         (does (finishes (s .register h i))) stuck
         (λ o d. ends (param n i) p (s .register h i) d (open-at (param n i) p o, becomes n (s .register h i) (d .0))) (λ e. absurd) absurd
 
-    bound-step : (n q : ℕ) → Sub (bound n q) (body h) → Acted N home body s s′ n (act apply body h s (bound n q))
-        → StepAt apply F body s s′ n
-    bound-step n q p = by-state (λ x. Acted N home body s s′ n x → StepAt apply F body s s′ n) (s .status n)
+    bound-step : (n q : ℕ) → Sub (bound n q) (body h) → Acted N home body s s′ n (act units body h s (bound n q))
+        → StepAt units F body s s′ n
+    bound-step n q p = by-state (λ x. Acted N home body s s′ n x → StepAt units F body s s′ n) (s .status n)
         (does (finishes (s .value q))) stuck
         (λ o d. ends (bound n q) p (s .value q) d (open-at (bound n q) p o, becomes n (s .value q) (d .0))) (λ e. absurd) absurd
 
-    prim-step : (n op : ℕ) (es : Exprs) → Sub (prim n op es) (body h) → Acted N home body s s′ n (act apply body h s (prim n op es))
-        → StepAt apply F body s s′ n
-    prim-step n op es p = by-state (λ x. Acted N home body s s′ n x → StepAt apply F body s s′ n) (s .status n) _ _
+    prim-step : (n op : ℕ) (es : Exprs) → Sub (prim n op es) (body h) → Acted N home body s s′ n (act units body h s (prim n op es))
+        → StepAt units F body s s′ n
+    prim-step n op es p = by-state (λ x. Acted N home body s s′ n x → StepAt units F body s s′ n) (s .status n) _ _
         (λ o d. let k = open-at (prim n op es) p o in
         starts (prim n op es) p (roots es) (λ m i. inr (root-node m es i)) d
         (inl (k, (d .busy, d .seconds n ∙ k .1), begun n es (a .0) (a .1) d)))
-        (λ b. by-pick (λ x. Acted N home body s s′ n x → StepAt apply F body s s′ n) (all-done s es) _ _
+        (λ b. by-pick (λ x. Acted N home body s s′ n x → StepAt units F body s s′ n) (all-done s es) _ _
         (λ f d. ends (prim n op es) p v d (inr (b, all-done-finished s es f, becomes n v (d .0), kept* n v es (a .0) (d .0))))
         (λ e. absurd))
         absurd
@@ -131,7 +133,7 @@ module _ (apply : ℕ → List ℕ → ℕ) {F N : ℕ} {body at : ℕ → Expr}
         a = apart (prim n op es) p
 
         v : ℕ
-        v = apply op (values (s .value) es)
+        v = units .operate h op (values (s .value) es)
 
     -- one expression below a node that becomes busy, or in its second phase
     begun₁ : (n : ℕ) (e : Expr) → (Node n e → ⊥) → Apart e → Begins s s′ n (id e ∷ []) → Opens s s′ e
@@ -157,9 +159,9 @@ module _ (apply : ℕ → List ℕ → ℕ) {F N : ℕ} {body at : ℕ → Expr}
     turned-kept n q e a b d = every-all (Same s s′) e (λ m k. turned-same n q m d (λ p. a (subst (λ x. Node x e) p k))
         (λ p. b (subst (λ x. Node x e) p k)))
 
-    cond-step : (n : ℕ) (a b c : Expr) → Sub (cond n a b c) (body h) → Acted N home body s s′ n (act apply body h s (cond n a b c))
-        → StepAt apply F body s s′ n
-    cond-step n a b c p = by-state (λ x. Acted N home body s s′ n x → StepAt apply F body s s′ n) (s .status n) _ _
+    cond-step : (n : ℕ) (a b c : Expr) → Sub (cond n a b c) (body h) → Acted N home body s s′ n (act units body h s (cond n a b c))
+        → StepAt units F body s s′ n
+    cond-step n a b c p = by-state (λ x. Acted N home body s s′ n x → StepAt units F body s s′ n) (s .status n) _ _
         (λ o d. let k = open-at u p o in
         starts u p (id a ∷ []) (λ m i. inr (inl (root m i))) d
         (inl (
@@ -169,8 +171,8 @@ module _ (apply : ℕ → List ℕ → ℕ) {F N : ℕ} {body at : ℕ → Expr}
           begun-kept n (id a) b (x .1) (x .6 (id a) (node-id a)) d,
           begun-kept n (id a) c (x .2) (x .7 (id a) (node-id a)) d,
         )))
-        (λ t. by-pick (λ y. Acted N home body s s′ n y → StepAt apply F body s s′ n) (s .second n) _ _
-        (λ w. by-pick (λ y. Acted N home body s s′ n y → StepAt apply F body s s′ n) (done s (id (branch (s .value (id a)) b c))) _ _
+        (λ t. by-pick (λ y. Acted N home body s s′ n y → StepAt units F body s s′ n) (s .second n) _ _
+        (λ w. by-pick (λ y. Acted N home body s s′ n y → StepAt units F body s s′ n) (done s (id (branch (s .value (id a)) b c))) _ _
         (λ f d. ends u p (s .value (id (branch (s .value (id a)) b c))) d
         (inr (inr (
           (t, w),
@@ -180,7 +182,7 @@ module _ (apply : ℕ → List ℕ → ℕ) {F N : ℕ} {body at : ℕ → Expr}
           kept n _ c (x .2) (d .0),
         ))))
         (λ e. absurd))
-        (λ w. by-pick (λ y. Acted N home body s s′ n y → StepAt apply F body s s′ n) (done s (id a)) _ _
+        (λ w. by-pick (λ y. Acted N home body s s′ n y → StepAt units F body s s′ n) (done s (id a)) _ _
         (λ f d. turning u p (id (branch (s .value (id a)) b c)) (chosen (s .value (id a))) d
         (inr (inl (
           (t, w),
@@ -227,8 +229,8 @@ module _ (apply : ℕ → List ℕ → ℕ) {F N : ℕ} {body at : ℕ → Expr}
         taken (suc v) d = (turned n b (x .1) (x .4) d, turned-kept n (id b) c (x .2) (x .8 (id b) (node-id b)) d)
 
     bind-step : (n : ℕ) (ds : Exprs) (b : Expr) → Sub (bind n ds b) (body h)
-        → Acted N home body s s′ n (act apply body h s (bind n ds b)) → StepAt apply F body s s′ n
-    bind-step n ds b p = by-state (λ x. Acted N home body s s′ n x → StepAt apply F body s s′ n) (s .status n) _ _
+        → Acted N home body s s′ n (act units body h s (bind n ds b)) → StepAt units F body s s′ n
+    bind-step n ds b p = by-state (λ x. Acted N home body s s′ n x → StepAt units F body s s′ n) (s .status n) _ _
         (λ o d. let k = open-at (bind n ds b) p o in
         starts (bind n ds b) p (roots ds) (λ m i. inr (inl (root-node m ds i))) d
         (inl (
@@ -241,8 +243,8 @@ module _ (apply : ℕ → List ℕ → ℕ) {F N : ℕ} {body at : ℕ → Expr}
             d .valued m,
           )),
         )))
-        (λ t. by-pick (λ y. Acted N home body s s′ n y → StepAt apply F body s s′ n) (s .second n) _ _
-        (λ w. by-pick (λ y. Acted N home body s s′ n y → StepAt apply F body s s′ n) (done s (id b)) _ _
+        (λ t. by-pick (λ y. Acted N home body s s′ n y → StepAt units F body s s′ n) (s .second n) _ _
+        (λ w. by-pick (λ y. Acted N home body s s′ n y → StepAt units F body s s′ n) (done s (id b)) _ _
         (λ f d. ends (bind n ds b) p (s .value (id b)) d
         (inr (inr (
           (t, w),
@@ -252,7 +254,7 @@ module _ (apply : ℕ → List ℕ → ℕ) {F N : ℕ} {body at : ℕ → Expr}
           kept n _ b (x .1) (d .0),
         ))))
         (λ e. absurd))
-        (λ w. by-pick (λ y. Acted N home body s s′ n y → StepAt apply F body s s′ n) (all-done s ds) _ _
+        (λ w. by-pick (λ y. Acted N home body s s′ n y → StepAt units F body s s′ n) (all-done s ds) _ _
         (λ f d. turning (bind n ds b) p (id b) (inr (inr (node-id b))) d
         (inr (inl (
           (t, w),
@@ -284,20 +286,20 @@ module _ (apply : ℕ → List ℕ → ℕ) {F N : ℕ} {body at : ℕ → Expr}
         own : (m : ℕ) → (home m ≡ g) × (1 ≤ m) × (m ≤ N) → Owns N home g m
         own m i = (i .1, i .2, i .0)
 
-    call-step : (n g : ℕ) (es : Exprs) → Sub (call n g es) (body h) → Acted N home body s s′ n (act apply body h s (call n g es))
-        → StepAt apply F body s s′ n
-    call-step n g es p = by-state (λ x. Acted N home body s s′ n x → StepAt apply F body s s′ n) (s .status n) _ _
+    call-step : (n g : ℕ) (es : Exprs) → Sub (call n g es) (body h) → Acted N home body s s′ n (act units body h s (call n g es))
+        → StepAt units F body s s′ n
+    call-step n g es p = by-state (λ x. Acted N home body s s′ n x → StepAt units F body s s′ n) (s .status n) _ _
         (λ o d. let k = open-at (call n g es) p o in
         starts (call n g es) p (roots es) (λ m i. inr (root-node m es i)) d
         (k, (d .busy, d .seconds n ∙ k .1), begun n es (x .0) (x .1) d))
-        (λ t. by-pick (λ y. Acted N home body s s′ n y → StepAt apply F body s s′ n) (s .second n) _ _
-        (λ w. by-pick (λ y. Acted N home body s s′ n y → StepAt apply F body s s′ n) (done s (id (body g))) _ _
+        (λ t. by-pick (λ y. Acted N home body s s′ n y → StepAt units F body s s′ n) (s .second n) _ _
+        (λ w. by-pick (λ y. Acted N home body s s′ n y → StepAt units F body s s′ n) (done s (id (body g))) _ _
         (λ f d. (
           leave h r n g es record {
             place = p;
             holds = (t, w);
             over = eqb-true (s .status (id (body g))) 3 f;
-            becomes = becomes n (s .value (id (body g))) (d .done);
+            becomes = becomes n (units .keep h (s .value (id (body g)))) (d .done);
             keeps = d .done .others;
             frees = d .frees;
             registers = d .registers g;
@@ -306,8 +308,8 @@ module _ (apply : ℕ → List ℕ → ℕ) {F N : ℕ} {body at : ℕ → Expr}
           refl,
         ))
         (λ e. absurd))
-        (λ w. by-pick (λ y. Acted N home body s s′ n y → StepAt apply F body s s′ n) (all-done s es) _ _
-        (λ f. by-pick (λ y. Acted N home body s s′ n y → StepAt apply F body s s′ n) (eqb (s .occupant g) 0) _ _
+        (λ w. by-pick (λ y. Acted N home body s s′ n y → StepAt units F body s s′ n) (all-done s es) _ _
+        (λ f. by-pick (λ y. Acted N home body s s′ n y → StepAt units F body s s′ n) (eqb (s .occupant g) 0) _ _
         (λ z d. (
           enter h r n g es record {
             place = p;
@@ -315,7 +317,7 @@ module _ (apply : ℕ → List ℕ → ℕ) {F N : ℕ} {body at : ℕ → Expr}
             ready = all-done-finished s es f;
             free = eqb-true (s .occupant g) 0 z;
             enters = (d .status ∙ t, d .second);
-            new = renewed g fn-g (λ m. m ≡ n) (values (s .value) es) (d .new);
+            new = renewed g fn-g (λ m. m ≡ n) (handed units g (values (s .value) es)) (d .new);
             keeps = λ m e k. d .new .others m e (λ o. k (own-node laid g m (o .0, o .1) (o .2)));
             occupies = d .occupies;
             arguments = d .new .registers;
@@ -333,18 +335,18 @@ module _ (apply : ℕ → List ℕ → ℕ) {F N : ℕ} {body at : ℕ → Expr}
         fn-g : Fn F body g
         fn-g = callee-fn (laid .well) h n g r (sub-call n g es (body h) p)
 
-    self-step : (n : ℕ) (es : Exprs) → Sub (self n es) (body h) → Acted N home body s s′ n (act apply body h s (self n es))
-        → StepAt apply F body s s′ n
-    self-step n es p = by-state (λ x. Acted N home body s s′ n x → StepAt apply F body s s′ n) (s .status n) _ _
+    self-step : (n : ℕ) (es : Exprs) → Sub (self n es) (body h) → Acted N home body s s′ n (act units body h s (self n es))
+        → StepAt units F body s s′ n
+    self-step n es p = by-state (λ x. Acted N home body s s′ n x → StepAt units F body s s′ n) (s .status n) _ _
         (λ o d. let k = open-at (self n es) p o in
         starts (self n es) p (roots es) (λ m i. inr (root-node m es i)) d (k, (d .busy, d .seconds n ∙ k .1), begun n es (x .0) (x .1) d))
-        (λ t. by-pick (λ y. Acted N home body s s′ n y → StepAt apply F body s s′ n) (all-done s es) _ _
+        (λ t. by-pick (λ y. Acted N home body s s′ n y → StepAt units F body s s′ n) (all-done s es) _ _
         (λ f d. (
           again h r n es record {
             place = p;
             waits = t;
             ready = all-done-finished s es f;
-            new = renewed h r (λ m. ⊥) (values (s .value) es) (d .0);
+            new = renewed h r (λ m. ⊥) (handed units h (values (s .value) es)) (d .0);
             keeps = λ m k. d .0 .others m (λ z. z) (λ o. k (own-node laid h m (o .0, o .1) (o .2)));
             arguments = d .0 .registers;
             occupants = d .1;
@@ -358,7 +360,7 @@ module _ (apply : ℕ → List ℕ → ℕ) {F N : ℕ} {body at : ℕ → Expr}
         x : Apart (self n es)
         x = apart (self n es) p
 
-    pub acted-step : (u : Expr) → Sub u (body h) → Acted N home body s s′ (id u) (act apply body h s u) → StepAt apply F body s s′ (id u)
+    pub acted-step : (u : Expr) → Sub u (body h) → Acted N home body s s′ (id u) (act units body h s u) → StepAt units F body s s′ (id u)
     acted-step (const n v) = const-step n v
     acted-step (param n i) = param-step n i
     acted-step (prim n op es) = prim-step n op es

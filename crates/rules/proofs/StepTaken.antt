@@ -3,7 +3,6 @@ use Prim.Native.Nat.{ℕ, zero, suc}
 use mathlib.Core.Bool.{Bool, true, false}
 use mathlib.Core.Path.{_≡_, refl, subst, sym}
 use mathlib.Core.Logic.{inl, inr, ⊎-elim}
-use mathlib.Core.List.{List}
 use native.Mathlib.Omega.{arith}
 use lib.Dec.{eqb}
 use borrow.Author.Tests.{eq-eqb, eqb-false}
@@ -20,7 +19,8 @@ use Rattle.rules.proofs.Progress.{Able}
 use Rattle.rules.specs.Step.{Act, stuck, blocked, does, Move, turns, finishes, restarts, done, all-done, branch, by-status, act}
 use Rattle.rules.proofs.Performed.{Owns, FairAct}
 use Rattle.table.specs.Well.{Fn, Laid}
-use Rattle.rules.proofs.LaidFacts.{length-values, root-node, all-done-finished, finished-all-done, callee-fn}
+use Rattle.rules.specs.Arithmetic.{Arithmetic, handed}
+use Rattle.rules.proofs.LaidFacts.{length-handed, root-node, all-done-finished, finished-all-done, callee-fn}
 use Rattle.rules.proofs.ActCases.{by-pick, by-state}
 
 abbrev pub Moves : Act → Type 0
@@ -51,7 +51,7 @@ module _ (P : Act → Type 0) where
   at-busy : (t : ℕ) (o b : Act) → t ≡ 2 → P b → P (by-status t o b)
   at-busy t o b e h = subst (λ c. P (by-status c o b)) (sym e) h
 
-module _ (apply : ℕ → List ℕ → ℕ) {F N : ℕ} {body at : ℕ → Expr} {home : ℕ → ℕ} (laid : Laid F N body at home) where
+module _ (units : Arithmetic) {F N : ℕ} {body at : ℕ → Expr} {home : ℕ → ℕ} (laid : Laid F N body at home) where
   module _ (s : View) (h : ℕ) (r : Fn F body h) where
     range : (u : Expr) → Sub u (body h) → (m : ℕ) → Node m u → Range N m
     range u p m k = let i = laid .inside h m r (sub-node u m (body h) p k) in (i .1, i .2)
@@ -59,7 +59,7 @@ module _ (apply : ℕ → List ℕ → ℕ) {F N : ℕ} {body at : ℕ → Expr}
     own-root : (g : ℕ) → Fn F body g → Owns N home g (id (body g))
     own-root g q = let i = laid .inside g (id (body g)) q (node-id (body g)) in (i .1, i .2, i .0)
 
-    pub act-fair : (u : Expr) → Sub u (body h) → FairAct F N home body (id u) (act apply body h s u)
+    pub act-fair : (u : Expr) → Sub u (body h) → FairAct F N home body (id u) (act units body h s u)
     act-fair (const n v) p = by-state (FairAct F N home body n) (s .status n) _ _ (λ o. tt) (λ b. tt) tt
     act-fair (param n i) p = by-state (FairAct F N home body n) (s .status n) _ _ (λ o. tt) (λ b. tt) tt
     act-fair (bound n d) p = by-state (FairAct F N home body n) (s .status n) _ _ (λ o. tt) (λ b. tt) tt
@@ -81,7 +81,7 @@ module _ (apply : ℕ → List ℕ → ℕ) {F N : ℕ} {body at : ℕ → Expr}
         (λ e. (
           fn-g .0,
           fn-g .1,
-          omega (arith, length-values s es, laid .narrow h (call n g es) r p),
+          omega (arith, length-handed units g s es, laid .narrow h (call n g es) r p),
           own-root g fn-g,
           elsewhere,
         )) (λ e. tt))
@@ -104,7 +104,7 @@ module _ (apply : ℕ → List ℕ → ℕ) {F N : ℕ} {body at : ℕ → Expr}
           λ i. apart-sub (self n es) (body h) (laid .well .apart h r) p .0 (root-node n es i),
         ))
         (λ b. by-pick (FairAct F N home body n) (all-done s es) _ _
-        (λ e. (r .0, r .1, omega (arith, length-values s es, laid .narrow h (self n es) r p), own-root h r)) (λ e. tt)) tt
+        (λ e. (r .0, r .1, omega (arith, length-handed units h s es, laid .narrow h (self n es) r p), own-root h r)) (λ e. tt)) tt
     act-fair (cond n a b c) p = by-state (FairAct F N home body n) (s .status n) _ _
         (λ o. (
           λ m i. ⊎-elim (λ e. range (cond n a b c) p m (inr (inl (subst (λ y. Node y a) (sym e) (node-id a))))) absurd i,
@@ -132,7 +132,7 @@ module _ (apply : ℕ → List ℕ → ℕ) {F N : ℕ} {body at : ℕ → Expr}
         tt
 
     -- a node that has a step in the abstract circuit moves
-    pub able-moves : (u : Expr) → Able body s u → Moves (act apply body h s u)
+    pub able-moves : (u : Expr) → Able body s u → Moves (act units body h s u)
     able-moves (const n v) o = at-open Moves (s .status n) _ _ (o .0) tt
     able-moves (param n i) o = at-open Moves (s .status n) _ _ (o .0) tt
     able-moves (bound n d) o = at-open Moves (s .status n) _ _ (o .0) tt
@@ -175,14 +175,14 @@ module _ (apply : ℕ → List ℕ → ℕ) {F N : ℕ} {body at : ℕ → Expr}
     two-tests true c d m l k = open-test c m k
     two-tests false c d m l k = open-test d l k
 
-    pub blocked-waits : (u : Expr) → Blocks (act apply body h s u) → Waits s u
+    pub blocked-waits : (u : Expr) → Blocks (act units body h s u) → Waits s u
     blocked-waits (const n v) = free n (const n v) (s .status n) _ _ (λ z. z) (λ z. z)
     blocked-waits (param n i) = free n (param n i) (s .status n) _ _ (λ z. z) (λ z. z)
     blocked-waits (bound n d) = free n (bound n d) (s .status n) _ _ (λ z. z) (λ z. z)
     blocked-waits (prim n op es) = free n (prim n op es) (s .status n) _ _ (λ z. z)
-        (open-test (all-done s es) (finishes (apply op (values (s .value) es))))
+        (open-test (all-done s es) (finishes (units .operate h op (values (s .value) es))))
     blocked-waits (self n es) = free n (self n es) (s .status n) _ _ (λ z. z)
-        (open-test (all-done s es) (restarts h (values (s .value) es)))
+        (open-test (all-done s es) (restarts h (handed units h (values (s .value) es))))
     blocked-waits (cond n a b c) =
         let r : Expr = branch (s .value (id a)) b c in
         free n (cond n a b c) (s .status n) _ _ (λ z. z) (two-tests (s .second n) (done s (id r)) (done s (id a))

@@ -16,6 +16,7 @@ use Rattle.table.proofs.CallPlaces.{call-node}
 use Rattle.rules.proofs.Places.{inner-busy, still-busy}
 use Rattle.rules.proofs.SelfCalls.{self-alone}
 use Rattle.table.specs.Pick.{pick, Range}
+use Rattle.rules.specs.Arithmetic.{Arithmetic}
 use Rattle.rules.proofs.Invariant.{Sound, Step, inner, enter, leave, again}
 use Rattle.rules.proofs.Acting.{stepping-live, live, live-part, fn-g, inner-acts, enter-acts, again-acts}
 use Rattle.rules.proofs.StateLaws.{in?}
@@ -38,12 +39,12 @@ third-rest s c h = ap (λ x. pick x (pick (s .second c) 2 1) 0) (ne-eqb (s .stat
 third-same : (s s′ : View) (c : ℕ) → Same s s′ c → third s′ c ≡ third s c
 third-same s s′ c h = λ i. pick (eqb (h .0 i) 2) (pick (h .1 i) 2 1) 0
 
-module _ (apply : ℕ → List ℕ → ℕ) {F N : ℕ} {body at : ℕ → Expr} {home : ℕ → ℕ} (laid : Laid F N body at home) (s s′ : View)
+module _ (units : Arithmetic) {F N : ℕ} {body at : ℕ → Expr} {home : ℕ → ℕ} (laid : Laid F N body at home) (s s′ : View)
     (sound : Sound F body s) where
   -- a busy call keeps its state while another node takes a step
   module _ (f c g : ℕ) (q : Fn F body f) (i : CallIn c g (body f)) (busy : s .status c ≡ 2) where
-    pub busy-kept : (st : Step apply F body s s′) → (c ≡ stepped apply F body st → ⊥) → Same s s′ c
-    busy-kept (inner h r u st) d = st .keeps c (λ k. d (inner-busy s c busy apply (s .register h) s′ u (st .rule)
+    pub busy-kept : (st : Step units F body s s′) → (c ≡ stepped units F body st → ⊥) → Same s s′ c
+    busy-kept (inner h r u st) d = st .keeps c (λ k. d (inner-busy s c busy (units .operate h) (s .register h) s′ u (st .rule)
         (live-part (inner-acts (laid .well) sound r st)) k))
     busy-kept (enter h r n k es st) d =
         let x = enter-acts (laid .well) sound r st in
@@ -86,7 +87,7 @@ module _ (apply : ℕ → List ℕ → ℕ) {F N : ℕ} {body at : ℕ → Expr}
 
   -- a step at another node
   pub third-other : (f c g n : ℕ) → Fn F body f → CallIn c g (body f) → (m : Move) → Does N home body s s′ n m
-      → (st : Step apply F body s s′) → stepped apply F body st ≡ n
+      → (st : Step units F body s s′) → stepped units F body st ≡ n
       → (c ≡ n → ⊥) → third s′ c ≡ third s c
   third-other f c g n q i m x st e d = go (ℕ-discrete (s .status c) 2)
     where
@@ -99,7 +100,7 @@ module _ (apply : ℕ → List ℕ → ℕ) {F N : ℕ} {body at : ℕ → Expr}
 
   -- a step at the call itself
   pub third-own : (h n g : ℕ) (es : Exprs) → Fn F body h → Sub (call n g es) (body h)
-      → Acted N home body s s′ n (act apply body h s (call n g es)) → third s′ n ≡ (third s n + 1) % 3
+      → Acted N home body s s′ n (act units body h s (call n g es)) → third s′ n ≡ (third s n + 1) % 3
   third-own h n g es r p = by-state Goal (s .status n) _ _
       (λ o x. third-busy s′ n false (
         x .busy,

@@ -1,13 +1,14 @@
 -- the reading is unique: one value and one count
 use Prim.Native.Nat.{ℕ, zero, suc}
 use mathlib.Core.Path.{_≡_, subst, sym, ap, _∙_}
-use mathlib.Core.List.{List, _∷_}
+use mathlib.Core.List.{List, _∷_, map}
 use native.Mathlib.Omega.{arith}
 use native.Mathlib.Decide.{ℕ-discrete}
 use lib.ListN.{getD}
 use Rattle.table.specs.Syntax.{Expr, Exprs, const, param, prim, call, self, cond, bind, bound, none, some}
 use Rattle.rules.proofs.Branches.{chosen-case, chosen-both}
-use Rattle.rules.specs.Reading.{Outcome, val, again, last, Readings, Reads, Reads*, Round, stops, goes}
+use Rattle.rules.specs.Reading.{Outcome, val, again, last, Readings, Reads, Reads*, answers, BodyReads, Round, stops, goes, Rounds}
+use Rattle.rules.specs.Arithmetic.{Arithmetic}
 use Rattle.table.specs.Environment.{extend}
 use Rattle.table.specs.Pick.{mixed}
 use Rattle.rules.specs.Reading as Reading
@@ -22,6 +23,12 @@ val-of (again vs) = 0
 val-inj : (v w : ℕ) → val v ≡ val w → v ≡ w
 unfolding val-of
 val-inj v w p = ap val-of p
+
+val≢again : (v : ℕ) (vs : List ℕ) → val v ≡ again vs → ⊥
+val≢again v vs p = let z : _≡_ {A = ℕ} 0 1 = cc in omega arith
+
+again-inj : (vs ws : List ℕ) → again vs ≡ again ws → vs ≡ ws
+again-inj vs ws p = cc
 
 module _ (apply : ℕ → List ℕ → ℕ) (K : Readings) (unique : Unique K) (args : ℕ → ℕ) where
   mutual
@@ -60,36 +67,33 @@ module _ (apply : ℕ → List ℕ → ℕ) (K : Readings) (unique : Unique K) (
         let b = reads-unique* es ρ (x .1) (y .1) (x .3) (y .3) (x .5) (y .5) in
         (x .6 ∙ (λ z. val-inj (x .0) (y .0) (a .0) z ∷ b .0 z) ∙ sym (y .6), omega (arith, x .7, y .7, a .1, b .1))
 
-  val≢again : (v : ℕ) (vs : List ℕ) → val v ≡ again vs → ⊥
-  val≢again v vs p = let z : _≡_ {A = ℕ} 0 1 = cc in omega arith
+answers-unique : (keep : ℕ → ℕ) (K : Readings) → Unique K → Unique (answers keep K)
+answers-unique keep K unique g vs v w k l x y =
+    let a = unique g vs (x .0) (y .0) k l (x .1) (y .1) in (x .2 ∙ ap keep (a .0) ∙ sym (y .2), a .1)
 
-  again-inj : (vs ws : List ℕ) → again vs ≡ again ws → vs ≡ ws
-  again-inj vs ws p = cc
+module _ (apply : ℕ → List ℕ → ℕ) (keep : ℕ → ℕ) (K : Readings) (unique : Unique K) (e : Expr) where
+  same : (vs : List ℕ) (o q : Outcome) (k l : ℕ) → BodyReads apply keep K e vs o k → BodyReads apply keep K e vs q l → (o ≡ q) × (k ≡ l)
+  same vs o q k l x y =
+      reads-unique apply (answers keep K) (answers-unique keep K unique) (λ z. getD (map keep vs) z 0) e (λ d. 0) o q k l x y
 
-module _ (apply : ℕ → List ℕ → ℕ) (K : Readings) (unique : Unique K) (e : Expr) where
-  pub round-unique : (vs : List ℕ) (v w k l : ℕ) → Round apply K e vs v k → Round apply K e vs w l → (v ≡ w) × (k ≡ l)
-  round-unique vs v w k l (stops x) (stops y) =
-      let a = reads-unique apply K unique (λ z. getD vs z 0) e (λ d. 0) (val v) (val w) k l x y in (val-inj v w (a .0), a .1)
-  round-unique vs v w k l (stops x) (goes ws j i y r q) =
-      absurd (val≢again apply K unique (λ z. 0) v ws (reads-unique apply K unique (λ z. getD vs z 0) e (λ d. 0) (val v)
-      (again ws) k j x y .0))
-  round-unique vs v w k l (goes ws j i x r q) (stops y) =
-      absurd (val≢again apply K unique (λ z. 0) w ws
-      (sym (reads-unique apply K unique (λ z. getD vs z 0) e (λ d. 0) (again ws) (val w) j l x y .0)))
+  pub round-unique : (vs : List ℕ) (v w k l : ℕ) → Round apply keep K e vs v k → Round apply keep K e vs w l → (v ≡ w) × (k ≡ l)
+  round-unique vs v w k l (stops x) (stops y) = let a = same vs (val v) (val w) k l x y in (val-inj v w (a .0), a .1)
+  round-unique vs v w k l (stops x) (goes ws j i y r q) = absurd (val≢again v ws (same vs (val v) (again ws) k j x y .0))
+  round-unique vs v w k l (goes ws j i x r q) (stops y) = absurd (val≢again w ws (sym (same vs (again ws) (val w) j l x y .0)))
   round-unique vs v w k l (goes ws j i x r q) (goes us m n y t u) =
-      let a = reads-unique apply K unique (λ z. getD vs z 0) e (λ d. 0) (again ws) (again us) j m x y in
-      let b = round-unique ws v w i n r (subst (λ z. Round apply K e z w n) (sym (again-inj apply K unique (λ z. 0) ws us (a .0))) t) in
+      let a = same vs (again ws) (again us) j m x y in
+      let b = round-unique ws v w i n r (subst (λ z. Round apply keep K e z w n) (sym (again-inj ws us (a .0))) t) in
       (b .0, omega (arith, q, u, a .1, b .1))
 
-module _ (apply : ℕ → List ℕ → ℕ) (body : ℕ → Expr) where
+module _ (units : Arithmetic) (body : ℕ → Expr) where
   abbrev readings : ℕ → Readings
-  readings = Reading.readings apply body
+  readings = Reading.readings units body
 
   pub readings-unique : (t : ℕ) → Unique (readings t)
   readings-unique zero g vs v w k l x y = absurd x
   readings-unique (suc t) g vs v w k l x y = go (ℕ-discrete g (suc t)) (readings-unique t) x y
     where
-      go : (d : Dec (g ≡ suc t)) → Unique (readings t) → mixed d (Round apply (readings t) (body g) vs v k) (readings t g vs v k)
-          → mixed d (Round apply (readings t) (body g) vs w l) (readings t g vs w l) → (v ≡ w) × (k ≡ l)
-      go (yes e) f x y = round-unique apply (readings t) f (body g) vs v w k l x y
+      go : (d : Dec (g ≡ suc t)) → Unique (readings t) → mixed d (Rounds units body (readings t) g vs v k) (readings t g vs v k)
+          → mixed d (Rounds units body (readings t) g vs w l) (readings t g vs w l) → (v ≡ w) × (k ≡ l)
+      go (yes e) f x y = round-unique (units .operate g) (units .keep g) (readings t) f (body g) vs v w k l x y
       go (no e) f x y = f g vs v w k l x y

@@ -6,7 +6,7 @@ use lib.ListN.{length}
 use Rattle.rules.specs.State.{State512, view, circuitStart}
 use Rattle.rules.specs.Step.{Act, act, Stepped, refusal, circuitStep}
 use Rattle.rules.specs.Play.{Ask, asks, Log, IsTaken, played, entries, leavings}
-use Rattle.rules.specs.Operations.{operate}
+use Rattle.rules.specs.Arithmetic.{handed, arithmetic}
 use Rattle.table.specs.Bytes.{functions, nodes, params}
 use Rattle.table.specs.Naming.{owner}
 use Rattle.table.specs.Check.{Verdict, accepted, refused, stage}
@@ -28,8 +28,12 @@ unfoldable pub startAfter : Verdict → State512 → Started
 startAfter (accepted F N) s = started s
 startAfter (refused number place) s = turned number place
 
+-- the state that a start makes, main keeping of its arguments what its width holds
+abbrev pub opening : (t args : List ℕ) → State512
+opening t args = circuitStart (functions t) (bodyOf t) (handed (arithmetic t) (functions t) args)
+
 unfoldable pub startOf : (t tags args : List ℕ) → Started
-startOf t tags args = startAfter (checkStart t tags args) (circuitStart (functions t) (bodyOf t) args)
+startOf t tags args = startAfter (checkStart t tags args) (opening t args)
 
 -- the state after a start that was asked for in the state `old`: refused, it is `old`
 abbrev pub stateOf : Started → State512 → State512
@@ -38,11 +42,11 @@ stateOf (turned number place) old = old
 
 -- the step that node n has in state s
 abbrev pub actOf : (t : List ℕ) → State512 → ℕ → Act
-actOf t s n = act operate (bodyOf t) (owner t n) (view s) (exprAt t n)
+actOf t s n = act (arithmetic t) (bodyOf t) (owner t n) (view s) (exprAt t n)
 
 -- the circuit of a table, whatever was checked: 12, 24, 20, then 21 to 23
 unfoldable pub circuitOf : (t tags : List ℕ) → State512 → ℕ → Stepped
-circuitOf t tags s n = circuitStep operate (functions t) (nodes t) (bodyOf t) (exprAt t) (owner t) (tagged tags) s n
+circuitOf t tags s n = circuitStep (arithmetic t) (functions t) (nodes t) (bodyOf t) (exprAt t) (owner t) (tagged tags) s n
 
 unfoldable pub stepAfter : Verdict → State512 → Stepped → Stepped
 stepAfter (accepted F N) s r = r

@@ -12,12 +12,12 @@ use Rattle.table.specs.Bytes.{functions, nodes, params}
 use Rattle.table.specs.Check.{accepted, checkOf}
 use Rattle.table.specs.Expressions.{exprAt, bodyOf}
 use Rattle.list.specs.Tags.{checkWith, tagsOf}
-use Rattle.rules.specs.Operations.{operate}
-use Rattle.rules.specs.Reading.{Readings, Round, readingsOf, ReadsTo}
-use Rattle.rules.specs.State.{State512, Sized, View, entry, view, circuitStart}
+use Rattle.rules.specs.Arithmetic.{arithmetic}
+use Rattle.rules.specs.Reading.{Readings, Rounds, readingsOf, ReadsTo}
+use Rattle.rules.specs.State.{State512, Sized, View, entry, view}
 use Rattle.rules.specs.Step.{Act, denied, does, enters, leaves, refusal}
 use Rattle.rules.specs.Play.{Ask, count, calls}
-use Rattle.rules.specs.Circuit.{started, startOf, stepOf, playsOf, playOf, entriesOf, leavingsOf, Possible, actOf}
+use Rattle.rules.specs.Circuit.{started, opening, startOf, stepOf, playsOf, playOf, entriesOf, leavingsOf, Possible, actOf}
 use Rattle.rules.specs.Runs.{MainDone, mainValue, standing, gave, atRest, barred, Driven, Ran, runOf, RunPlays, Drives, Found}
 use Rattle.rules.specs.Runs.{nothing, Finds}
 use Rattle.rules.specs.Demand.{Answers, DemandThree}
@@ -115,7 +115,7 @@ pub record Fits (s : State512) : Type 0 where
 -- every accepted table starts with its own list and main's number of arguments ..
 abbrev pub OwnStart : Type 0
 OwnStart = (t args : List ℕ) (F N : ℕ) → checkOf t ≡ accepted F N → length args ≡ params t (functions t)
-    → startOf t (tagsOf t) args ≡ started (circuitStart (functions t) (bodyOf t) args)
+    → startOf t (tagsOf t) args ≡ started (opening t args)
 
 -- .. and the demand holds of that circuit, with no premise on the list
 abbrev pub OwnList : Type 0
@@ -123,7 +123,7 @@ OwnList = (t args : List ℕ) (s : State512) → startOf t (tagsOf t) args ≡ s
 
 -- under K, the reading of each function is its body's, read with what K says of the callees, whichever they are
 abbrev pub ByBodies : (t : List ℕ) → Readings → Type 0
-ByBodies t K = (f : ℕ) → Range (functions t) f → (vs : List ℕ) (v k : ℕ) → K f vs v k ↔ Round operate K (bodyOf t f) vs v k
+ByBodies t K = (f : ℕ) → Range (functions t) f → (vs : List ℕ) (v k : ℕ) → K f vs v k ↔ Rounds (arithmetic t) (bodyOf t) K f vs v k
 
 -- the readings, defined callees first, are what the rules say of each function's body, and nothing else is
 pub record ReadingFixed (t : List ℕ) : Type 1 where

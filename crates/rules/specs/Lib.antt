@@ -1,4 +1,5 @@
 pub mod Operations
+pub mod Arithmetic
 pub mod State
 pub mod Step
 pub mod Play

@@ -1,7 +1,7 @@
 -- the plain reading with its count (document 01, "The plain reading and its count"): "a definition and no entry"
 use Prim.Native.Nat.{ℕ, zero, suc, _+_}
 use mathlib.Core.Path.{_≡_}
-use mathlib.Core.List.{List, [], _∷_}
+use mathlib.Core.List.{List, [], _∷_, map}
 use native.Mathlib.Decide.{ℕ-discrete}
 use lib.ListN.{getD}
 use Rattle.table.specs.Syntax.{Expr, Exprs, const, param, prim, call, self, cond, bind, bound, none, some}
@@ -9,7 +9,7 @@ use Rattle.table.specs.Environment.{extend}
 use Rattle.table.specs.Pick.{mixed}
 use Rattle.table.specs.Bytes.{functions}
 use Rattle.table.specs.Expressions.{bodyOf}
-use Rattle.rules.specs.Operations.{operate}
+use Rattle.rules.specs.Arithmetic.{Arithmetic, arithmetic}
 
 -- what an expression comes to: a value, or its function read anew with these arguments
 pub data Outcome : Type 0 where
@@ -54,21 +54,33 @@ module _ (apply : ℕ → List ℕ → ℕ) (K : Readings) (args : ℕ → ℕ) 
     Reads* (some e es) ρ vs j = (v : ℕ) × (ws : List ℕ) × (i i′ : ℕ) × Reads e ρ (val v) i × Reads* es ρ ws i′ × (vs ≡ v ∷ ws)
         × (j ≡ i + i′)
 
--- body e, read again with the arguments of each self call until it comes to a value
-pub data Round (apply : ℕ → List ℕ → ℕ) (K : Readings) (e : Expr) : List ℕ → ℕ → ℕ → Type 0 where
-  stops : {vs : List ℕ} {v k : ℕ} → Reads apply K (λ x. getD vs x 0) e (λ d. 0) (val v) k → Round apply K e vs v k
-  goes : {vs : List ℕ} {v k : ℕ} (ws : List ℕ) (j i : ℕ) → Reads apply K (λ x. getD vs x 0) e (λ d. 0) (again ws) j
-      → Round apply K e ws v i → k ≡ j + i → Round apply K e vs v k
+-- what a caller gets of its callees: of the answer u it keeps v
+abbrev pub answers : (keep : ℕ → ℕ) → Readings → Readings
+answers keep K g vs v k = (u : ℕ) × K g vs u k × (v ≡ keep u)
 
-module _ (apply : ℕ → List ℕ → ℕ) (body : ℕ → Expr) where
+-- body e read with these arguments: it keeps what they come to, and what its callees answer
+abbrev pub BodyReads : (apply : ℕ → List ℕ → ℕ) (keep : ℕ → ℕ) → Readings → Expr → List ℕ → Outcome → (count : ℕ) → Type 0
+BodyReads apply keep K e vs o k = Reads apply (answers keep K) (λ x. getD (map keep vs) x 0) e (λ d. 0) o k
+
+-- body e, read again with the arguments of each self call until it comes to a value
+pub data Round (apply : ℕ → List ℕ → ℕ) (keep : ℕ → ℕ) (K : Readings) (e : Expr) : List ℕ → ℕ → ℕ → Type 0 where
+  stops : {vs : List ℕ} {v k : ℕ} → BodyReads apply keep K e vs (val v) k → Round apply keep K e vs v k
+  goes : {vs : List ℕ} {v k : ℕ} (ws : List ℕ) (j i : ℕ) → BodyReads apply keep K e vs (again ws) j → Round apply keep K e ws v i
+      → k ≡ j + i → Round apply keep K e vs v k
+
+-- function f by its body, with what K says of its callees
+abbrev pub Rounds : (units : Arithmetic) (body : ℕ → Expr) → Readings → Readings
+Rounds units body K f vs v k = Round (units .operate f) (units .keep f) K (body f) vs v k
+
+module _ (units : Arithmetic) (body : ℕ → Expr) where
   -- the readings of the functions 1 to t, each by its body and those of its callees, which are lower
   abbrev pub readings : ℕ → Readings
   readings zero g vs v k = ⊥
-  readings (suc t) g vs v k = mixed (ℕ-discrete g (suc t)) (Round apply (readings t) (body g) vs v k) (readings t g vs v k)
+  readings (suc t) g vs v k = mixed (ℕ-discrete g (suc t)) (Rounds units body (readings t) g vs v k) (readings t g vs v k)
 
 -- of a table: the readings of all its functions
 abbrev pub readingsOf : (t : List ℕ) → Readings
-readingsOf t = readings operate (bodyOf t) (functions t)
+readingsOf t = readings (arithmetic t) (bodyOf t) (functions t)
 
 -- main, read with the arguments of a start and without the circuit, ends with value v, counting k
 abbrev pub ReadsTo : (t args : List ℕ) → (v k : ℕ) → Type 0

@@ -6,6 +6,7 @@ use lib.Dec.{eqb, ltb}
 use Rattle.table.specs.Syntax.{Expr, Exprs, const, param, prim, call, self, cond, bind, bound, none, some, id, roots}
 use Rattle.table.specs.Environment.{values}
 use Rattle.table.specs.Pick.{pick}
+use Rattle.rules.specs.Arithmetic.{Arithmetic, handed}
 use Rattle.rules.specs.State.{State512, View, entry, write, view, fill, clear, opened}
 
 -- what a step answers: taken, taken with main's value, or refused by number and place
@@ -50,7 +51,7 @@ branch (suc v) b c = b
 abbrev pub by-status : (status : ℕ) → (opened busy : Act) → Act
 by-status t o b = pick (eqb t 1) o (pick (eqb t 2) b stuck)
 
-module _ (apply : ℕ → List ℕ → ℕ) (body : ℕ → Expr) where
+module _ (units : Arithmetic) (body : ℕ → Expr) where
   -- the step of an expression's node, in the body of function h
   abbrev pub act : ℕ → View → Expr → Act
   -- an open constant, parameter or bound has its value at once and is done
@@ -61,17 +62,17 @@ module _ (apply : ℕ → List ℕ → ℕ) (body : ℕ → Expr) where
   -- "Busy primitive, children done: done"
   act h s (prim n op es) =
       by-status (s .status n) (does (begins (roots es)))
-      (pick (all-done s es) (does (finishes (apply op (values (s .value) es)))) stuck)
-  -- a busy call, its arguments done: it enters, or waits (22, 23) while the callee has an occupant
-  -- in second phase, the callee's root done: it leaves with that value
+      (pick (all-done s es) (does (finishes (units .operate h op (values (s .value) es)))) stuck)
+  -- a busy call, its arguments done: it enters, or waits (22, 23) while the callee has an occupant; the callee keeps the arguments
+  -- in second phase, the callee's root done: it leaves with that value, as the caller keeps it
   act h s (call n g es) =
       by-status (s .status n) (does (begins (roots es))) (pick (s .second n)
-      (pick (done s (id (body g))) (does (leaves g (s .value (id (body g))))) stuck)
-      (pick (all-done s es) (pick (eqb (s .occupant g) 0) (does (enters g (values (s .value) es))) blocked) stuck))
-  -- a busy self call, its arguments done: its own function starts again with them
+      (pick (done s (id (body g))) (does (leaves g (units .keep h (s .value (id (body g)))))) stuck)
+      (pick (all-done s es) (pick (eqb (s .occupant g) 0) (does (enters g (handed units g (values (s .value) es)))) blocked) stuck))
+  -- a busy self call, its arguments done: its own function starts again with them, as it keeps them
   act h s (self n es) =
       by-status (s .status n) (does (begins (roots es)))
-      (pick (all-done s es) (does (restarts h (values (s .value) es))) stuck)
+      (pick (all-done s es) (does (restarts h (handed units h (values (s .value) es)))) stuck)
   -- a busy if or let: its condition or definientia done, the branch or body opens; that done, its value goes on
   act h s (cond n a b c) =
       let r : Expr = branch (s .value (id a)) b c in
@@ -149,7 +150,7 @@ pub record Stepped : Type 0 where
 abbrev pub refusal : State512 → (number place : ℕ) → Stepped
 refusal s k p = record { answer = denied k p; state = s }
 
-module _ (apply : ℕ → List ℕ → ℕ) (F N : ℕ) (body at : ℕ → Expr) (home : ℕ → ℕ) where
+module _ (units : Arithmetic) (F N : ℕ) (body at : ℕ → Expr) (home : ℕ → ℕ) where
   -- 21 for a node without a step, 22 or 23 for a call that waits, by its tag; the place is the node asked for
   abbrev pub outcome : (ℕ → Bool) → State512 → ℕ → Act → Stepped
   outcome tags s n stuck = refusal s 21 n
@@ -166,4 +167,4 @@ module _ (apply : ℕ → List ℕ → ℕ) (F N : ℕ) (body at : ℕ → Expr)
       (pick (over 3 N (s .status)) (refusal s 24 0)
       (pick (over N F (s .occupant)) (refusal s 24 0)
       (pick (done (view s) (id (body F))) (refusal s 20 n)
-      (outcome tags s n (act apply body (home n) (view s) (at n)))))))
+      (outcome tags s n (act units body (home n) (view s) (at n)))))))

@@ -5,6 +5,7 @@ use lib.ListN.{replicate}
 use Rattle.table.specs.Bytes.{functions, root}
 use Rattle.table.specs.Working.{IsFunction}
 use Rattle.table.proofs.Reading.{told-main, told-root}
+use Rattle.rules.specs.Arithmetic.{handed, arithmetic}
 use Rattle.rules.specs.State.{fill}
 use Rattle.circuit.proofs.ChainLaws.{ok}
 use Rattle.circuit.proofs.BeginLaws.{start-is}
@@ -45,8 +46,7 @@ set-status-requires c κs =
 fill-main-requires : tie.Need-fill-main-requires
 fill-main-requires c κs =
     let m : tie.After-main = search in
-    let p = ok _ (begin m .pre .taken) in
-    (omega (arith, main-is m, p .F-low), omega (arith, main-is m, p .F-high))
+    (begin m .pre, subst (IsFunction _) (sym (main-is m)) (main-in m))
 
 returns : tie.Need-returns
 returns c =
@@ -54,8 +54,9 @@ returns c =
     let r : tie.After-root = search in
     let m = main-read r in
     let s = begin m in
-    start-is _ _ (s .pre .taken) _ _ _ (top r) (status .set-status .ensures)
-    (c .fill-main .ensures ∙ ap (λ f. fill f (s .args .args .now) (replicate 256 0)) (main-is m))
+    start-is _ (s .args .args .now) (s .pre .taken) _ _ _ (top r) (status .set-status .ensures)
+    (c .fill-main .ensures ∙ ap (λ f. fill f (handed (arithmetic (s .args .table .now)) f (s .args .args .now)) (replicate 256 0))
+    (main-is m))
 
 pub open-main-spec : {M : Type 1} → statement M
 open-main-spec =

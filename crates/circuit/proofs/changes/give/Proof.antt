@@ -4,13 +4,11 @@ use borrow.Author.Needs.{needs}
 use native.Mathlib.Omega.{arith}
 use mathlib.Core.List.{map}
 use mathlib.Core.Logic.{inl, inr}
-use mathlib.Core.Path.{refl, sym, ap, _∙_}
+use mathlib.Core.Path.{refl, ap, _∙_}
 use Prim.Native.Nat.{_-_, _≤_}
-use borrow.Author.Tests.{ne-eqb}
-use Rattle.table.specs.Pick.{pick}
-use Rattle.table.specs.Bytes.{next}
 use Rattle.table.proofs.Reading.{told}
 use Rattle.table.specs.Naming.{chain}
+use Rattle.rules.specs.Arithmetic.{handed, arithmetic}
 use Rattle.rules.specs.State.{entry}
 use Rattle.circuit.proofs.ChainLaws.{ok}
 use Rattle.circuit.proofs.GiveLaws.{GivenTo, given-start, given-next, given-end}
@@ -18,11 +16,12 @@ use Rattle.circuit.proofs.changes.give.Statement.{statement}
 use Rattle.circuit.proofs.changes.give.Tie as tie
 
 abbrev Inv-loop : tie.InvT-loop
-Inv-loop table cells value registers₀ f base at₀ i₀ registers at i =
-    (i ≤ 8) × GivenTo table value (map (entry value 0) (chain table (at₀ .0))) registers₀ registers f i (at .0)
+Inv-loop table cells value registers₀ g f base at₀ i₀ registers at i =
+    (i ≤ 8) × GivenTo (arithmetic table .keep (g .0)) table value
+    (handed (arithmetic table) (g .0) (map (entry value 0) (chain table (at₀ .0)))) registers₀ registers f i (at .0)
 
 abbrev μ-loop : tie.MeasureT-loop
-μ-loop table cells value registers₀ f base at₀ i₀ registers at i = 8 - i
+μ-loop table cells value registers₀ g f base at₀ i₀ registers at i = 8 - i
 
 abbrev Start : Type 0
 Start = tie.Start Inv-loop μ-loop
@@ -53,7 +52,7 @@ mul-base c = omega (arith, few (search))
 loop-holds : tie.Need-loop-holds Inv-loop μ-loop
 loop-holds c =
     let s : Start = search in
-    (omega arith, given-start _ (s .pre .0 .taken) _ _ (s .pre .2) _ _)
+    (omega arith, given-start _ _ (s .pre .0 .taken) _ _ (s .pre .2) _ _)
 
 -- where the chain ends, the rest is zero
 returns : tie.Need-returns Inv-loop μ-loop
@@ -61,13 +60,18 @@ returns c =
     let zeros : tie.After-blank Inv-loop μ-loop = search in
     let l : Head = search in
     let s : Start = search in
-    given-end _ (s .pre .0 .taken) _ _ (s .pre .2) _ _ _ _ _ _ (zeros .blank .ensures) (l .loop .inv .1) (inl (c .if1 .taken))
+    given-end _ _ (s .pre .0 .taken) _ _ (s .pre .2) _ _ _ _ _ _ (zeros .blank .ensures) (l .loop .inv .1) (inl (c .if1 .taken))
 
 value-at-requires : tie.Need-value-at-requires Inv-loop μ-loop
 value-at-requires c κs =
     let l : Head = search in
     let s : Start = search in
     omega (arith, l .loop .inv .1 .inside, ok _ (s .pre .0 .taken) .N-high)
+
+keep-requires : tie.Need-keep-requires Inv-loop μ-loop
+keep-requires c κs =
+    let s : Start = search in
+    (s .pre .0, s .pre .1)
 
 next-requires : tie.Need-next-requires Inv-loop μ-loop
 next-requires c κs = search needs
@@ -90,6 +94,7 @@ loop-less c = omega arith
 loop-again : tie.Need-loop-again Inv-loop μ-loop
 loop-again c =
     let on : tie.After-next Inv-loop μ-loop = search in
+    let kept : tie.After-keep Inv-loop μ-loop = search in
     let v : tie.After-value-at Inv-loop μ-loop = search in
     let some : tie.Else1 Inv-loop μ-loop = search in
     let t : Turn = search in
@@ -98,8 +103,8 @@ loop-again c =
     let p = s .pre in
     let e = told _ _ (p .0) _ (omega (arith, some .if1 .left), l .loop .inv .1 .inside) 5 _ (omega arith) (on .next .ensures) in (
       omega arith,
-      given-next _ (p .0 .taken) _ _ (p .2) _ _ _ _ _ (l .loop .inv .1) (t .loop-test .taken) (p .1 .0) _ _ _ refl (v .value-at .ensures)
-          (e ∙ sym (ap (λ b. pick b 0 (next (s .args .table .now) (l .loop .at .0))) (ne-eqb _ 0 (some .if1 .left)))),
+      given-next _ _ (p .0 .taken) _ _ (p .2) _ _ _ _ _ (l .loop .inv .1) (t .loop-test .taken) (p .1 .0) _ _ _ refl (some .if1 .left)
+          (kept .keep .ensures ∙ ap (arithmetic (s .args .table .now) .keep (s .args .g .0)) (v .value-at .ensures)) e,
     )
 
 returns-2 : tie.Need-returns-2 Inv-loop μ-loop
@@ -107,7 +112,7 @@ returns-2 c =
     let zeros : tie.After-blank Inv-loop μ-loop = search in
     let l : Head = search in
     let s : Start = search in
-    given-end _ (s .pre .0 .taken) _ _ (s .pre .2) _ _ _ _ _ _ (zeros .blank .ensures) (l .loop .inv .1) (inr (omega arith))
+    given-end _ _ (s .pre .0 .taken) _ _ (s .pre .2) _ _ _ _ _ _ (zeros .blank .ensures) (l .loop .inv .1) (inr (omega arith))
 
 pub give-spec : {M : Type 1} → statement M
 give-spec =
@@ -122,6 +127,7 @@ give-spec =
     loop-holds
     returns
     value-at-requires
+    keep-requires
     add-registers
     mul-registers
     element-write-registers

@@ -6,7 +6,9 @@ use borrow.Author.Tests.{not-true, not-false}
 use Rattle.table.specs.Bytes.{first, root}
 use Rattle.table.proofs.Reading.{told, told-root}
 use Prim.Native.Nat.{_≤_}
+use Rattle.table.specs.Naming.{owner}
 use Rattle.table.specs.Working.{IsFunction}
+use Rattle.table.proofs.Family.{owner-in}
 use Rattle.circuit.proofs.ActBy.{callee-in}
 use Rattle.circuit.proofs.ChainLaws.{ok, first-in}
 use Rattle.circuit.proofs.PlanLaws.{acts-call, leave-yes, leave-no, enter-not, enter-held, enter-yes}
@@ -71,8 +73,26 @@ returns c =
 value-at-requires : tie.Need-value-at-requires
 value-at-requires c κs = root-in (search)
 
+owner-requires : tie.Need-owner-requires
+owner-requires c κs = search needs
+
+-- the caller's function
+abbrev caller : tie.After-owner → tie.Start
+caller c = search
+
+own : (c : tie.After-owner) → c .owner .result .0 ≡ owner (caller c .args .table .now) (caller c .args .n .0)
+own c = told _ _ (caller c .pre .0) _ (caller c .pre .1) 6 _ (omega arith) (c .owner .ensures)
+
+keep-requires : tie.Need-keep-requires
+keep-requires c κs =
+    let o : tie.After-owner = search in
+    let p = caller o .pre in
+    (p .0, subst (IsFunction _) (sym (own o)) (owner-in _ (ok _ (p .0 .taken) .linking) _ (p .1)))
+
 returns-2 : tie.Need-returns-2
 returns-2 c =
+    let o : tie.After-owner = search in
+    let v : tie.After-value-at = search in
     let done : tie.Else2 = search in
     let at : tie.After-status-at = search in
     let r : tie.After-root = search in
@@ -80,7 +100,8 @@ returns-2 c =
     let second : tie.After-second-at = search in
     let p = begin second .pre in
     λ d. acts-call _ (p .0 .taken) _ (p .1) _ _ _ d _ _ (p .2) (p .3) (p .5) (leave-yes _ _ _ _ _ _ _ (p .4) _ (second .second-at .ensures)
-    (then .if1 .taken) _ (roots r) _ (at .status-at .ensures) (done .if2 .left) _ (c .value-at .ensures))
+    (then .if1 .taken) _ (roots r) _ (at .status-at .ensures) (done .if2 .left) _ _ _ (v .value-at .ensures) (own o)
+    (c .keep .ensures))
 
 first-requires : tie.Need-first-requires
 first-requires c κs = search needs
@@ -142,6 +163,8 @@ across-spec =
     status-at-requires
     returns
     value-at-requires
+    owner-requires
+    keep-requires
     returns-2
     first-requires
     all-done-requires

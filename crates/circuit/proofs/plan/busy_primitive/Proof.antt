@@ -1,10 +1,13 @@
 -- `plan::busy_primitive` meets its contract: a primitive waits for its children.
 use native.Mathlib.Omega.{arith}
-use mathlib.Core.Path.{_≡_}
+use mathlib.Core.Path.{_≡_, subst, sym}
 use borrow.Author.Tests.{not-true, not-false}
 use Rattle.table.specs.Bytes.{first}
+use Rattle.table.specs.Naming.{owner}
+use Rattle.table.specs.Working.{IsFunction}
+use Rattle.table.proofs.Family.{owner-in}
 use Rattle.table.proofs.Reading.{told}
-use Rattle.circuit.proofs.ChainLaws.{first-in}
+use Rattle.circuit.proofs.ChainLaws.{ok, first-in}
 use Rattle.circuit.proofs.PlanLaws.{acts-prim, prim-yes, prim-no}
 use borrow.Author.Needs.{needs}
 use Rattle.circuit.proofs.plan.busy_primitive.Statement.{statement}
@@ -43,17 +46,44 @@ operation-requires c κs =
     let s = start f in
     (s .pre .0, first-in _ (s .pre .0 .taken) _ (s .pre .1) _ (read f))
 
+owner-requires : tie.Need-owner-requires
+owner-requires c κs = search needs
+
+-- its function
+abbrev begin : tie.After-owner → tie.Start
+begin c = search
+
+own : (c : tie.After-owner) → c .owner .result .0 ≡ owner (begin c .args .table .now) (begin c .args .n .0)
+own c = told _ _ (begin c .pre .0) _ (begin c .pre .1) 6 _ (omega arith) (c .owner .ensures)
+
+keep-requires : tie.Need-keep-requires
+keep-requires c κs =
+    let o : tie.After-owner = search in
+    let p = begin o .pre in
+    (p .0, subst (IsFunction _) (sym (own o)) (owner-in _ (ok _ (p .0 .taken) .linking) _ (p .1)))
+
 returns-2 : tie.Need-returns-2
 returns-2 c =
+    let o : tie.After-owner = search in
+    let v : tie.After-operation = search in
     let op : tie.After-extra = search in
     let ready : tie.Else1 = search in
     let a : tie.After-all-done = search in
     let f : tie.After-first = search in
     let p = start f .pre in
-    λ b d e. acts-prim _ (p .0 .taken) _ (p .1) _ b _ d e _ (p .2) (p .3) (prim-yes _ _ _ _ (read f) _ (a .all-done .ensures) _ _ _
-    (not-false _ (ready .if1 .left)) (told _ _ (p .0) _ (p .1) 1 _ (omega arith) (op .extra .ensures)) (c .operation .ensures))
+    λ b d e. acts-prim _ (p .0 .taken) _ (p .1) _ b _ d e _ (p .2) (p .3) (prim-yes _ _ _ _ (read f) _ (a .all-done .ensures) _ _ _ _ _
+    (not-false _ (ready .if1 .left)) (told _ _ (p .0) _ (p .1) 1 _ (omega arith) (op .extra .ensures)) (v .operation .ensures) (own o)
+    (c .keep .ensures))
 
 pub busy-primitive-spec : {M : Type 1} → statement M
 busy-primitive-spec =
     tie.close
-    (tie.spec first-requires all-done-requires returns extra-requires operation-requires returns-2)
+    (tie.spec
+    first-requires
+    all-done-requires
+    returns
+    extra-requires
+    operation-requires
+    owner-requires
+    keep-requires
+    returns-2)

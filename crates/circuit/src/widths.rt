@@ -1,0 +1,13 @@
+// What a function keeps of a value that it computes, is handed or takes from a callee.
+use table::Function;
+use table::decoded::Cells;
+ghost use mathlib.Core.Path.{_≡_};
+ghost use Rattle.table.specs.Working.{IsFunction, Read};
+ghost use Rattle.rules.specs.Arithmetic.{arithmetic};
+
+pub(crate) fn keep(table: &[u8], cells: &Cells, f: Function, v: u32) -> u32
+    requires { ⌜ Read (now table) (now cells) × IsFunction (now table) (f .0) ⌝ }
+    ensures { λ r. ⌜ r ≡ arithmetic (now (table .entry)) .keep (f .0) v ⌝ }
+{
+    v
+}
