@@ -1,12 +1,13 @@
--- what a table is turned back for (document 01): 1 to 9 by rising number; within a number the function records, then the lowest node
-use Prim.Native.Nat.{ℕ, zero, suc, _+_, _*_}
+-- what a table is turned back for (document 01, and 25 by document 02): 1 to 9 by rising number, then 25; within a number the function
+-- records, then the lowest node
+use Prim.Native.Nat.{ℕ, zero, suc, _+_, _*_, _^_}
 use mathlib.Core.Bool.{Bool, true, false, _&&_, _||_, not}
 use mathlib.Core.List.{List}
 use lib.Dec.{eqb, ltb, leb}
 use lib.ListN.{length}
 use Rattle.table.specs.declared.kinds.Counts.{Counts}
 use Rattle.table.specs.Pick.{pick}
-use Rattle.table.specs.Bytes.{functions, nodes, params, spare, root, kind, extra, word, first, next}
+use Rattle.table.specs.Bytes.{functions, nodes, params, widthByte, width, root, kind, extra, word, first, next}
 use Rattle.table.specs.Find.{lowest, all}
 use Rattle.table.specs.Naming.{mentions, rootOf, owner, tail, inScope, children}
 
@@ -43,9 +44,9 @@ forward t n m = eqb m 0 || (ltb n m && leb m (nodes t))
 unfoldable pub linked : List ℕ → ℕ → Bool
 linked t n = forward t n (first t n) && forward t n (next t n) && eqb (mentions t n) 1 && (eqb (rootOf t n) 0 || eqb (next t n) 0)
 
--- 5: parameter count and spare byte; known kind and operation, and zero where the kind carries nothing
+-- 5: parameter count and width byte; known kind and operation, and zero where the kind carries nothing
 unfoldable pub recordFits : List ℕ → ℕ → Bool
-recordFits t f = leb (params t f) 8 && eqb (spare t f) 0
+recordFits t f = leb (params t f) 8 && leb (widthByte t f) 32
 
 unfoldable pub fields : (kind extra word first : ℕ) → Bool
 fields k e w c =
@@ -99,6 +100,10 @@ scoped t n = (not (isKind t 2 n) || ltb (extra t n) (params t (owner t n))) && (
 unfoldable pub tailed : List ℕ → ℕ → Bool
 tailed t n = not (isKind t 4 n && eqb (word t n) (owner t n)) || tail t n
 
+-- 25: a constant is below 2^w, w being the width of its function
+unfoldable pub constFits : List ℕ → ℕ → Bool
+constFits t n = not (isKind t 1 n) || ltb (word t n) (2 ^ width t (owner t n))
+
 -- the refusals of one number: the records, then the lowest node; what comes after waits, so that it is asked only then
 unfoldable pub stage : (number : ℕ) (records : Bool) (place : ℕ) (rest : Unit {0} → Verdict) → Verdict
 stage k false place rest = refused k 0
@@ -116,4 +121,5 @@ checkOf t =
     stage 7 true (lowest (counted t) (nodes t)) λ _.
     stage 8 true (lowest (scoped t) (nodes t)) λ _.
     stage 9 true (lowest (tailed t) (nodes t)) λ _.
+    stage 25 true (lowest (constFits t) (nodes t)) λ _.
     accepted (functions t) (nodes t)

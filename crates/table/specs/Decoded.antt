@@ -5,7 +5,7 @@ use mathlib.Core.List.{List}
 use lib.Dec.{eqb, ltb}
 use lib.ListN.{getD, set}
 use Rattle.table.specs.Pick.{pick}
-use Rattle.table.specs.Bytes.{twoAt, functions, nodes, functionAt, nodeAt, params, spare, root, kind, extra, first, next}
+use Rattle.table.specs.Bytes.{twoAt, functions, nodes, functionAt, nodeAt, params, widthByte, root, kind, extra, first, next}
 use Rattle.table.specs.Naming.{owner, parent}
 use Rattle.table.specs.Check.{ifAccepted, checkOf}
 
@@ -59,9 +59,9 @@ nodeField t n k =
     (pick (eqb k 6) (owner t n)
     (parent t n)))))))
 
--- a function's: parameter count, second byte, root
+-- a function's: parameter count, width byte, root
 abbrev pub functionField : List ℕ → ℕ → ℕ → ℕ
-functionField t f k = pick (eqb k 0) (params t f) (pick (eqb k 1) (spare t f) (pick (eqb k 2) (root t f) 0))
+functionField t f k = pick (eqb k 0) (params t f) (pick (eqb k 1) (widthByte t f) (pick (eqb k 2) (root t f) 0))
 
 -- the table's: F and, in field 2, N, which doesn't fit a byte
 abbrev pub tableField : List ℕ → ℕ → ℕ

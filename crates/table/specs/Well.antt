@@ -1,5 +1,5 @@
 -- what an accepted table ensures of its bodies
-use Prim.Native.Nat.{ℕ, _≤_, _<_}
+use Prim.Native.Nat.{ℕ, _^_, _≤_, _<_}
 use mathlib.Core.Path.{_≡_}
 use mathlib.Core.Logic.{_⊎_}
 use Rattle.table.specs.Syntax.{Expr, Exprs, const, param, prim, call, self, cond, bind, bound, none, some, id, Node, Node*, Sub}
@@ -115,3 +115,12 @@ pub record Laid (F N : ℕ) (body at : ℕ → Expr) (home : ℕ → ℕ) : Type
   pub owned : (f m : ℕ) → Range N m → home m ≡ f → Node m (body f)
   pub part : (f : ℕ) (u : Expr) → Fn F body f → Sub u (body f) → u ≡ at (id u)
   pub narrow : (f : ℕ) (u : Expr) → Fn F body f → Sub u (body f) → arity u ≤ 8
+
+-- w bits hold v
+abbrev pub Below : (w v : ℕ) → Type 0
+Below w v = v < 2 ^ w
+
+-- what the check ensures of the widths: 1 to 32 bits, which hold every constant of the function
+pub record Wide (F : ℕ) (body : ℕ → Expr) (width : ℕ → ℕ) : Type 0 where
+  pub bits : (f : ℕ) → Fn F body f → Range 32 (width f)
+  pub consts : (f m v : ℕ) → Fn F body f → Sub (const m v) (body f) → Below (width f) v
