@@ -9,11 +9,11 @@ use lib.ListN.{length, length-set}
 use lib.Seq.{getD-set-same, getD-set-other}
 use borrow.Author.Tests.{lt-ltb, le-ltb, eq-eqb, ne-eqb}
 use Rattle.table.specs.Pick.{pick}
-use Rattle.table.specs.Bytes.{twoAt, fourAt, functionAt, nodeAt, params, spare, root, kind, extra, word, first, next}
+use Rattle.table.specs.Bytes.{twoAt, fourAt, functionAt, nodeAt, params, widthByte, bits, width, root, kind, extra, word, first, next}
 use Rattle.table.specs.Naming.{owner}
-use Rattle.table.specs.Decoded.{numberAt, putNumber, putNumbers, fieldOf, cellAt, nodeSlot, low, high}
+use Rattle.table.specs.Decoded.{numberAt, putNumber, putNumbers, fieldOf, cellAt, nodeSlot, functionSlot, low, high}
 use Rattle.table.specs.Decoded.{nodeField, functionField, nodeNumber, functionNumber}
-use Rattle.table.specs.Working.{IsNode, CellsTo}
+use Rattle.table.specs.Working.{IsNode, IsFunction, CellsTo}
 
 -- by a field or a number of a slot
 pub by-eight : (P : ℕ → Type 0) → P 0 → P 1 → P 2 → P 3 → P 4 → P 5 → P 6 → P 7 → (k : ℕ) → k < 8 → P k
@@ -114,8 +114,8 @@ module _ (t : List ℕ) (n : ℕ) where
 
 -- a function's, of which the parameter count is a byte
 module _ (t : List ℕ) (f : ℕ) where
-  record-two : twoAt t (functionAt f + 2 * 0) ≡ params t f + 256 * spare t f
-  unfolding twoAt params spare
+  record-two : twoAt t (functionAt f + 2 * 0) ≡ params t f + 256 * widthByte t f
+  unfolding twoAt params widthByte
   record-two = let e : functionAt f + 2 * 0 ≡ functionAt f = omega arith in ap (twoAt t) e
 
   pub function-fields : params t f < 256 → (k : ℕ) → k < 3 → fieldOf (functionNumber t f) k ≡ functionField t f k
@@ -130,3 +130,9 @@ pub word-read : (t cells : List ℕ) (top : ℕ) → 4 ≤ top → CellsTo t cel
     → cellAt cells (nodeSlot n) 2 + 65536 * cellAt cells (nodeSlot n) 3 ≡ word t n
 unfolding word fourAt low high
 word-read t cells top b h n i = ap₂ (λ x y. x + 65536 * y) (h .node n 2 i (omega arith)) (h .node n 3 i (omega arith))
+
+-- a function's width is that of its width byte
+pub width-read : (t cells : List ℕ) (top : ℕ) → CellsTo t cells top → (f : ℕ) → IsFunction t f
+    → bits (cellAt cells (functionSlot f) 1) ≡ width t f
+unfolding width
+width-read t cells top h f i = ap bits (h .function f 1 i (omega arith))

@@ -3,19 +3,19 @@ use Prim.Native.Nat.{ℕ}
 use mathlib.Core.Path.{_≡_, refl}
 use mathlib.Core.List.{List, [], _∷_, _++_}
 use Rattle.table.specs.Designs.{header, function, node, twice, pair, layered, mult, nested, letting, fir}
-use Rattle.table.specs.Bytes.{twoAt, fourAt, functions, nodes, functionAt, nodeAt, params, spare, root, kind, extra, word, first}
-use Rattle.table.specs.Bytes.{next}
+use Rattle.table.specs.Bytes.{twoAt, fourAt, functions, nodes, functionAt, nodeAt, params, widthByte, bits, width, root}
+use Rattle.table.specs.Bytes.{kind, extra, word, first, next}
 use Rattle.table.specs.Find.{total, highest, lowest, all, backBy, back}
 use Rattle.table.specs.Naming.{mentions, rootOf, names, namer, owner, parent, tailChild, tail, underLast, definiens, inScope}
 use Rattle.table.specs.Naming.{chainBy, chain, children}
 use Rattle.table.specs.Syntax.{const, param, prim, call, self, cond, bind, bound, none, some}
 use Rattle.table.specs.Expressions.{condOf, bindOf, nodeOf, exprsBy, exprsAt, exprAt, bodyOf}
 use Rattle.table.specs.Check.{accepted, refused, sizes, whole, rootFits, forward, linked, recordFits, fields, formed, calleeFits}
-use Rattle.table.specs.Check.{operationCounts, countsOf, counted, scoped, tailed, stage, checkOf}
+use Rattle.table.specs.Check.{operationCounts, countsOf, counted, scoped, tailed, constFits, stage, checkOf}
 
 -- what closed evaluation has to see through
 unfoldable pub bytes-open : Unit {0}
-unfolding twoAt fourAt functions nodes functionAt nodeAt params spare root kind extra word first next
+unfolding twoAt fourAt functions nodes functionAt nodeAt params widthByte bits width root kind extra word first next
 bytes-open = tt
 
 unfoldable pub find-open : Unit {0}
@@ -27,11 +27,11 @@ unfolding mentions rootOf names namer owner parent tailChild tail underLast defi
 naming-open = tt
 
 unfoldable pub tests-open : Unit {0}
-unfolding sizes whole rootFits forward linked recordFits fields formed calleeFits operationCounts countsOf counted scoped tailed stage
+unfolding sizes whole rootFits forward linked recordFits fields formed calleeFits operationCounts countsOf counted scoped tailed constFits
 tests-open = tt
 
 unfoldable pub check-open : Unit {0}
-unfolding bytes-open find-open naming-open tests-open checkOf
+unfolding bytes-open find-open naming-open tests-open stage checkOf
 check-open = tt
 
 twice-accepted : checkOf twice ≡ accepted 2 4

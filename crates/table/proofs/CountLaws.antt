@@ -1,5 +1,5 @@
 -- the number of children that a node may have, from what was read of it
-use Prim.Native.Nat.{ℕ, _≤_}
+use Prim.Native.Nat.{ℕ, _^_, _≤_}
 use mathlib.Core.Bool.{Bool, true, false, _&&_, _||_, not}
 use mathlib.Core.Path.{_≡_, refl, sym, ap, ap₂, _∙_}
 use mathlib.Core.List.{List}
@@ -10,9 +10,9 @@ use lib.ListN.{length}
 use borrow.Author.Tests.{ne-eqb}
 use Rattle.table.proofs.Tests.{true-T}
 use Rattle.table.specs.declared.kinds.Counts.{Counts}
-use Rattle.table.specs.Bytes.{functions, nodes, params, kind, extra, word, first}
+use Rattle.table.specs.Bytes.{functions, nodes, params, width, kind, extra, word, first}
 use Rattle.table.specs.Naming.{owner, tail, inScope, chain, children}
-use Rattle.table.specs.Check.{among, within, fields, formed, calleeFits, countsOf, counted, scoped, tailed}
+use Rattle.table.specs.Check.{among, within, fields, formed, calleeFits, countsOf, counted, scoped, tailed, constFits}
 use Rattle.table.specs.Working.{IsNode, Linked}
 use Rattle.table.proofs.Passed.{in-range}
 use Rattle.table.proofs.Links.{link}
@@ -62,7 +62,7 @@ module _ (t : List ℕ) (n : ℕ) where
   unfolding scoped
   scoped-other a b = rw (ne-eqb (kind t n) 2 a, ne-eqb (kind t n) 7 b)
 
--- 5, 6 and 9 from what was read of a node
+-- 5, 6, 9 and 25 from what was read of a node
 module _ (t : List ℕ) (n k e w c o : ℕ) (ek : k ≡ kind t n) (ee : e ≡ extra t n) (ew : w ≡ word t n) (ec : c ≡ first t n)
     (eo : o ≡ owner t n) where
   pub told-formed : fields k e w c ≡ formed t n
@@ -76,6 +76,10 @@ module _ (t : List ℕ) (n k e w c o : ℕ) (ek : k ≡ kind t n) (ee : e ≡ ex
   pub told-tailed : (b : Bool) → b ≡ tail t n → (not (eqb k 4 && eqb w o) || b) ≡ tailed t n
   unfolding tailed
   told-tailed b eb = rw (ek, ew, eo, eb)
+
+  pub told-const : (b : ℕ) → b ≡ width t o → (not (eqb k 1) || ltb w (2 ^ b)) ≡ constFits t n
+  unfolding constFits
+  told-const b eb = rw (eb, ek, ew, eo)
 
   -- a callee that passes is one of the functions
   pub callee-in : Linked t → IsNode t n → calleeFits t n ≡ true → k ≡ 4 → (1 ≤ w) × (w ≤ functions t)

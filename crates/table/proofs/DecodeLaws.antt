@@ -3,7 +3,7 @@ use Prim.Native.Nat.{ℕ, _+_, _-_, _*_}
 use mathlib.Core.Path.{_≡_, ap}
 use mathlib.Core.List.{List}
 use native.Mathlib.Omega.{arith}
-use Rattle.table.specs.Bytes.{byteAt, twoAt, functions, nodes, functionAt, nodeAt, params, spare, root}
+use Rattle.table.specs.Bytes.{byteAt, twoAt, functions, nodes, functionAt, nodeAt, params, widthByte, root}
 use Rattle.table.specs.Decoded.{putNumber, putNumbers, nodeSlot, functionSlot, tableSlot, nodeNumber, functionNumber, tableNumber}
 use Rattle.table.specs.Working.{IsFunction, At}
 use Rattle.table.specs.Naming.{owner, parent}
@@ -41,9 +41,9 @@ module _ (t : List ℕ) (f at : ℕ) (i : IsFunction t f) (e : at ≡ 4 * f) whe
   unfolding params
   params-byte = ap (byteAt t) record-place
 
-  pub spare-byte : byteAt t (at + 1) ≡ spare t f
-  unfolding spare
-  spare-byte = ap (λ i. byteAt t (i + 1)) record-place
+  pub second-byte : byteAt t (at + 1) ≡ widthByte t f
+  unfolding widthByte
+  second-byte = ap (λ i. byteAt t (i + 1)) record-place
 
   pub root-bytes : twoAt t (at + 2) ≡ root t f
   unfolding root

@@ -11,7 +11,7 @@ use lib.ListN.{length, getD, set, replicate, length-set, length-replicate}
 use lib.Seq.{getD-set-same, getD-set-other}
 use borrow.Author.Tests.{eq-eqb, ne-eqb, lt-ltb, le-leb}
 use Rattle.table.specs.Pick.{pick}
-use Rattle.table.specs.Bytes.{functions, nodes, params, spare, root, first, next}
+use Rattle.table.specs.Bytes.{functions, nodes, params, widthByte, root, first, next}
 use Rattle.table.specs.Find.{highest}
 use Rattle.table.specs.Naming.{mentions, rootOf, namer, owner, parent, chain, children}
 use Rattle.table.specs.Check.{rootFits, recordFits, forward, linked}
@@ -28,18 +28,22 @@ use Rattle.table.proofs.HandLaws.{rank-step, root-some, kin-here}
 use Rattle.table.proofs.HandSteps.{handed-link, still-named, next-on, first-on}
 
 -- a function's record, from what was read of it
-pub root-told : (t : List ℕ) (f r p s n : ℕ) → r ≡ root t f → p ≡ params t f → s ≡ spare t f → n ≡ next t r → 1 ≤ r → r ≤ nodes t → p ≤ 8
-    → s ≡ 0 → n ≡ 0 → RootFits t f
+pub root-told : (t : List ℕ) (f r p s n : ℕ) → r ≡ root t f → p ≡ params t f → s ≡ widthByte t f → n ≡ next t r → 1 ≤ r → r ≤ nodes t
+    → p ≤ 8 → s ≤ 32 → n ≡ 0 → RootFits t f
 unfolding rootFits recordFits
 root-told t f r p s n er ep es en a b c d e = record {
   inside = rw (sym er, le-leb 1 r a, le-leb r (nodes t) b) tt;
-  fits = rw (sym ep, sym es, le-leb p 8 c, eq-eqb s 0 d) tt;
+  fits = rw (sym ep, sym es, le-leb p 8 c, le-leb s 32 d) tt;
   ends = ap (next t) (sym er) ∙ sym en ∙ e;
 }
 
 pub params-few : (t : List ℕ) → RootsFit t (functions t) → (f : ℕ) → IsFunction t f → params t f ≤ 8
 unfolding recordFits
-params-few t rf f i = leb→le (params t f) 8 (both (leb (params t f) 8) (eqb (spare t f) 0) (rf f (i .0) (i .1) .fits) .0)
+params-few t rf f i = leb→le (params t f) 8 (both (leb (params t f) 8) (leb (widthByte t f) 32) (rf f (i .0) (i .1) .fits) .0)
+
+pub width-few : (t : List ℕ) → RootsFit t (functions t) → (f : ℕ) → IsFunction t f → widthByte t f ≤ 32
+unfolding recordFits
+width-few t rf f i = leb→le (widthByte t f) 32 (both (leb (params t f) 8) (leb (widthByte t f) 32) (rf f (i .0) (i .1) .fits) .1)
 
 -- a node's links, from what was read of it
 pub links-told : (t kin : List ℕ) (n a b : ℕ) → a ≡ first t n → b ≡ next t n → (getD kin n 0 ≡ 0 → ⊥) → a ≤ nodes t → b ≤ nodes t

@@ -30,8 +30,8 @@ module _ (t : List ℕ) (ok : Passed t) where
   few n f i j h = subst (λ k. k ≤ 8) (sym h ∙ ap length (sym (roots-kids t ok n i)) ∙ length-roots (exprsAt t (first t n)))
       (params-small t ok f j)
 
-  narrow-at : (n : ℕ) → IsNode t n → arity (exprAt t n) ≤ 8
-  narrow-at n i = go (node-case t ok n i) (owner-in t (ok .linking) n i)
+  few-at : (n : ℕ) → IsNode t n → arity (exprAt t n) ≤ 8
+  few-at n i = go (node-case t ok n i) (owner-in t (ok .linking) n i)
     where
       go : NodeCase t n → IsFunction t (owner t n) → arity (exprAt t n) ≤ 8
       go (is-const k z e) o = rw e (omega arith)
@@ -55,9 +55,9 @@ module _ (t : List ℕ) (ok : Passed t) where
     inside = λ f m i k. let r = node-owner t ok f m i k in (r .1, r .0 .0, r .0 .1);
     owned = owned-node t ok;
     part = λ f u i s. part-is t ok f i u s .0;
-    narrow = λ f u i s.
+    few = λ f u i s.
         let r = part-is t ok f i u s in
-        subst (λ x. arity x ≤ 8) (sym (r .0)) (narrow-at (id u) (r .1));
+        subst (λ x. arity x ≤ 8) (sym (r .0)) (few-at (id u) (r .1));
   }
 
 -- the check's own F and N are the table's

@@ -3,6 +3,7 @@ pub mod CallPlaces
 pub mod Tests
 pub mod FindLaws
 pub mod KindLaws
+pub mod WidthLaws
 pub mod Loops
 pub mod Copied
 pub mod HandLaws
@@ -37,5 +38,6 @@ pub mod CountLaws
 pub mod RuleLaws
 pub mod Bodies
 pub mod LaidOut
+pub mod Widths
 pub mod CheckedDesigns
 pub mod Theorems

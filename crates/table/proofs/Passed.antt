@@ -4,15 +4,15 @@ use mathlib.Core.Bool.{Bool, true, false}
 use mathlib.Core.Path.{_≡_, refl}
 use mathlib.Core.List.{List}
 use native.Mathlib.Omega.{arith}
-use lib.Dec.{T, eqb, leb, eqb→eq, leb→le}
+use lib.Dec.{T, leb, eqb→eq, leb→le}
 use lib.ListN.{length}
-use Rattle.table.specs.Bytes.{functions, nodes, params, spare, root, kind, extra, word, first}
+use Rattle.table.specs.Bytes.{functions, nodes, params, widthByte, root, kind, extra, word, first}
 use Rattle.table.specs.Working.{IsNode, IsFunction, Linked}
 use Rattle.table.proofs.KindLaws.{kind-known}
 use Rattle.table.proofs.Tests.{T-true}
 use Rattle.table.proofs.FindLaws.{both, lowest-passes, all-passes}
 use Rattle.table.specs.Check.{Verdict, accepted, refused, among, sizes, whole, rootFits, linked, recordFits, formed, calleeFits}
-use Rattle.table.specs.Check.{counted, scoped, tailed, stage, checkOf}
+use Rattle.table.specs.Check.{counted, scoped, tailed, constFits, stage, checkOf}
 
 pub record Passed (t : List ℕ) : Type 0 where
   pub linking : Linked t
@@ -27,13 +27,14 @@ pub record Passed (t : List ℕ) : Type 0 where
   pub children : (n : ℕ) → IsNode t n → T (counted t n)
   pub scopes : (n : ℕ) → IsNode t n → T (scoped t n)
   pub tails : (n : ℕ) → IsNode t n → T (tailed t n)
+  pub constants : (n : ℕ) → IsNode t n → T (constFits t n)
 
 pub in-range : (low high n : ℕ) → T (among low high n) → (low ≤ n) × (n ≤ high)
 in-range low high n h = let p = both (leb low n) (leb n high) h in (leb→le low n (p .0), leb→le n high (p .1))
 
 pub params-small : (t : List ℕ) → Passed t → (f : ℕ) → IsFunction t f → params t f ≤ 8
 unfolding recordFits
-params-small t ok f i = leb→le (params t f) 8 (both (leb (params t f) 8) (eqb (spare t f) 0) (ok .records f i) .0)
+params-small t ok f i = leb→le (params t f) 8 (both (leb (params t f) 8) (leb (widthByte t f) 32) (ok .records f i) .0)
 
 pub kind-small : (t : List ℕ) → Passed t → (n : ℕ) → IsNode t n → kind t n ≤ 7
 unfolding formed
@@ -68,6 +69,7 @@ passed t F N e =
     let p7 = passes 7 _ _ _ F N (p6 .2) in
     let p8 = passes 8 _ _ _ F N (p7 .2) in
     let p9 = passes 9 _ _ _ F N (p8 .2) in
+    let p25 = passes 25 _ _ _ F N (p9 .2) in
     let s = both (among 1 32 (functions t)) (among 1 512 (nodes t)) (p2 .0) in
     let f = in-range 1 32 (functions t) (s .0) in
     let n = in-range 1 512 (nodes t) (s .1) in (
@@ -87,9 +89,10 @@ passed t F N e =
         children = λ n i. lowest-passes (counted t) (nodes t) (p7 .1) n (i .0) (i .1);
         scopes = λ n i. lowest-passes (scoped t) (nodes t) (p8 .1) n (i .0) (i .1);
         tails = λ n i. lowest-passes (tailed t) (nodes t) (p9 .1) n (i .0) (i .1);
+        constants = λ n i. lowest-passes (constFits t) (nodes t) (p25 .1) n (i .0) (i .1);
       },
-      (let q = p9 .2 in F-same q),
-      (let q = p9 .2 in N-same q),
+      (let q = p25 .2 in F-same q),
+      (let q = p25 .2 in N-same q),
     )
   where
     F-same : accepted (functions t) (nodes t) ≡ accepted F N → functions t ≡ F

@@ -3,10 +3,10 @@ use Prim.Native.Nat.{ℕ, _+_, _*_, _<_}
 use mathlib.Core.Path.{_≡_, refl, _∙_}
 use mathlib.Core.List.{List}
 use native.Mathlib.Omega.{arith}
-use Rattle.table.specs.Bytes.{functions, nodes, fourAt, root, params, word}
+use Rattle.table.specs.Bytes.{functions, nodes, fourAt, root, params, bits, width, word}
 use Rattle.table.specs.Decoded.{cellAt, nodeSlot, functionSlot, tableSlot, low, high, nodeField}
 use Rattle.table.specs.Working.{IsNode, IsFunction, Read}
-use Rattle.table.proofs.CellLaws.{word-read}
+use Rattle.table.proofs.CellLaws.{word-read, width-read}
 
 -- a small word is its low half
 pub low-all : (t : List ℕ) (n : ℕ) → word t n < 65536 → low t n ≡ word t n
@@ -33,6 +33,9 @@ module _ (t cells : List ℕ) (rd : Read t cells) where
 
   pub told-params : (f : ℕ) → IsFunction t f → (r : ℕ) → r ≡ cellAt cells (functionSlot f) 0 → r ≡ params t f
   told-params f i r e = e ∙ rd .told .function f 0 i (omega arith)
+
+  pub told-width : (f : ℕ) → IsFunction t f → (r : ℕ) → r ≡ bits (cellAt cells (functionSlot f) 1) → r ≡ width t f
+  told-width f i r e = e ∙ width-read t cells 8 (rd .told) f i
 
   pub told-main : (r : ℕ) → r ≡ cellAt cells tableSlot 0 → r ≡ functions t
   told-main r e = e ∙ rd .told .own 0 (omega arith)

@@ -105,52 +105,57 @@ flag-place (suc (suc c)) w F h f = absurd (omega arith)
 
 -- the tests that are looked up are those of the kind
 abbrev Told : ℕ → Type 0
-Told k = (e w o p q : ℕ) → 1 ≤ o → p ≤ 8 → q ≤ 1 → e < p * ruleAt k 1 + ruleAt k 0 → ruleAt k 2 ≤ w
-    → w ≤ (o + q - 1) * ruleAt k 2 + ruleAt k 6 * 4294967295 → KindFits k e w o p q
+Told k = (e w o p m q : ℕ) → 1 ≤ o → p ≤ 8 → q ≤ 1 → e < p * ruleAt k 1 + ruleAt k 0 → ruleAt k 2 ≤ w
+    → w ≤ (o + q - 1) * ruleAt k 2 + ruleAt k 6 * m → KindFits k e w o p (m + 1) q
 
 -- a node that is neither a call nor a parameter
-neither : (k e w o p q : ℕ) → (k ≡ 4 → ⊥) → (k ≡ 2 → ⊥) → fields k e w 0 ≡ true → e < 16 → KindFits k e w o p q
-neither k e w o p q a b f l = record {
+neither : (k e w o p m q : ℕ) → (k ≡ 4 → ⊥) → (k ≡ 2 → ⊥) → (k ≡ 1 → w ≤ m) → fields k e w 0 ≡ true → e < 16 → KindFits k e w o p (m + 1) q
+neither k e w o p m q a b c f l = record {
   shaped = f;
   callee = λ h. absurd (a h);
   ends = λ h. absurd (a h);
   param = λ h. absurd (b h);
+  constant = λ h. omega (arith, c h);
   small = l;
 }
 
 fits-rules : (k : ℕ) → k < 8 → Told k
 unfolding fields
 fits-rules = by-eight Told
-    (λ e w o p q i b j x y z. absurd (omega arith))
-    (λ e w o p q i b j x y z. neither 1 e w o p q (λ h. omega arith) (λ h. omega arith) (rw (none e (omega (arith, x)))) (omega (arith, x)))
-    (λ e w o p q i b j x y z. record {
+    (λ e w o p m q i b j x y z. absurd (omega arith))
+    (λ e w o p m q i b j x y z. neither 1 e w o p m q (λ h. omega arith) (λ h. omega arith) (λ h. omega (arith, h, z))
+    (rw (none e (omega (arith, x)))) (omega (arith, x)))
+    (λ e w o p m q i b j x y z. record {
       shaped = rw (none w (omega (arith, z)));
       callee = λ k. absurd (omega arith);
       ends = λ k. absurd (omega arith);
       param = λ k. omega (arith, x);
+      constant = λ k. absurd (omega arith);
       small = omega (arith, x, b);
     })
-    (λ e w o p q i b j x y z. neither 3 e w o p q (λ h. omega arith) (λ h. omega arith)
+    (λ e w o p m q i b j x y z. neither 3 e w o p m q (λ h. omega arith) (λ h. omega arith) (λ h. omega (arith, h, z))
     (rw (le-leb e 10 (omega (arith, x)), none w (omega (arith, z)))) (omega (arith, x)))
-    (λ e w o p q i b j x y z. record {
+    (λ e w o p m q i b j x y z. record {
       shaped = rw (none e (omega (arith, x)));
       callee = λ k. (omega (arith, y), omega (arith, z, i, j));
       ends = λ k s. omega (arith, z, i, j);
       param = λ k. absurd (omega arith);
+      constant = λ k. absurd (omega arith);
       small = omega (arith, x);
     })
-    (λ e w o p q i b j x y z. neither 5 e w o p q (λ h. omega arith) (λ h. omega arith)
+    (λ e w o p m q i b j x y z. neither 5 e w o p m q (λ h. omega arith) (λ h. omega arith) (λ h. omega (arith, h, z))
     (rw (none e (omega (arith, x)), none w (omega (arith, z)))) (omega (arith, x)))
-    (λ e w o p q i b j x y z. neither 6 e w o p q (λ h. omega arith) (λ h. omega arith)
+    (λ e w o p m q i b j x y z. neither 6 e w o p m q (λ h. omega arith) (λ h. omega arith) (λ h. omega (arith, h, z))
     (rw (none e (omega (arith, x)), none w (omega (arith, z)))) (omega (arith, x)))
-    (λ e w o p q i b j x y z. neither 7 e w o p q (λ h. omega arith) (λ h. omega arith) (rw (none e (omega (arith, x)))) (omega (arith, x)))
+    (λ e w o p m q i b j x y z. neither 7 e w o p m q (λ h. omega arith) (λ h. omega arith) (λ h. omega (arith, h, z))
+    (rw (none e (omega (arith, x)))) (omega (arith, x)))
   where
     none : (x : ℕ) → x ≤ 0 → eqb x 0 ≡ true
     none x h = eq-eqb x 0 (omega arith)
 
-pub fits-told : (k e w o p q a b c : ℕ) → k < 8 → a ≡ ruleAt k 1 → b ≡ ruleAt k 0 → c ≡ ruleAt k 2 → 1 ≤ o → p ≤ 8 → q ≤ 1
-    → e < p * a + b → c ≤ w → w ≤ (o + q - 1) * ruleAt k 2 + ruleAt k 6 * 4294967295 → KindFits k e w o p q
-fits-told k e w o p q a b c i ea eb ec j m n x y z = fits-rules k i e w o p q j m n (rw (ea, eb) at x) (rw ec at y) z
+pub fits-told : (k e w o p m q a b c : ℕ) → k < 8 → a ≡ ruleAt k 1 → b ≡ ruleAt k 0 → c ≡ ruleAt k 2 → 1 ≤ o → p ≤ 8 → q ≤ 1
+    → e < p * a + b → c ≤ w → w ≤ (o + q - 1) * ruleAt k 2 + ruleAt k 6 * m → KindFits k e w o p (m + 1) q
+fits-told k e w o p m q a b c i ea eb ec j l n x y z = fits-rules k i e w o p m q j l n (rw (ea, eb) at x) (rw ec at y) z
 
 -- so few children that two numbers of them are one
 abbrev pub Few : Counts → Type 0
@@ -182,11 +187,12 @@ counts-few k e = go (eqb k 3) (eqb k 4) (eqb k 5) (eqb k 6)
 pub rule-small : (k j : ℕ) → ruleAt k j ≤ 4097
 rule-small k j =
     let eleven : 11 ≤ 4097 = omega arith in
+    let most : 512 ≤ 4097 = omega arith in
     let reach : ruleOf k .reach ≤ 4097 = omega (arith, reach-most k, one-most (eqb k 6)) in
     let counts : packed (countsOf k 11 0) ≤ 4097 = omega (arith, counts-few k 11) in
     under (eqb j 0) (under (eqb k 3) eleven (flag (eqb k 1 || among 4 7 k))) (under (eqb j 1) (flag (eqb k 2))
     (under (eqb j 2) (flag (eqb k 4)) (under (eqb j 3) reach (under (eqb j 4) (flag (eqb k 7)) (under (eqb j 5) (flag (eqb k 3))
-    (under (eqb j 6) (flag (eqb k 1 || eqb k 7)) counts))))))
+    (under (eqb j 6) (under (eqb k 7) most (flag (eqb k 1))) counts))))))
   where
     under : (b : Bool) {x y : ℕ} → x ≤ 4097 → y ≤ 4097 → pick b x y ≤ 4097
     under true f g = f

@@ -1,5 +1,5 @@
 -- what a node hands down: whether its children are in tail position, and what is around them
-use Prim.Native.Nat.{ℕ, zero, suc, _+_, _-_, _*_, _/_, _%_, _≤_, _<_}
+use Prim.Native.Nat.{ℕ, zero, suc, _+_, _-_, _*_, _/_, _%_, _^_, _≤_, _<_}
 use mathlib.Core.Bool.{Bool, true, false, _&&_, _||_, not}
 use mathlib.Core.Path.{_≡_, refl, sym, ap, _∙_}
 use mathlib.Core.List.{List}
@@ -10,7 +10,7 @@ use lib.ListN.{length}
 use borrow.Author.Tests.{eq-eqb, ne-eqb, le-leb, lt-leb}
 use Rattle.table.specs.Pick.{pick}
 use Rattle.table.specs.Find.{one, back, backBy}
-use Rattle.table.specs.Bytes.{kind, extra, word, params, first, next}
+use Rattle.table.specs.Bytes.{kind, extra, word, params, width, first, next}
 use Rattle.table.specs.Naming.{namer, owner, parent, tailChild, tail, chain, children}
 use Rattle.table.specs.Check.{countsOf, counted}
 use Rattle.table.specs.Working.{IsNode, Framed, Linked}
@@ -222,7 +222,8 @@ counted-by t n w j h e a b =
     let l = length (children t n) in
     rw (le-leb (c .low) l (omega (arith, h .low, e)), le-leb l (c .high) (omega (arith, h .high, e))) tt
 
--- and the rest of 5 to 9
-pub fits-here : (t : List ℕ) (n k e w o p q : ℕ) → k ≡ kind t n → e ≡ extra t n → w ≡ word t n → o ≡ owner t n → p ≡ params t o
-    → KindFits k e w o p q → KindFits (kind t n) (extra t n) (word t n) (owner t n) (params t (owner t n)) q
-fits-here t n k e w o p q ek ee ew eo ep f = rw (sym ek, sym ee, sym ew, sym eo, sym ep) f
+-- and the rest of 5 to 9, and 25
+pub fits-here : (t : List ℕ) (n k e w o p m q : ℕ) → k ≡ kind t n → e ≡ extra t n → w ≡ word t n → o ≡ owner t n → p ≡ params t o
+    → m ≡ 2 ^ width t o → KindFits k e w o p m q
+    → KindFits (kind t n) (extra t n) (word t n) (owner t n) (params t (owner t n)) (2 ^ width t (owner t n)) q
+fits-here t n k e w o p m q ek ee ew eo ep em f = rw (sym ek, sym ee, sym ew, sym eo, sym ep, sym em) f

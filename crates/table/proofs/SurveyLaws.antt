@@ -30,7 +30,8 @@ use Rattle.table.specs.Check.{
   ifAccepted,
   checkOf,
 }
-use Rattle.table.specs.Working.{Framed, Linked, Taken, Decoded, Kindred, Settles, Read, frameNumber, checkNodes, faultVerdict}
+use Rattle.table.specs.Working.{Framed, Linked, Taken, Decoded, Kindred, Settles, Read, frameNumber}
+use Rattle.table.specs.Working.{noFault, checkNodes, faultVerdict}
 use Rattle.table.specs.Survey.{verdictOf}
 use Rattle.table.specs.Decoded.{decodedInto, surveyed}
 use Rattle.table.proofs.FindLaws.{both, all-passes, lowest-passes}
@@ -38,15 +39,15 @@ use Rattle.table.proofs.Passed.{in-range, params-small, kind-small, pas
 use Rattle.table.proofs.DecodedLaws.{Small, decoded-read}
 
 -- what the nodes' part found
-pub fault-refused : (t : List ℕ) (r : Fault) → faultVerdict t r ≡ checkNodes t → (r .number ≡ 10 → ⊥) → checkNodes t ≡ refused
+pub fault-refused : (t : List ℕ) (r : Fault) → faultVerdict t r ≡ checkNodes t → (r .number ≡ noFault → ⊥) → checkNodes t ≡ refused
     (r .number) (r .place .0)
 fault-refused t r e z = sym e ∙ ap (λ x. pick x (accepted (functions t) (nodes t)) (refused (r .number) (r .place .0)))
-    (ne-eqb (r .number) 10 z)
+    (ne-eqb (r .number) noFault z)
 
-pub fault-none : (t : List ℕ) (r : Fault) → faultVerdict t r ≡ checkNodes t → r .number ≡ 10 → checkNodes t ≡ accepted (functions t)
+pub fault-none : (t : List ℕ) (r : Fault) → faultVerdict t r ≡ checkNodes t → r .number ≡ noFault → checkNodes t ≡ accepted (functions t)
     (nodes t)
 fault-none t r e z = sym e ∙ ap (λ x. pick x (accepted (functions t) (nodes t)) (refused (r .number) (r .place .0)))
-    (eq-eqb (r .number) 10 z)
+    (eq-eqb (r .number) noFault z)
 
 -- the first three numbers
 abbrev Sizes : List ℕ → Type 0

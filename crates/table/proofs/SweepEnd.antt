@@ -1,5 +1,5 @@
 -- what the loops of the sweep found together: the check accepts the table
-use Prim.Native.Nat.{ℕ}
+use Prim.Native.Nat.{ℕ, _^_}
 use mathlib.Core.Bool.{Bool, true, false, _&&_, _||_, not}
 use mathlib.Core.Path.{_≡_, refl, sym, ap, _∙_}
 use mathlib.Core.List.{List}
@@ -9,9 +9,10 @@ use lib.Dec.{T, eqb, ltb, leb, leb→le}
 use lib.ListN.{length}
 use borrow.Author.Tests.{eq-eqb, ne-eqb, le-leb, lt-ltb}
 use Rattle.table.specs.Find.{one, lowest}
-use Rattle.table.specs.Bytes.{functions, nodes, params, kind, extra, word, first}
+use Rattle.table.specs.Bytes.{functions, nodes, params, width, kind, extra, word, first}
 use Rattle.table.specs.Naming.{owner, tail, inScope, children}
 use Rattle.table.specs.Check.{among, rootFits, linked, recordFits, fields, formed, calleeFits, countsOf, counted, scoped, tailed}
+use Rattle.table.specs.Check.{constFits}
 use Rattle.table.specs.Working.{IsNode, Framed, Taken, checkNodes}
 use Rattle.table.specs.Sweep.{RootsFit, Whole, NodeFits, boundFits, BoundsFit}
 use Rattle.table.proofs.Tests.{true-T, T-true}
@@ -83,6 +84,14 @@ module _ (t : List ℕ) (fr : Framed t) (wh : Whole t) (rf : RootsFit t (functio
       go (yes e) (no f) = rw (eq-eqb (kind t n) 4 e, ne-eqb (word t n) (owner t n) f) tt
       go (no e) f = rw (ne-eqb (kind t n) 4 e) tt
 
+  constants-all : (n : ℕ) → IsNode t n → T (constFits t n)
+  unfolding constFits
+  constants-all n i = go (ℕ-discrete (kind t n) 1)
+    where
+      go : Dec (kind t n ≡ 1) → T (not (eqb (kind t n) 1) || ltb (word t n) (2 ^ width t (owner t n)))
+      go (yes e) = rw (eq-eqb (kind t n) 1 e, lt-ltb (word t n) (2 ^ width t (owner t n)) (fits n i .fits .constant e)) tt
+      go (no e) = rw (ne-eqb (kind t n) 1 e) tt
+
   none-fails : (p : ℕ → Bool) → ((n : ℕ) → IsNode t n → T (p n)) → lowest p (nodes t) ≡ 0
   none-fails p f = passes-lowest p (nodes t) (λ n a b. f n (a, b))
 
@@ -98,3 +107,4 @@ module _ (t : List ℕ) (fr : Framed t) (wh : Whole t) (rf : RootsFit t (functio
       ∙ goes-on 7 true _ _ tt (none-fails (counted t) (wh .counts))
       ∙ goes-on 8 true _ _ tt (none-fails (scoped t) scopes-all)
       ∙ goes-on 9 true _ _ tt (none-fails (tailed t) tails-all)
+      ∙ goes-on 25 true _ _ tt (none-fails (constFits t) constants-all)

@@ -1,6 +1,6 @@
 -- what the parts of the sweep ask of each other, no part of what a reader must believe: in four loops the sweep tells that a table is
 -- accepted, and leaves what it does not pass to the check
-use Prim.Native.Nat.{ℕ, zero, suc, _+_, _*_, _/_, _%_, _≤_, _<_}
+use Prim.Native.Nat.{ℕ, zero, suc, _+_, _*_, _/_, _%_, _^_, _≤_, _<_}
 use mathlib.Core.Bool.{Bool, true, _&&_, _||_, not}
 use mathlib.Core.Path.{_≡_}
 use mathlib.Core.List.{List}
@@ -12,7 +12,7 @@ use Rattle.table.specs.declared.sweep.Sifting.{Sifting}
 use Rattle.table.specs.declared.sweep.Residue.{Residue}
 use Rattle.table.specs.declared.sweep.Residue.the-variants.{Passed, Failed}
 use Rattle.table.specs.Pick.{pick, Range}
-use Rattle.table.specs.Bytes.{functions, nodes, params, root, kind, extra, word, first, next}
+use Rattle.table.specs.Bytes.{functions, nodes, params, width, root, kind, extra, word, first, next}
 use Rattle.table.specs.Find.{one, total, highest, back}
 use Rattle.table.specs.Naming.{names, namer, owner, parent, tail, underLast, inScope, children}
 use Rattle.table.specs.Check.{among, rootFits, recordFits, fields, operationCounts, countsOf, counted}
@@ -101,13 +101,14 @@ isLet t n = not (eqb n 0) && eqb (kind t n) 6
 unfoldable pub downOf : List ℕ → ℕ → ℕ
 downOf t n = around t n + 1024 * one (isLet t n) + 2048 * tailFrom t n
 
--- what a node's kind asks of extra and word, with 6, 8 and 9 for calls and parameters: the function's number and parameters, and whether
--- the node is in tail position, as a number
-pub record KindFits (kind extra word owner params tail : ℕ) : Type 0 where
+-- what a node's kind asks of extra and word, with 6, 8 and 9 for calls and parameters and 25 for constants: the function's number and
+-- parameters, what its constants are below, and whether the node is in tail position, as a number
+pub record KindFits (kind extra word owner params top tail : ℕ) : Type 0 where
   pub shaped : fields kind extra word 0 ≡ true
   pub callee : kind ≡ 4 → (1 ≤ word) × (word ≤ owner)
   pub ends : kind ≡ 4 → word ≡ owner → tail ≡ 1
   pub param : kind ≡ 2 → extra < params
+  pub constant : kind ≡ 1 → word < top
   pub small : extra < 16
 
 -- 4 and 7 at all nodes; only of such a table is told what a node hands down
@@ -115,10 +116,10 @@ pub record Whole (t : List ℕ) : Type 0 where
   pub links : Linked t
   pub counts : (n : ℕ) → IsNode t n → T (counted t n)
 
--- 5, 6, 8 and 9 at a node, but for bounds; `ending` is whether it was taken to be in tail position
+-- 5, 6, 8, 9 and 25 at a node, but for bounds; `ending` is whether it was taken to be in tail position
 pub record NodeFits (t : List ℕ) (n : ℕ) : Type 0 where
   pub ending : ℕ
-  pub fits : KindFits (kind t n) (extra t n) (word t n) (owner t n) (params t (owner t n)) ending
+  pub fits : KindFits (kind t n) (extra t n) (word t n) (owner t n) (params t (owner t n)) (2 ^ width t (owner t n)) ending
   pub tails : Whole t → ending ≡ one (tail t n)
 
 unfoldable pub boundFits : List ℕ → ℕ → Bool
@@ -166,7 +167,7 @@ pub record Wanted (t : List ℕ) (k : ℕ) (wanted : List ℕ) : Type 0 where
 -- what sifting a node tells: where it passed, whether it is a bound, and what it hands down if what its parent handed down is right
 pub record Sifts (t : List ℕ) (n inherited : ℕ) (r : Sifting) : Type 0 where
   pub ending : ℕ
-  pub fits : KindFits (kind t n) (extra t n) (word t n) (owner t n) (params t (owner t n)) ending
+  pub fits : KindFits (kind t n) (extra t n) (word t n) (owner t n) (params t (owner t n)) (2 ^ width t (owner t n)) ending
   pub heir : Whole t → inherited ≡ downOf t (parent t n) → (ending ≡ one (tail t n)) × (r .down ≡ downOf t n)
   pub bound : r .bound ≡ one (eqb (kind t n) 7)
   pub counts : Wants t n (r .wants)
@@ -194,7 +195,7 @@ ruleOf k = record {
   reach = 2 * tailReach k + one (eqb k 6);
   bound = one (eqb k 7);
   primitive = one (eqb k 3);
-  words = one (eqb k 1 || eqb k 7);
+  words = pick (eqb k 7) 512 (one (eqb k 1));
 }
 
 -- the fewest children, and 256 times the most

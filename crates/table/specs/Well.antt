@@ -114,7 +114,7 @@ pub record Laid (F N : ℕ) (body at : ℕ → Expr) (home : ℕ → ℕ) : Type
   pub inside : (f m : ℕ) → Fn F body f → Node m (body f) → (home m ≡ f) × (1 ≤ m) × (m ≤ N)
   pub owned : (f m : ℕ) → Range N m → home m ≡ f → Node m (body f)
   pub part : (f : ℕ) (u : Expr) → Fn F body f → Sub u (body f) → u ≡ at (id u)
-  pub narrow : (f : ℕ) (u : Expr) → Fn F body f → Sub u (body f) → arity u ≤ 8
+  pub few : (f : ℕ) (u : Expr) → Fn F body f → Sub u (body f) → arity u ≤ 8
 
 -- w bits hold v
 abbrev pub Below : (w v : ℕ) → Type 0

@@ -15,7 +15,7 @@ use Rattle.table.specs.Naming.{mentions, rootOf, namer, owner, parent, t
 use Rattle.table.specs.Decoded.{cellAt, nodeSlot, functionSlot, tableSlot}
 use Rattle.table.specs.Decoded.{nodeField, functionField, tableField}
 use Rattle.table.specs.Check.{Verdict, accepted, refused, stage, checkOf, sizes, whole, linked}
-use Rattle.table.specs.Check.{formed, calleeFits, counted, scoped, tailed}
+use Rattle.table.specs.Check.{formed, calleeFits, counted, scoped, tailed, constFits}
 
 -- n is a node's number, f a function's
 abbrev pub IsNode : List ℕ → ℕ → Type 0
@@ -144,19 +144,26 @@ pub record NodeAt (t cells : List ℕ) (n k e w : ℕ) : Type 0 where
 abbrev pub better : Fault → ℕ → ℕ → Fault
 better b k n = pick (ltb k (b .number)) (record { number = k; place = record { 0 = n } }) b
 
--- the tests of the numbers 5 to 9 at a node
+-- past the last number that a node can be refused for: it meets none
+abbrev pub noFault : ℕ
+noFault = 26
+
+-- the tests of the numbers 5 to 9, then 25, at a node; there is none between
 unfoldable pub test : List ℕ → ℕ → ℕ → Bool
 test t k n =
     pick (eqb k 5) (formed t n)
     (pick (eqb k 6) (calleeFits t n)
     (pick (eqb k 7) (counted t n)
     (pick (eqb k 8) (scoped t n)
-    (tailed t n))))
+    (pick (eqb k 9) (tailed t n)
+    (pick (eqb k 25) (constFits t n)
+    true)))))
 
--- the first number that a node meets, 10 if none
+-- the first number that a node meets
 unfoldable pub faultAt : List ℕ → ℕ → ℕ
 faultAt t n =
-    pick (formed t n) (pick (calleeFits t n) (pick (counted t n) (pick (scoped t n) (pick (tailed t n) 10 9) 8) 7) 6) 5
+    pick (formed t n) (pick (calleeFits t n) (pick (counted t n) (pick (scoped t n) (pick (tailed t n) (pick (constFits t n) noFault 25)
+    9) 8) 7) 6) 5
 
 -- the check from the nodes' part of 5 on
 unfoldable pub checkNodes : List ℕ → Verdict
@@ -166,11 +173,11 @@ checkNodes t =
     stage 7 true (lowest (counted t) (nodes t)) λ _.
     stage 8 true (lowest (scoped t) (nodes t)) λ _.
     stage 9 true (lowest (tailed t) (nodes t)) λ _.
+    stage 25 true (lowest (constFits t) (nodes t)) λ _.
     accepted (functions t) (nodes t)
 
--- number 10 stands for none
 abbrev pub faultVerdict : List ℕ → Fault → Verdict
-faultVerdict t r = pick (eqb (r .number) 10) (accepted (functions t) (nodes t)) (refused (r .number) (r .place .0))
+faultVerdict t r = pick (eqb (r .number) noFault) (accepted (functions t) (nodes t)) (refused (r .number) (r .place .0))
 
 -- of each node its function and parent in one number
 pub record Kindred (t kin : List ℕ) : Type 0 where

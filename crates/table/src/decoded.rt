@@ -1,12 +1,13 @@
 // A decoded table: 545 slots of 6 numbers, read faster than bytes. Node n has slot n mod 512, function f slot 512 + f mod 32, the table
 // itself the last. A slot is put number by number and read field by field. A node's numbers are its record's ten bytes two by two, kind
 // and extra, low and high half of the word, first child, next sibling, then function + 64 * parent; a function's are its record's four
-// bytes, parameter count and second byte, then root; the table's are F and N. The readers take any number: what is no node's and no
+// bytes, parameter count and width byte, then root; the table's are F and N. The readers take any number: what is no node's and no
 // function's reads another's slot.
 use crate::Function;
 use crate::Node;
 ghost use mathlib.Core.Path.{_≡_};
 ghost use Prim.Native.Nat.{_+_, _*_, _<_};
+ghost use Rattle.table.specs.Bytes.{bits};
 ghost use Rattle.table.specs.Decoded.{cellAt, putNumber, nodeSlot, functionSlot, tableSlot};
 
 pub type Cells = [u16; 3270];
@@ -125,10 +126,12 @@ pub fn params(cells: &Cells, f: Function) -> u16
     function_cell(cells, f, 0)
 }
 
-pub fn spare(cells: &Cells, f: Function) -> u16
-    ensures { λ r. ⌜ r ≡ cellAt (now (cells .entry)) (functionSlot (f .0)) 1 ⌝ }
+// A function's width in bits: its width byte, 0 meaning 32.
+pub fn width(cells: &Cells, f: Function) -> u16
+    ensures { λ r. ⌜ r ≡ bits (cellAt (now (cells .entry)) (functionSlot (f .0)) 1) ⌝ }
 {
-    function_cell(cells, f, 1)
+    let byte = function_cell(cells, f, 1);
+    if byte == 0 { 32 } else { byte }
 }
 
 pub fn root(cells: &Cells, f: Function) -> Node

@@ -1,4 +1,4 @@
-// The nodes' part of refusals 5 to 9.
+// The nodes' part of refusals 5 to 9, and 25.
 use crate::Function;
 use crate::Node;
 use crate::decoded;
@@ -6,15 +6,18 @@ use crate::decoded::Cells;
 use crate::kinds;
 ghost use mathlib.Core.Path.{_≡_};
 ghost use mathlib.Core.Bool.{_&&_, _||_, not};
-ghost use Prim.Native.Nat.{_≤_};
-ghost use lib.Dec.{eqb};
+ghost use Prim.Native.Nat.{_^_, _≤_};
+ghost use lib.Dec.{eqb, ltb};
 ghost use lib.ListN.{length};
 ghost use Rattle.table.specs.Bytes.{functions, nodes, params, kind, extra, word};
 ghost use Rattle.table.specs.Naming.{owner, tail as tailOf, underLast, inScope, chain};
 ghost use Rattle.table.specs.Check.{among, counted, scoped};
 ghost use Rattle.table.specs.Working.{Framed, Linked, Decoded, Within, Tails, NodeAt, better, faultAt, checkNodes, faultVerdict};
 
-// The lowest number met so far and the lowest node that meets it; 10, past the last number here, stands for none.
+// Past the last number here: none is met.
+pub(crate) const NONE: u8 = 26;
+
+// The lowest number met so far and the lowest node that meets it.
 pub struct Fault {
     pub number: u8,
     pub place: Node,
@@ -152,7 +155,20 @@ fn tail_fits(kind: u16, word: u32, own: Function, tail: bool) -> bool
     if word == (own.0 as u32) { tail } else { true }
 }
 
-// The first number that a node meets, 10 where it meets none.
+// 25: a constant is below 2^w, w being the width of its function. From 32 bits on, every word is.
+fn const_fits(kind: u16, word: u32, width: u16) -> bool
+    ensures { λ r. ⌜ r ≡ (not (eqb kind 1) || ltb word (2 ^ width)) ⌝ }
+{
+    if kind != 1 {
+        return true;
+    }
+    if 32 <= width {
+        return true;
+    }
+    word < 1u32 << width
+}
+
+// The first number that a node meets.
 fn fault_at(table: &[u8], cells: &Cells, n: Node, own: Function, tail: bool) -> u8
     requires { ⌜ Within (now table) (now cells) (n .0) ⌝ }
     requires { ⌜ (own .0 ≡ owner (now table) (n .0)) × (tail ≡ tailOf (now table) (n .0)) ⌝ }
@@ -177,7 +193,10 @@ fn fault_at(table: &[u8], cells: &Cells, n: Node, own: Function, tail: bool) -> 
     if !tail_fits(kind, word, own, tail) {
         return 9;
     }
-    10
+    if !const_fits(kind, word, decoded::width(cells, own)) {
+        return 25;
+    }
+    NONE
 }
 
 // The lower number; of one number the node that came first.
@@ -191,14 +210,14 @@ fn lower(best: Fault, number: u8, place: Node) -> Fault
     }
 }
 
-// The lowest number of 5 to 9 that a node meets, and the lowest node that meets it.
+// The lowest number of 5 to 9, then 25, that a node meets, and the lowest node that meets it.
 pub(crate) fn lowest(table: &[u8], cells: &Cells, tails: [bool; 513]) -> Fault
     requires { ⌜ Framed (now table) × Linked (now table) × Decoded (now table) (now cells) × Tails (now table) tails ⌝ }
     ensures { λ r. ⌜ faultVerdict (now (table .entry)) r ≡ checkNodes (now (table .entry)) ⌝ }
 {
     let last = decoded::last(cells).0;
     let mut best = Fault {
-        number: 10,
+        number: NONE,
         place: Node(0),
     };
     let mut n: u16 = 0;

@@ -7,7 +7,7 @@ use crate::decoded::Cells;
 ghost use mathlib.Core.Path.{_≡_};
 ghost use mathlib.Core.Bool.{_&&_};
 ghost use Prim.Native.Nat.{_+_, _*_};
-ghost use lib.Dec.{leb, eqb};
+ghost use lib.Dec.{leb};
 ghost use Rattle.table.specs.Bytes.{functions, nodes};
 ghost use Rattle.table.specs.Find.{all};
 ghost use Rattle.table.specs.Check.{among, rootFits, recordFits};
@@ -89,7 +89,7 @@ fn root_fits(root: Node, last: Node) -> bool
     if root.0 < 1 { false } else { root.0 <= last.0 }
 }
 
-// Whether every parameter count and spare byte is allowed.
+// Whether every parameter count and width is allowed.
 pub(crate) fn records_fit(table: &[u8], cells: &Cells) -> bool
     requires { ⌜ Framed (now table) × Raw (now table) (now cells) ⌝ }
     ensures { λ r. ⌜ r ≡ all (recordFits (now (table .entry))) (functions (now (table .entry))) ⌝ }
@@ -100,7 +100,7 @@ pub(crate) fn records_fit(table: &[u8], cells: &Cells) -> bool
         f += 1;
         if !record_fits(
             decoded::params(cells, Function(f)),
-            decoded::spare(cells, Function(f)),
+            decoded::width(cells, Function(f)),
         ) {
             return false;
         }
@@ -108,8 +108,8 @@ pub(crate) fn records_fit(table: &[u8], cells: &Cells) -> bool
     true
 }
 
-fn record_fits(params: u16, spare: u16) -> bool
-    ensures { λ r. ⌜ r ≡ (leb params 8 && eqb spare 0) ⌝ }
+fn record_fits(params: u16, width: u16) -> bool
+    ensures { λ r. ⌜ r ≡ (leb params 8 && leb width 32) ⌝ }
 {
-    if params <= 8 { spare == 0 } else { false }
+    if params <= 8 { width <= 32 } else { false }
 }

@@ -66,7 +66,7 @@ pub struct Rule {
     pub reach: u16,
     pub bound: u16,
     pub primitive: u16,
-    // Whether the word may be any; a call's is a callee.
+    // How many times the highest constant of its function the word may be: a bound's is a node, a call's a callee.
     pub words: u16,
 }
 
@@ -137,7 +137,7 @@ fn rule_of(kind: u16) -> Rule
             reach: 4096,
             bound: 1,
             primitive: 0,
-            words: 1,
+            words: 512,
         },
         _ => Rule {
             extras: 0,

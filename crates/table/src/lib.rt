@@ -1,4 +1,4 @@
-// A design table as bytes: number types, total readers, and the check (refusals 1 to 9).
+// A design table as bytes: number types, total readers, and the check (refusals 1 to 9, then 25).
 mod decode;
 pub mod decoded;
 mod faults;
@@ -36,7 +36,7 @@ pub enum Checked {
     Refused(u8, Node),
 }
 
-// Refusals 1 to 9, by rising number over the whole table.
+// Refusals 1 to 9, then 25, by rising number over the whole table.
 pub fn check(table: &[u8]) -> Checked
     ensures { λ r. ⌜ verdictOf r ≡ checkOf (now (table .entry)) ⌝ }
 {
@@ -107,7 +107,7 @@ fn passes(table: &[u8], kin: &mut [u32; 513]) -> bool
     }
 }
 
-// A table of the right size: refusals 4 to 9.
+// A table of the right size: refusals 4 to 9, then 25.
 fn inspect(table: &[u8], kin: &mut [u32; 513]) -> Checked
     requires { ⌜ Framed (now table) ⌝ }
     ensures { λ r. ⌜ Settles (now (table .entry)) r (now (kin .exit)) ⌝ }
@@ -131,7 +131,7 @@ fn inspect(table: &[u8], kin: &mut [u32; 513]) -> Checked
     }
     let tails = kin::collect(table, &mut cells, &tops, &namers);
     let fault = faults::lowest(table, &cells, tails);
-    if fault.number != 10 {
+    if fault.number != faults::NONE {
         let at = fault.place;
         return Checked::Refused(fault.number, at);
     }

@@ -41,7 +41,7 @@ fn root_fits(table: &[u8], base: usize, last: Node, f: Function) -> bool
     if 8 < records::params(table, f) {
         return false;
     }
-    if records::spare(table, f) != 0 {
+    if 32 < records::width_byte(table, f) {
         return false;
     }
     records::next(table, base, root).0 == 0

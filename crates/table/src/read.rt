@@ -4,7 +4,7 @@ use crate::Node;
 ghost use mathlib.Core.Path.{_≡_};
 ghost use Prim.Native.Nat.{_+_, _*_, _<_};
 ghost use Rattle.table.specs.Bytes.{byteAt, twoAt, fourAt, functions, nodes, functionAt, nodeAt};
-ghost use Rattle.table.specs.Bytes.{params, root, kind, extra, word, first, next};
+ghost use Rattle.table.specs.Bytes.{params, width, root, kind, extra, word, first, next};
 
 fn byte_at(table: &[u8], i: usize) -> u8
     ensures { λ r. ⌜ r ≡ byteAt (now (table .entry)) i ⌝ }
@@ -74,6 +74,15 @@ pub fn params(table: &[u8], f: Function) -> u8
 {
     let at = function_at(f);
     byte_at(table, at)
+}
+
+// A function's width in bits: its width byte, 0 meaning 32.
+pub fn width(table: &[u8], f: Function) -> u8
+    ensures { λ r. ⌜ r ≡ width (now (table .entry)) (f .0) ⌝ }
+{
+    let at = function_at(f);
+    let byte = byte_at(table, at + 1);
+    if byte == 0 { 32 } else { byte }
 }
 
 pub fn root(table: &[u8], f: Function) -> Node

@@ -5,7 +5,7 @@ use crate::decode;
 ghost use mathlib.Core.Path.{_≡_};
 ghost use Prim.Native.Nat.{_+_, _≤_};
 ghost use lib.ListN.{length};
-ghost use Rattle.table.specs.Bytes.{nodeAt, params, spare, root, kind, extra, word, first, next};
+ghost use Rattle.table.specs.Bytes.{nodeAt, params, widthByte, root, kind, extra, word, first, next};
 ghost use Rattle.table.specs.Working.{Framed, IsFunction, At};
 
 // Where node n's record begins.
@@ -67,9 +67,9 @@ pub(crate) fn params(table: &[u8], f: Function) -> u16
     decode::wide(table[at])
 }
 
-pub(crate) fn spare(table: &[u8], f: Function) -> u16
+pub(crate) fn width_byte(table: &[u8], f: Function) -> u16
     requires { ⌜ Framed (now table) × IsFunction (now table) (f .0) ⌝ }
-    ensures { λ r. ⌜ r ≡ spare (now (table .entry)) (f .0) ⌝ }
+    ensures { λ r. ⌜ r ≡ widthByte (now (table .entry)) (f .0) ⌝ }
 {
     let at = 4 * (f.0 as usize);
     decode::wide(table[at + 1])

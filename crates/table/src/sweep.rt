@@ -7,11 +7,11 @@ use crate::linking;
 use crate::records;
 ghost use mathlib.Core.Path.{_≡_};
 ghost use mathlib.Core.Bool.{true, false};
-ghost use Prim.Native.Nat.{ℕ, _+_, _-_, _*_, _/_, _%_, _≤_, _<_};
+ghost use Prim.Native.Nat.{ℕ, _+_, _-_, _*_, _/_, _%_, _^_, _≤_, _<_};
 ghost use lib.Dec.{T, eqb, leb};
 ghost use lib.ListN.{length, replicate};
 ghost use Rattle.table.specs.Find.{one};
-ghost use Rattle.table.specs.Bytes.{functions, nodes, params};
+ghost use Rattle.table.specs.Bytes.{functions, nodes, params, width};
 ghost use Rattle.table.specs.Check.{countsOf, counted};
 ghost use Rattle.table.specs.Working.{IsNode, IsFunction, Framed};
 ghost use Rattle.table.specs.Sweep.{ruleAt, kindRules, operationRules, Handed, RootsFit, Kids, Wanted, KindFits};
@@ -65,19 +65,30 @@ fn rule(rules: &[u16; 64], kind: u16, j: usize) -> u32
     rules[8 * k + j] as u32
 }
 
-// The highest word that a node of function `owner` may have: a call's is a callee, with its own function in tail position alone.
-fn most_word(rules: &[u16; 64], kind: u16, owner: Function, tail: u32) -> u64
+// The highest constant that function f may have, without a branch on a width byte of 0.
+fn highest(table: &[u8], f: Function) -> u32
+    requires { ⌜ Framed (now table) × RootsFit (now table) (functions (now table)) × IsFunction (now table) (f .0) ⌝ }
+    ensures { λ r. ⌜ r + 1 ≡ 2 ^ width (now (table .entry)) (f .0) ⌝ }
+{
+    let byte = records::width_byte(table, f);
+    4294967295u32 >> ((32 - byte) % 32)
+}
+
+// The highest word that a node of function `owner`, whose highest constant is `most`, may have: a call's is a callee, with its own
+// function in tail position alone.
+fn most_word(rules: &[u16; 64], kind: u16, owner: Function, most: u32, tail: u32) -> u64
     requires { ⌜ (now rules ≡ kindRules 8) × (kind < 8) × (1 ≤ owner .0) × (owner .0 ≤ 32) × (tail ≤ 1) ⌝ }
-    ensures { λ r. ⌜ r ≡ (owner .0 + tail - 1) * ruleAt kind 2 + ruleAt kind 6 * 4294967295 ⌝ }
+    ensures { λ r. ⌜ r ≡ (owner .0 + tail - 1) * ruleAt kind 2 + ruleAt kind 6 * most ⌝ }
 {
     if rule(rules, kind, kinds::CALL) == 1 {
         (owner.0 as u64) + (tail as u64) - 1
     } else {
-        (rule(rules, kind, kinds::WORDS) as u64) * 4294967295
+        (rule(rules, kind, kinds::WORDS) as u64) * (most as u64)
     }
 }
 
-// Extra, word, and 6, 8 and 9 for calls and parameters, of a node of function `owner`, which has `params` parameters.
+// Extra, word, 6, 8 and 9 for calls and parameters and 25 for constants, of a node of function `owner`, which has `params` parameters and
+// whose highest constant is `most`.
 fn kind_fits(
     rules: &[u16; 64],
     kind: u16,
@@ -85,10 +96,11 @@ fn kind_fits(
     word: u64,
     owner: Function,
     params: u32,
+    most: u32,
     tail: u32,
 ) -> bool
     requires { ⌜ (now rules ≡ kindRules 8) × (kind < 8) × (1 ≤ owner .0) × (owner .0 ≤ 32) × (params ≤ 8) × (tail ≤ 1) ⌝ }
-    ensures { λ r. ⌜ (r ≡ true → KindFits kind extra word (owner .0) params tail) ⌝ }
+    ensures { λ r. ⌜ (r ≡ true → KindFits kind extra word (owner .0) params (most + 1) tail) ⌝ }
 {
     let below = params * rule(rules, kind, kinds::PARAMETER) + rule(rules, kind, kinds::EXTRAS);
     if below <= extra {
@@ -98,7 +110,7 @@ fn kind_fits(
     if word < call {
         return false;
     }
-    word <= most_word(rules, kind, owner, tail)
+    word <= most_word(rules, kind, owner, most, tail)
 }
 
 // The parameters of a call's callee; of what is no call, anything.
@@ -168,7 +180,8 @@ fn node(
     let end = ending(records::next(table, base, n));
     let tail = tail_at(inherited / 2048, own / 65536 + 1024 * end);
     let params = records::params(table, owner) as u32;
-    if !kind_fits(rules, kind, extra, word, owner, params, tail) {
+    let most = highest(table, owner);
+    if !kind_fits(rules, kind, extra, word, owner, params, most, tail) {
         return failed();
     }
     let call = rule(rules, kind, kinds::CALL);

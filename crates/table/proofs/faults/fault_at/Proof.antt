@@ -4,14 +4,16 @@ use borrow.Author.Needs.{needs}
 use mathlib.Core.Path.{_≡_, sym, _∙_}
 use mathlib.Core.Bool.{Bool, true, not, _||_, _&&_}
 use mathlib.Core.List.{List}
-use Prim.Native.Nat.{ℕ}
-use lib.Dec.{eqb}
+use Prim.Native.Nat.{ℕ, _^_}
+use lib.Dec.{eqb, ltb}
 use native.Mathlib.Omega.{arith}
-use Rattle.table.specs.Bytes.{first}
-use Rattle.table.specs.Check.{among, fields, formed, calleeFits, counted, scoped, tailed}
-use Rattle.table.specs.Working.{faultAt, NodeAt}
-use Rattle.table.proofs.CellLaws.{word-read}
-use Rattle.table.proofs.CountLaws.{told-formed, told-callee, told-tailed, callee-in}
+use Rattle.table.specs.Bytes.{bits, first}
+use Rattle.table.specs.Decoded.{cellAt, functionSlot}
+use Rattle.table.specs.Check.{among, fields, formed, calleeFits, counted, scoped, tailed, constFits}
+use Rattle.table.specs.Working.{faultAt, IsFunction, NodeAt}
+use Rattle.table.proofs.CellLaws.{word-read, width-read}
+use Rattle.table.proofs.CountLaws.{told-formed, told-callee, told-tailed, told-const, callee-in}
+use Rattle.table.proofs.Family.{owner-in}
 use Rattle.table.proofs.faults.fault_at.Statement.{statement}
 use Rattle.table.proofs.faults.fault_at.Tie as tie
 
@@ -66,6 +68,16 @@ module _ (c : tie.After-first) where
   tailed-by : (b : Bool) → b ≡ (not (eqb k 4 && eqb w own) || start .args .tail) → Says tailed start b
   tailed-by b e = sym (e ∙ told-tailed _ _ _ _ _ _ _ (node-at .kinded) (node-at .extras) (node-at .worded) firsts
       (start .pre .1 .0) _ (start .pre .1 .1))
+
+  const-by : (b : Bool) (x : ℕ) → x ≡ bits (cellAt (start .args .cells .now) (functionSlot own) 1) → b ≡ (not (eqb k 1) || ltb w (2 ^ x))
+      → Says constFits start b
+  const-by b x ex e =
+      let p = start .pre .0 in
+      let i = owner-in _ (p .links) _ (p .node) in
+      let o = start .pre .1 .0 in
+      let f : IsFunction (start .args .table .now) own = (omega (arith, o, i .0), omega (arith, o, i .1)) in
+      sym (e ∙ told-const _ _ _ _ _ _ _ (node-at .kinded) (node-at .extras) (node-at .worded) firsts o _
+      (ex ∙ width-read _ _ _ (p .read) _ f))
 
 -- the tests that were passed
 abbrev start1 : tie.Else1 → tie.Start
@@ -162,6 +174,24 @@ returns-4 c =
       sym (told .scope-fits .ensures) ∙ not-true _ (c .if4 .taken),
     )
 
+abbrev start5 : tie.Else5 → tie.Start
+start5 c = search
+
+tail-passed : (c : tie.Else5) → Says tailed (start5 c) true
+tail-passed c =
+    let told : tie.After-tail-fits = search in
+    tailed-by (search) _ (told .tail-fits .ensures) ∙ not-false _ (c .if5 .left)
+
+-- the width is that of the node's function
+abbrev start-const : tie.After-const-fits → tie.Start
+start-const c = search
+
+const-told : (c : tie.After-const-fits) → Says constFits (start-const c) (c .const-fits .result)
+const-told c =
+    let width : tie.After-width = search in
+    let r : tie.After-first = search in
+    const-by r _ _ (width .width .ensures) (c .const-fits .ensures)
+
 tail-fits-requires : tie.Need-tail-fits-requires
 tail-fits-requires c κs = search needs
 
@@ -177,16 +207,36 @@ returns-5 c =
       tailed-by (search) _ (told .tail-fits .ensures) ∙ not-true _ (c .if5 .taken),
     )
 
+width-requires : tie.Need-width-requires
+width-requires c κs = search needs
+
+const-fits-requires : tie.Need-const-fits-requires
+const-fits-requires c κs = search needs
+
 returns-6 : tie.Need-returns-6
 unfolding faultAt
 returns-6 c =
-    let told : tie.After-tail-fits = search in
+    let told : tie.After-const-fits = search in
     simp (
       formed-passed (search),
       callee-passed (search),
       count-passed (search),
       scope-passed (search),
-      tailed-by (search) _ (told .tail-fits .ensures) ∙ not-false _ (c .if5 .left),
+      tail-passed (search),
+      const-told told ∙ not-true _ (c .if6 .taken),
+    )
+
+returns-7 : tie.Need-returns-7
+unfolding faultAt
+returns-7 c =
+    let told : tie.After-const-fits = search in
+    simp (
+      formed-passed (search),
+      callee-passed (search),
+      count-passed (search),
+      scope-passed (search),
+      tail-passed (search),
+      const-told told ∙ not-false _ (c .if6 .left),
     )
 
 pub fault-at-spec : {M : Type 1} → statement M
@@ -207,4 +257,7 @@ fault-at-spec =
     returns-4
     tail-fits-requires
     returns-5
-    returns-6)
+    width-requires
+    const-fits-requires
+    returns-6
+    returns-7)

@@ -3,15 +3,16 @@ use native.Mathlib.Omega.{arith}
 use borrow.Author.Needs.{needs}
 use borrow.Author.Tests.{not-true, not-false}
 use mathlib.Core.Bool.{true}
-use mathlib.Core.Path.{_≡_, refl, sym, ap₂, _∙_}
+use mathlib.Core.Path.{_≡_, refl, sym, ap, ap₂, _∙_}
 use Prim.Native.Nat.{_+_, _-_, _≤_}
 use Rattle.table.specs.Bytes.{functions}
 use Rattle.table.specs.Find.{all}
 use Rattle.table.specs.Check.{recordFits}
 use Rattle.table.specs.Working.{IsFunction}
 use Rattle.table.proofs.Loops.{all-more, all-fails}
+use Rattle.table.proofs.WidthLaws.{bits-few}
 use mathlib.Core.Bool.{_&&_}
-use lib.Dec.{leb, eqb}
+use lib.Dec.{leb}
 use Rattle.table.proofs.frame.records_fit.Statement.{statement}
 use Rattle.table.proofs.frame.records_fit.Tie as tie
 
@@ -52,11 +53,11 @@ tests : (c : Told) → let t = turn c in c .record-fits .result ≡ recordFits (
 unfolding recordFits
 tests c =
     let params : tie.After-params Inv-loop μ-loop = search in
-    let spare : tie.After-spare Inv-loop μ-loop = search in
+    let width : tie.After-width Inv-loop μ-loop = search in
     let t = turn c in
-    c .record-fits .ensures ∙ ap₂ (λ n m. leb n 8 && eqb m 0)
+    c .record-fits .ensures ∙ ap₂ (λ n b. leb n 8 && b)
     (params .params .ensures ∙ s t .pre .1 .function _ 0 (function t) (omega arith))
-    (spare .spare .ensures ∙ s t .pre .1 .function _ 1 (function t) (omega arith))
+    (ap (λ n. leb n 32) (width .width .ensures) ∙ bits-few _ ∙ ap (λ n. leb n 32) (s t .pre .1 .function _ 1 (function t) (omega arith)))
 
 last-function-requires : tie.Need-last-function-requires Inv-loop μ-loop
 last-function-requires c κs =
@@ -75,8 +76,8 @@ add-f c = omega arith
 params-requires : tie.Need-params-requires Inv-loop μ-loop
 params-requires c κs = search needs
 
-spare-requires : tie.Need-spare-requires Inv-loop μ-loop
-spare-requires c κs = search needs
+width-requires : tie.Need-width-requires Inv-loop μ-loop
+width-requires c κs = search needs
 
 record-fits-requires : tie.Need-record-fits-requires Inv-loop μ-loop
 record-fits-requires c κs = search needs
@@ -113,7 +114,7 @@ records-fit-spec =
     loop-holds
     add-f
     params-requires
-    spare-requires
+    width-requires
     record-fits-requires
     returns
     loop-less

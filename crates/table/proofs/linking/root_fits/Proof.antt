@@ -22,8 +22,8 @@ params-requires c κs = search needs
 returns-3 : tie.Need-returns-3
 returns-3 c = never
 
-spare-requires : tie.Need-spare-requires
-spare-requires c κs = search needs
+width-byte-requires : tie.Need-width-byte-requires
+width-byte-requires c κs = search needs
 
 returns-4 : tie.Need-returns-4
 returns-4 c = never
@@ -46,14 +46,14 @@ returns-5 c e =
     let s : tie.Start = search in
     let root : tie.After-root = search in
     let params : tie.After-params = search in
-    let spare : tie.After-spare = search in
+    let width : tie.After-width-byte = search in
     let next : tie.After-next = search in
     let low : tie.Else1 = search in
     let high : tie.Else2 = search in
     let few : tie.Else3 = search in
-    let none : tie.Else4 = search in
-    root-told _ _ _ _ _ _ (root .root .ensures) (params .params .ensures) (spare .spare .ensures) (next .next .ensures) (low .if1 .left)
-    (omega (arith, high .if2 .left, s .pre .3)) (few .if3 .left) (none .if4 .left) (eqb-true _ _ e)
+    let narrow : tie.Else4 = search in
+    root-told _ _ _ _ _ _ (root .root .ensures) (params .params .ensures) (width .width-byte .ensures) (next .next .ensures)
+    (low .if1 .left) (omega (arith, high .if2 .left, s .pre .3)) (few .if3 .left) (narrow .if4 .left) (eqb-true _ _ e)
 
 pub root-fits-spec : {M : Type 1} → statement M
 root-fits-spec =
@@ -64,7 +64,7 @@ root-fits-spec =
     returns-2
     params-requires
     returns-3
-    spare-requires
+    width-byte-requires
     returns-4
     next-requires
     returns-5)

@@ -57,7 +57,7 @@ returns-3 c e =
     let low : tie.Else1 = search in
     let some : tie.Else2 = search in
     let s = start p in
-    fits-told _ _ _ _ _ _ _ _ _ (s .pre .1) (p .rule .ensures) (b .rule2 .ensures) (k .rule3 .ensures) (s .pre .2) (s .pre .4) (s .pre .5)
+    fits-told _ _ _ _ _ _ _ _ _ _ (s .pre .1) (p .rule .ensures) (b .rule2 .ensures) (k .rule3 .ensures) (s .pre .2) (s .pre .4) (s .pre .5)
     (low .if1 .left) (some .if2 .left) (omega (arith, w .most-word .ensures, leb-true (s .args .word) (w .most-word .result) e))
 
 pub kind-fits-spec : {M : Type 1} → statement M

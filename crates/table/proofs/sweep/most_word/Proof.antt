@@ -3,18 +3,18 @@ use native.Mathlib.Omega.{arith}
 use Prim.Native.Nat.{ℕ, _+_, _*_}
 use mathlib.Core.Path.{_≡_, sym, _∙_}
 use lib.Dec.{eqb}
-use borrow.Author.Needs.{needs}
+use borrow.Author.Needs.{needs, scaled-fits}
 use Rattle.table.specs.Sweep.{ruleAt}
-use Rattle.table.proofs.RuleLaws.{one-yes, one-most}
+use Rattle.table.proofs.RuleLaws.{one-yes, one-most, rule-small}
 use Rattle.table.proofs.sweep.most_word.Statement.{statement}
 use Rattle.table.proofs.sweep.most_word.Tie as tie
 
 -- of a call, and of all else
-called : (k x : ℕ) → ruleAt k 2 ≡ 1 → x ≡ x * ruleAt k 2 + ruleAt k 6 * 4294967295
-called k x e = let z = one-yes k 4 e in rw z (omega arith)
+called : (k x m : ℕ) → ruleAt k 2 ≡ 1 → x ≡ x * ruleAt k 2 + ruleAt k 6 * m
+called k x m e = let z = one-yes k 4 e in rw z (omega arith)
 
-other : (k x w : ℕ) → (ruleAt k 2 ≡ 1 → ⊥) → w ≡ ruleAt k 6 → w * 4294967295 ≡ x * ruleAt k 2 + ruleAt k 6 * 4294967295
-other k x w n e =
+other : (k x w m : ℕ) → (ruleAt k 2 ≡ 1 → ⊥) → w ≡ ruleAt k 6 → w * m ≡ x * ruleAt k 2 + ruleAt k 6 * m
+other k x w m n e =
     let z : ruleAt k 2 ≡ 0 = omega (arith, n, one-most (eqb k 4)) in
     rw (z, e) (omega arith)
 
@@ -37,14 +37,17 @@ cast-result-2 : tie.Need-cast-result-2
 cast-result-2 c = search needs
 
 mul-result : tie.Need-mul-result
-mul-result c = search needs
+mul-result c =
+    let s : tie.Start = search in
+    let w : tie.After-rule2 = search in
+    scaled-fits _ 4098 _ (omega (arith, w .rule2 .ensures, rule-small (s .args .kind) 6)) (omega arith)
 
 returns : tie.Need-returns
 returns c =
     let s : tie.Start = search in
     let r : tie.After-rule = search in
     let t : tie.Then1 = search in
-    called (s .args .kind) _ (sym (r .rule .ensures) ∙ t .if1 .taken)
+    called (s .args .kind) _ (s .args .most) (sym (r .rule .ensures) ∙ t .if1 .taken)
 
 returns-2 : tie.Need-returns-2
 returns-2 c =
@@ -52,7 +55,7 @@ returns-2 c =
     let r : tie.After-rule = search in
     let w : tie.After-rule2 = search in
     let t : tie.Else1 = search in
-    other (s .args .kind) _ _ (λ e. t .if1 .left (r .rule .ensures ∙ e)) (w .rule2 .ensures)
+    other (s .args .kind) _ _ _ (λ e. t .if1 .left (r .rule .ensures ∙ e)) (w .rule2 .ensures)
 
 pub most-word-spec : {M : Type 1} → statement M
 most-word-spec =

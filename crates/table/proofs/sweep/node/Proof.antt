@@ -90,7 +90,10 @@ module _ (c : Read) where
 
 -- and of its function, with its tail position
 abbrev Fitting : Type 0
-Fitting = tie.After-params
+Fitting = tie.After-highest
+
+abbrev counts : Fitting → tie.After-params
+counts c = search
 
 abbrev read : Fitting → Read
 read c = search
@@ -113,8 +116,8 @@ tail-most p = let r = read p in omega (
   one-most (leb (s r .args .inherited / 2048) (s r .args .own / 65536 + 1024 * r .ending .result)),
 )
 
-params-told : (p : Fitting) → p .params .result ≤ 8
-params-told p = let r = read p in omega (arith, p .params .ensures, params-few _ (node r .roots) _ (function r))
+params-told : (p : Fitting) → counts p .params .result ≤ 8
+params-told p = let r = read p in omega (arith, counts p .params .ensures, params-few _ (node r .roots) _ (function r))
 
 -- and that it is a call or none
 abbrev Called : Type 0
@@ -134,7 +137,7 @@ module _ (k : Called) where
   start = read fitting
 
   fits : KindFits (of start .kind .result) (extras start .extra .result) (words start .word .result) (owners start .owner .result .0)
-      (fitting .params .result) (tails fitting .tail-at .result)
+      (counts fitting .params .result) (fitting .highest .result + 1) (tails fitting .tail-at .result)
   fits = fitted .kind-fits .ensures (not-false _ (passed .if2 .left))
 
   call : k .rule .result ≡ one (eqb (of start .kind .result) 4)
@@ -232,6 +235,11 @@ params-requires c κs =
 
 cast-params : tie.Need-cast-params
 cast-params c = search needs
+
+highest-requires : tie.Need-highest-requires
+highest-requires c κs =
+    let r : Read = search in
+    (node r .place .framed, node r .roots, function r)
 
 kind-fits-requires : tie.Need-kind-fits-requires
 kind-fits-requires c κs =
@@ -338,8 +346,8 @@ returns-3 c e =
     let scope = inner d .innermost .result .0 in
     record {
       ending = tail;
-      fits = fits-here _ _ _ _ _ _ _ _ (of r .kind .ensures) (extras r .extra .ensures) (words r .word .ensures) (owns r)
-          (p .params .ensures) (fits k);
+      fits = fits-here _ _ _ _ _ _ _ _ _ (of r .kind .ensures) (extras r .extra .ensures) (words r .word .ensures) (owns r)
+          (counts p .params .ensures) (p .highest .ensures) (fits k);
       heir = λ w e. (
         tail-known p w e,
         ap (λ x. scope + 1024 * (x + 4096 - 4096 * tail)) (d .rule2 .ensures)
@@ -369,6 +377,7 @@ node-spec =
     tail-at-requires
     params-requires
     cast-params
+    highest-requires
     kind-fits-requires
     failed-requires-2
     returns-2

@@ -1,9 +1,9 @@
--- `records::spare` meets its contract.
+-- `records::width_byte` meets its contract.
 use mathlib.Core.Path.{refl, _∙_}
-use Rattle.table.proofs.DecodeLaws.{spare-byte}
+use Rattle.table.proofs.DecodeLaws.{second-byte}
 use borrow.Author.Needs.{needs}
-use Rattle.table.proofs.records.spare.Statement.{statement}
-use Rattle.table.proofs.records.spare.Tie as tie
+use Rattle.table.proofs.records.width_byte.Statement.{statement}
+use Rattle.table.proofs.records.width_byte.Tie as tie
 
 cast-at : tie.Need-cast-at
 cast-at c = search needs
@@ -24,8 +24,8 @@ returns : tie.Need-returns
 returns c =
     let s : tie.Start = search in
     let told : tie.After-wide = search in
-    told .wide .ensures ∙ spare-byte _ _ _ (s .pre .1) refl
+    told .wide .ensures ∙ second-byte _ _ _ (s .pre .1) refl
 
-pub spare-spec : {M : Type 1} → statement M
-spare-spec =
+pub width-byte-spec : {M : Type 1} → statement M
+width-byte-spec =
     tie.close (tie.spec cast-at mul-at add-wide shared-slice-read-wide wide-requires returns)
