@@ -40,4 +40,5 @@ pub mod Bodies
 pub mod LaidOut
 pub mod Widths
 pub mod CheckedDesigns
+pub mod WidthCases
 pub mod Theorems

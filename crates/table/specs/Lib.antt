@@ -12,3 +12,4 @@ pub mod Survey
 pub mod Working
 pub mod Sweep
 pub mod Designs
+pub mod WidthDesigns
