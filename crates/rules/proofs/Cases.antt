@@ -9,6 +9,7 @@ use Rattle.list.specs.Arbiters.{noCalls, joined, anyUpTo, callsIn, meeting, par
 use Rattle.list.specs.Tags.{tagged, isCall, calleeOf, listed, bitsFrom, bytesFrom, tagLength, tagsOf, nonePast, tagFits, tagsRefusal}
 use Rattle.list.specs.Tags.{after, checkWith}
 use Rattle.rules.specs.Operations.{lastValue, wrap, operate}
+use Rattle.rules.specs.Arithmetic.{narrow}
 use Rattle.rules.specs.State.{State512, entry, write, register, alter, fill, clear, opened, blank, circuitStart, In, zeros}
 use Rattle.rules.specs.Step.{Reply, taken, answered, denied, over, Stepped, circuitStep}
 use Rattle.rules.specs.Play.{Ask, asks, noted, played}
@@ -64,7 +65,7 @@ in-ends zero v = inl refl
 in-ends (suc k) v = inr (in-ends k v)
 
 -- what such steps show of the reading
-reads : (t tags args ns : List ℕ) (k v : ℕ) → Starts t tags args → says t tags args ns ≡ ends k v → ReadsTo t args v (suc k)
+pub reads : (t tags args ns : List ℕ) (k v : ℕ) → Starts t tags args → says t tags args ns ≡ ends k v → ReadsTo t args v (suc k)
 unfolding playsOf playOf
 reads t tags args ns k v s e =
     subst (ReadsTo t args v) (played-tally (stepOf t) (from t tags args) (asks tags ns) ∙ ap tally e ∙ tally-ends k v)
@@ -79,8 +80,8 @@ list-open = tt
 
 unfoldable pub circuit-open : Unit {0}
 unfolding list-open check-open tagged nonePast tagFits tagsRefusal after checkWith checkStart startAfter startOf circuitOf stepAfter stepOf
-    playsOf playOf circuitStep circuitStart over entry write register alter fill clear opened blank lastValue wrap operate standing runFrom
-    runOf
+    playsOf playOf circuitStep circuitStart over entry write register alter fill clear opened blank lastValue wrap operate narrow
+    standing runFrom runOf
 circuit-open = tt
 
 -- the arbiter lists as tag bytes: empty; {3, 5}; {2, 5, 7}; empty

@@ -10,7 +10,7 @@ use lib.ListN.{getD, set}
 use Rattle.table.specs.Syntax.{Expr, Exprs, const, param, prim, call, self, cond, bind, bound, none, some, id}
 use Rattle.table.specs.Environment.{values}
 use Rattle.table.specs.Pick.{pick}
-use Rattle.table.specs.Bytes.{twoAt, fourAt, functions, nodes, nodeAt, word}
+use Rattle.table.specs.Bytes.{twoAt, fourAt, functions, nodes, nodeAt, word, width}
 use Rattle.table.specs.Naming.{owner}
 use Rattle.table.specs.Expressions.{exprAt, bodyOf}
 use Rattle.table.specs.Working.{IsNode}
@@ -22,10 +22,11 @@ use Rattle.rules.specs.State.{State512, view, entry, write, register, al
 use Rattle.rules.specs.Step.{Act, stuck, blocked, does, Move, begins, turns, finishes, enters, leaves, restarts, done, all-done}
 use Rattle.rules.specs.Step.{branch, act, mine, reset, finish, perform}
 use Rattle.rules.specs.Operations.{lastValue, wrap, operate}
-use Rattle.rules.specs.Arithmetic.{Arithmetic, handed, arithmetic}
+use Rattle.rules.specs.Arithmetic.{Arithmetic, handed, narrow, arithmetic}
 use Rattle.rules.specs.Play.{Ask, played}
 use Rattle.rules.specs.Circuit.{started, opening, startOf, stepOf, playsOf}
 use Rattle.rules.specs.Companions.{Word, Words, Bytes, Fits}
+use Rattle.rules.proofs.Narrow.{narrow-less}
 use Rattle.rules.proofs.ActCases.{by-pick, by-state}
 use Rattle.rules.proofs.StepCases.{step-cases}
 use Rattle.rules.proofs.Demands.{start-passes}
@@ -70,11 +71,14 @@ pub record WordUnits (units : Arithmetic) : Type 0 where
   pub operated : (f op : ℕ) (vs : List ℕ) → Words vs → Word (units .operate f op vs)
   pub kept : (f v : ℕ) → Word v → Word (units .keep f v)
 
--- the arithmetic of a table does
-pub table-words : (t : List ℕ) → WordUnits (arithmetic t)
-table-words t = record { operated = λ f. operate-word; kept = λ f v w. w }
+-- the arithmetic of a table does: what is reduced is no greater
+table-words : (t : List ℕ) → WordUnits (arithmetic t)
+table-words t = record { operated = λ f op vs w. less f (operate op vs) (operate-word op vs w); kept = less }
+  where
+    less : (f v : ℕ) → Word v → Word (narrow (width t f) v)
+    less f v w = omega (arith, narrow-less (width t f) v, w)
 
-pub handed-words : (units : Arithmetic) → WordUnits units → (f : ℕ) (vs : List ℕ) → Words vs → Words (handed units f vs)
+handed-words : (units : Arithmetic) → WordUnits units → (f : ℕ) (vs : List ℕ) → Words vs → Words (handed units f vs)
 handed-words units ok f [] w i = w i
 handed-words units ok f (v ∷ vs) w zero = ok .kept f v (w 0)
 handed-words units ok f (v ∷ vs) w (suc i) = handed-words units ok f vs (λ j. w (suc j)) i

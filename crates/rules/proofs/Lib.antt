@@ -3,6 +3,7 @@ pub mod Theorems
 pub mod Cases
 pub mod OddStates
 pub mod OperationCases
+pub mod WidthCases
 -- from bytes to the abstract circuit: the demand over tables, the own list, any state, the runs, 32-bit values
 pub mod Demands
 pub mod OwnList
@@ -11,7 +12,10 @@ pub mod RunFacts
 pub mod TakenSteps
 pub mod Fits
 pub mod EveryState
-pub mod ReadingFits
+-- widths: reduced operands, and the values that a reading meets
+pub mod Narrow
+pub mod MetFacts
+pub mod MetBelow
 -- the step on lists: what a write reads as, what a move changes, the cases of a step, when it is refused, what it keeps
 pub mod StateLaws
 pub mod Performed

@@ -2,6 +2,7 @@
 use mathlib.Core.Path.{_≡_, refl}
 use mathlib.Core.List.{[], _∷_}
 use Rattle.rules.specs.Operations.{lastValue, wrap, operate}
+use Rattle.rules.specs.Arithmetic.{narrow}
 
 -- add, subtract and double wrap modulo 2^32
 wrapping : (operate 0 (3 ∷ 4 ∷ []) ≡ 7) × (operate 0 (4294967295 ∷ 2 ∷ []) ≡ 1) × (operate 1 (7 ∷ 4 ∷ []) ≡ 3)
@@ -29,3 +30,14 @@ comparing = (refl, refl, refl, refl, refl, refl)
 besides : (operate 10 (4 ∷ []) ≡ 4) × (operate 10 (4 ∷ 5 ∷ 6 ∷ []) ≡ 6)
 unfolding operate wrap lastValue
 besides = (refl, refl)
+
+-- in 4 bits: 9 + 9, 0 - 1 and twice 9 wrap; 32 bits are kept whole, and of 1 bit the lowest
+narrowing : (narrow 4 (operate 0 (9 ∷ 9 ∷ [])) ≡ 2) × (narrow 4 (operate 1 (0 ∷ 1 ∷ [])) ≡ 15) × (narrow 4 (operate 5 (9 ∷ [])) ≡ 2)
+    × (narrow 32 4294967295 ≡ 4294967295) × (narrow 1 6 ≡ 0) × (narrow 1 7 ≡ 1)
+unfolding operate wrap lastValue narrow
+narrowing = (refl, refl, refl, refl, refl, refl)
+
+-- halve, unlike the operations 0 to 5, tells whether its operand was reduced first
+halving-order : (narrow 4 (operate 6 (16 ∷ [])) ≡ 8) × (narrow 4 (operate 6 (narrow 4 16 ∷ [])) ≡ 0)
+unfolding operate wrap lastValue narrow
+halving-order = (refl, refl)

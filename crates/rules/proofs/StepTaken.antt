@@ -81,7 +81,7 @@ module _ (units : Arithmetic) {F N : ℕ} {body at : ℕ → Expr} {home : ℕ �
         (λ e. (
           fn-g .0,
           fn-g .1,
-          omega (arith, length-handed units g s es, laid .narrow h (call n g es) r p),
+          omega (arith, length-handed units g s es, laid .few h (call n g es) r p),
           own-root g fn-g,
           elsewhere,
         )) (λ e. tt))
@@ -104,7 +104,7 @@ module _ (units : Arithmetic) {F N : ℕ} {body at : ℕ → Expr} {home : ℕ �
           λ i. apart-sub (self n es) (body h) (laid .well .apart h r) p .0 (root-node n es i),
         ))
         (λ b. by-pick (FairAct F N home body n) (all-done s es) _ _
-        (λ e. (r .0, r .1, omega (arith, length-handed units h s es, laid .narrow h (self n es) r p), own-root h r)) (λ e. tt)) tt
+        (λ e. (r .0, r .1, omega (arith, length-handed units h s es, laid .few h (self n es) r p), own-root h r)) (λ e. tt)) tt
     act-fair (cond n a b c) p = by-state (FairAct F N home body n) (s .status n) _ _
         (λ o. (
           λ m i. ⊎-elim (λ e. range (cond n a b c) p m (inr (inl (subst (λ y. Node y a) (sym e) (node-id a))))) absurd i,

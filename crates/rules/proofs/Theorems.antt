@@ -8,12 +8,14 @@ use Rattle.rules.specs.Play.{Ask}
 use Rattle.rules.specs.Circuit.{started, startOf}
 use Rattle.rules.specs.Demand.{ThirdDemand, ReadingUnique}
 use Rattle.rules.specs.Companions.{UnderAnyTags, OwnStart, OwnList, ReadingFixed, ReadingWord, FitsFromStart, InAnyState, AfterSteps}
+use Rattle.rules.specs.Widths.{NarrowFirst, FunctionBelow, ReadingBelow, AnswerBelow}
 use Rattle.rules.proofs.Demands as Demands
 use Rattle.rules.proofs.OwnList as OwnLists
 use Rattle.rules.proofs.EveryState as EveryState
 use Rattle.rules.proofs.RunFacts as RunFacts
 use Rattle.rules.proofs.Fits as FitsProof
-use Rattle.rules.proofs.ReadingFits as ReadingFits
+use Rattle.rules.proofs.Narrow as Narrow
+use Rattle.rules.proofs.MetBelow as Meets
 
 -- Demand 3, "one claim about the whole list of steps": for every table, tags and arguments that start takes, the tags holding the
 -- arbiter list, and every list ns of asked numbers, which "may be empty or go on past the answer", "0 and above N too"
@@ -36,7 +38,21 @@ pub reading-fixed : (t : List ℕ) (F N : ℕ) → checkOf t ≡ accepted F N �
 reading-fixed = Demands.reading-fixed
 
 pub reading-word : ReadingWord
-reading-word = ReadingFits.reading-word
+reading-word = Meets.reading-word
+
+-- widths, each claim once for any w: six operations don't tell whether their operands were reduced first ..
+pub narrow-first : NarrowFirst
+narrow-first = Narrow.narrow-first
+
+-- .. and no value that is met in a function is 2^w or more: in one function, in a whole reading, and of the circuit's answer
+pub function-below : FunctionBelow
+function-below = Meets.function-below
+
+pub reading-below : ReadingBelow
+reading-below = Meets.reading-below
+
+pub answer-below : AnswerBelow
+answer-below = Meets.answer-below
 
 -- over steps from a start, "its table being the table of every step", the tags free to change at each
 pub under-any-tags : (t tags args : List ℕ) (s : State512) → startOf t tags args ≡ started s → (asked : List (Ask (List ℕ)))

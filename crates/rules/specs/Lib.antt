@@ -6,5 +6,8 @@ pub mod Play
 pub mod Circuit
 pub mod Runs
 pub mod Reading
+pub mod Met
 pub mod Demand
 pub mod Companions
+pub mod Widths
+pub mod NarrowDesigns

@@ -1,0 +1,40 @@
+-- what is claimed of widths, once for any w: the order of reducing makes no difference to six operations, and no value that the reading
+-- meets in a function is 2^w or more
+use Prim.Native.Nat.{ℕ, _≤_}
+use mathlib.Core.Path.{_≡_}
+use mathlib.Core.List.{List, map}
+use Rattle.table.specs.Syntax.{Expr, const, Sub}
+use Rattle.table.specs.Bytes.{functions, width}
+use Rattle.table.specs.Check.{accepted, checkOf}
+use Rattle.table.specs.Expressions.{bodyOf}
+use Rattle.table.specs.Well.{Below}
+use Rattle.rules.specs.Operations.{operate}
+use Rattle.rules.specs.Arithmetic.{narrow, narrowed, arithmetic}
+use Rattle.rules.specs.State.{State512}
+use Rattle.rules.specs.Play.{Ask}
+use Rattle.rules.specs.Circuit.{started, startOf, playsOf}
+use Rattle.rules.specs.Reading.{Readings, Rounds, ReadsTo}
+use Rattle.rules.specs.Demand.{Answers}
+use Rattle.rules.specs.Companions.{Words}
+use Rattle.rules.specs.Met.{MetIn, MetBelow}
+
+-- operations 0 to 5, add to double: "reduced, are the same whether their operands were reduced first or not"
+abbrev pub NarrowFirst : Type 0
+NarrowFirst = (w : ℕ) → w ≤ 32 → (op : ℕ) → op ≤ 5 → (vs : List ℕ) → Words vs
+    → narrow w (operate op (map (narrow w) vs)) ≡ narrow w (operate op vs)
+
+-- one function, its constants below 2^w: so is what any reading of its body meets, whatever its callees read to, and its value
+abbrev pub FunctionBelow : Type 1
+FunctionBelow = (width : ℕ → ℕ) (body : ℕ → Expr) (K : Readings) (f : ℕ) → ((m v : ℕ) → Sub (const m v) (body f) → Below (width f) v)
+    → (vs : List ℕ) (v k : ℕ) (r : Rounds (narrowed width) body K f vs v k)
+    → MetIn width (narrowed width) body K (λ g us u j h. Unit {0}) f vs v k r × Below (width f) v
+
+-- a table: main's whole reading, its callees' too, each function by its own width; and main's value by main's
+abbrev pub ReadingBelow : Type 0
+ReadingBelow = (t args : List ℕ) (F N : ℕ) → checkOf t ≡ accepted F N → (v k : ℕ) (h : ReadsTo t args v k)
+    → MetBelow (width t) (arithmetic t) (bodyOf t) (functions t) (functions t) args v k h × Below (width t (functions t)) v
+
+-- and so the circuit's answer, from any start and whatever the steps and tags
+abbrev pub AnswerBelow : Type 0
+AnswerBelow = (t tags args : List ℕ) (s : State512) → startOf t tags args ≡ started s → (asked : List (Ask (List ℕ))) (v : ℕ)
+    → Answers (playsOf t s asked) v → Below (width t (functions t)) v
