@@ -6,13 +6,14 @@ use mathlib.Core.List.{List}
 use lib.ListN.{length, getD, replicate, List·getD-map}
 use borrow.Author.Tests.{eq-eqb, ne-eqb}
 use Rattle.table.specs.Syntax.{id}
-use Rattle.table.specs.Bytes.{functions, root, params}
+use Rattle.table.specs.Bytes.{functions, width, root, params}
 use Rattle.table.specs.Check.{stage}
 use Rattle.table.specs.Expressions.{bodyOf}
 use Rattle.list.specs.Tags.{after, checkWith}
 use Rattle.rules.specs.State.{write, fill, blank, circuitStart}
 use Rattle.rules.specs.Arithmetic.{handed, arithmetic}
 use Rattle.rules.specs.Circuit.{started, opening, turned, startOf, checkStart, startAfter}
+use Rattle.rules.proofs.Narrow.{narrow-zero}
 use Rattle.circuit.specs.Meaning.{stateAs}
 use Rattle.table.specs.Working.{Taken}
 use Rattle.circuit.specs.Working.{Agreed}
@@ -21,7 +22,7 @@ use Rattle.table.specs.Check as TableCheck
 
 -- an argument, as a function keeps it; past the last it is 0
 pub handed-at : (t : List ℕ) (f : ℕ) (vs : List ℕ) (i : ℕ) → getD (handed (arithmetic t) f vs) i 0 ≡ arithmetic t .keep f (getD vs i 0)
-handed-at t f vs i = List·getD-map (arithmetic t .keep f) vs i 0
+handed-at t f vs i = ap (getD (handed (arithmetic t) f vs) i) (sym (narrow-zero (width t f))) ∙ List·getD-map (arithmetic t .keep f) vs i 0
 
 pub start-is : (t args : List ℕ) → Taken t → (a d : List ℕ) (r : ℕ) → r ≡ root t (functions t) → a ≡ write (replicate 512 0) r 1
     → d ≡ fill (functions t) (handed (arithmetic t) (functions t) args) (replicate 256 0)

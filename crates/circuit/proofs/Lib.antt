@@ -2,6 +2,7 @@ pub mod MeaningFacts
 pub mod StoreLaws
 pub mod ChainLaws
 pub mod OperationLaws
+pub mod WidthLaws
 pub mod ActBy
 pub mod PlanLaws
 pub mod GroupLaws

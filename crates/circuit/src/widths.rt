@@ -1,5 +1,6 @@
-// What a function keeps of a value that it computes, is handed or takes from a callee.
+// What a function keeps of a value that it computes, is handed or takes from a callee: the bits of its width.
 use table::Function;
+use table::decoded;
 use table::decoded::Cells;
 ghost use mathlib.Core.Path.{_≡_};
 ghost use Rattle.table.specs.Working.{IsFunction, Read};
@@ -9,5 +10,6 @@ pub(crate) fn keep(table: &[u8], cells: &Cells, f: Function, v: u32) -> u32
     requires { ⌜ Read (now table) (now cells) × IsFunction (now table) (f .0) ⌝ }
     ensures { λ r. ⌜ r ≡ arithmetic (now (table .entry)) .keep (f .0) v ⌝ }
 {
-    v
+    let over = 1u64 << decoded::width(cells, f);
+    ((v as u64) % over) as u32
 }

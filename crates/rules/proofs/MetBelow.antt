@@ -9,7 +9,7 @@ use Rattle.table.specs.Syntax.{Expr, const, Sub}
 use Rattle.table.specs.Pick.{mixed}
 use Rattle.table.specs.Bytes.{functions, width}
 use Rattle.table.specs.Expressions.{bodyOf}
-use Rattle.table.specs.Well.{Fn, Below, Wide}
+use Rattle.table.specs.Well.{Below, Wide}
 use Rattle.table.proofs.Theorems.{laid, wide}
 use Rattle.rules.specs.Operations.{operate}
 use Rattle.rules.specs.Arithmetic.{narrow, narrowed}

@@ -1,7 +1,7 @@
 -- reduced modulo 2^w: the result is below 2^w, and of the operations 0 to 5 it is the same whether the operands were reduced first or not
 use Prim.Native.Nat.{ℕ, zero, suc, _+_, _-_, _*_, _/_, _%_, _^_, _≤_, _<_}
-use mathlib.Core.Path.{_≡_, refl, subst, sym, ap, _∙_}
-use mathlib.Core.List.{List, [], _∷_, map}
+use mathlib.Core.Path.{_≡_, subst, sym, ap, _∙_}
+use mathlib.Core.List.{List, map}
 use native.Mathlib.Nat.{mod-le, mod-lt, mod-eq-of-lt, mod-mod, zero-mod, add-mod, add-mul-mod-self-right, div-add-mod'}
 use native.Mathlib.Omega.{arith}
 use lib.Bits.{bitAnd, bitOr, bitXor, and-mod, or-mod, xor-mod}

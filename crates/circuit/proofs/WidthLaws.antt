@@ -1,0 +1,31 @@
+-- what a function keeps, from the width that is read of its cells
+use Prim.Native.Nat.{ℕ, _*_, _%_, _^_, _≤_, _<_}
+use mathlib.Core.Path.{_≡_, subst, sym, ap, _∙_}
+use mathlib.Core.List.{List}
+use native.Mathlib.Omega.{arith}
+use lib.Pow.{pow-pos}
+use Rattle.table.specs.Bytes.{bits, width}
+use Rattle.table.specs.Decoded.{cellAt, functionSlot}
+use Rattle.table.specs.Working.{IsFunction, Read}
+use Rattle.table.proofs.Reading.{told-width}
+use Rattle.table.proofs.Widths.{width-range}
+use Rattle.list.proofs.BitLaws.{bit-is}
+use Rattle.rules.specs.Arithmetic.{narrow}
+
+module _ (t cells : List ℕ) (rd : Read t cells) (f : ℕ) (i : IsFunction t f) (w : ℕ) (ew : w ≡ bits (cellAt cells (functionSlot f) 1)) where
+  told : w ≡ width t f
+  told = told-width t cells rd f i w ew
+
+  pub few : w ≤ 32
+  few = subst (λ x. x ≤ 32) (sym told) (width-range t (rd .taken) f i .1)
+
+  -- 2^w, as the shift gives it
+  over-is : 1 * 2 ^ w % 2 ^ 64 ≡ 2 ^ w
+  over-is = bit-is w 64 (omega (arith, few))
+
+  pub over-some : 0 < 1 * 2 ^ w % 2 ^ 64
+  over-some = subst (λ x. 0 < x) (sym over-is) (pow-pos w)
+
+  pub keep-is : (v : ℕ) → v % (1 * 2 ^ w % 2 ^ 64) ≡ narrow (width t f) v
+  unfolding narrow
+  keep-is v = ap (λ x. v % x) over-is ∙ ap (λ k. v % 2 ^ k) told
