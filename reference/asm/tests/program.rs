@@ -55,7 +55,7 @@ fn writes_the_table() {
 #[test]
 fn bad_tokens() {
     let folder = folder("tokens");
-    let any = "expected a name, a number or one of `(),=`, found";
+    let any = "expected a name, a number or one of `(),:=`, found";
     says(&folder, b"fun f(x) =\n x + 1\n", 2, &format!("{any} `+`"));
     says(&folder, b"fun f(x) = 'x'\n", 1, &format!("{any} `'`"));
     says(&folder, b"fun f(x) = x\n\0", 2, &format!("{any} `\\0`"));
@@ -103,6 +103,20 @@ fn counts() {
     says(&folder, functions.as_bytes(), 33, "expected at most 32 functions, found another");
     let nodes = format!("fun f() =\n{}1{}", "double(\n".repeat(512), ")".repeat(512));
     says(&folder, nodes.as_bytes(), 514, "expected at most 512 nodes, found another");
+}
+
+#[test]
+fn widths() {
+    let folder = folder("widths");
+    let (text, table) = (folder.join("narrow.safl"), folder.join("narrow.table"));
+    fs::write(&text, "fun main(): 4 = 15\n").expect("a text");
+    assert!(asm(&[&text, &table]).status.success());
+    assert_eq!(fs::read(&table).expect("a table"), [1, 0, 1, 0, 0, 4, 1, 0, 1, 0, 15, 0, 0, 0, 0, 0, 0, 0]);
+    says(&folder, b"fun f(x): 0 = x\n", 1, "expected a width from 1 to 32, found `0`");
+    says(&folder, b"fun f(x)\n  : 33 = x\n", 2, "expected a width from 1 to 32, found `33`");
+    says(&folder, b"fun f(x): = x\n", 1, "expected a width from 1 to 32, found `=`");
+    says(&folder, b"fun f(x): four = x\n", 1, "expected a width from 1 to 32, found `four`");
+    says(&folder, b"fun f(x): 4 x\n", 1, "expected `=`, found `x`");
 }
 
 #[test]

@@ -179,7 +179,7 @@ fn random_tables() -> Outcome {
     println!("{:?}\n{:#?}", seen.tags, seen.features);
     ensure(seen.tables >= 50_000 && seen.refused >= 8_000, || format!("{} and {}", seen.tables, seen.refused))?;
     ensure(3 * seen.listed >= seen.tables, || format!("{} lists of {}", seen.listed, seen.tables))?;
-    ensure(seen.features.len() == 27, || format!("{:?}", seen.features))?;
+    ensure(seen.features.len() == 39, || format!("{:?}", seen.features))?;
     for (feature, count) in &seen.features {
         ensure(40 * LOOKED_AT * count >= seen.tables, || format!("rare: {feature}, {count}"))?;
     }

@@ -3,24 +3,24 @@
 //! A text is a list of functions, the last being main:
 //!
 //! ```text
-//! fun f(x) = x                                # a comment
+//! fun f(x): 4 = x                             # a function of 4 bits; without a width it has 32
 //! fun main(x) = let a = f(x), b = 2 in if less(a, b) then add(a, 0x10) else b
 //! ```
 //!
 //! Primitives are called by name. Functions are numbered in order and each body in preorder.
 
 use numbers::{BOUND, CALL, CONSTANT, IF, LET, PARAMETER, PRIMITIVE};
-use numbers::{MOST_FUNCTIONS, MOST_NODES, MOST_PARAMETERS};
+use numbers::{MOST_FUNCTIONS, MOST_NODES, MOST_PARAMETERS, MOST_WIDTH};
 
 use crate::draft::{Draft, Head};
 use crate::lexer::{tokens, TextError, Token};
-use crate::table::{Function, Node, Refusal, OPERATIONS};
+use crate::table::{Function, Node, Refusal, Table, OPERATIONS};
 use crate::tree::{Kind, Tree};
 
 /// Above what 512 nodes need; keeps a text of brackets alone from using up the stack.
 const DEEPEST: usize = 600;
 
-/// Table bytes of a text. Tail position is left to the table check.
+/// Table bytes of a text. Tail position and the size of constants are left to the table check.
 pub fn assemble(text: &str) -> Result<Vec<u8>, TextError> {
     let mut reader = Reader {
         tokens: tokens(text)?,
@@ -103,9 +103,9 @@ impl Reader {
         }
         self.parameters = self.parameter_names()?;
         self.functions.push((name, self.parameters.len()));
-        self.take(Token::Symbol('='))?;
+        let width = self.width()?;
         let root = self.expression()?;
-        self.draft.functions.push(Head { parameters: self.parameters.len() as u8, root });
+        self.draft.functions.push(Head { width, ..Head::new(self.parameters.len(), root) });
         match self.peek() {
             Token::End | Token::Keyword("fun") => Ok(()),
             _ => self.expected("`fun` or the end of the text"),
@@ -135,6 +135,23 @@ impl Reader {
                 return self.expected("`,` or `)`");
             }
         }
+    }
+
+    /// The width byte, and the sign before the body: without a width the byte is 0.
+    fn width(&mut self) -> Result<u8, TextError> {
+        if self.take_if(Token::Symbol('=')) {
+            return Ok(0);
+        }
+        if !self.take_if(Token::Symbol(':')) {
+            return self.expected("`:` or `=`");
+        }
+        let width = match *self.peek() {
+            Token::Number(number) if (1..=MOST_WIDTH.into()).contains(&number) => number as u8,
+            _ => return self.expected(&format!("a width from 1 to {MOST_WIDTH}")),
+        };
+        self.at += 1;
+        self.take(Token::Symbol('='))?;
+        Ok(width)
     }
 
     fn expression(&mut self) -> Result<usize, TextError> {
@@ -291,8 +308,12 @@ pub fn disassemble(bytes: &[u8]) -> Result<String, Refusal> {
     let mut text = String::new();
     for function in tree.functions() {
         let parameters: Vec<String> = (0..tree.parameters(function)).map(parameter_name).collect();
+        let width = match Table::new(bytes).width_byte(function) {
+            0 => String::new(),
+            byte => format!(": {byte}"),
+        };
         let body = expression(&tree, tree.root(function));
-        text += &format!("fun {}({}) = {body}\n", function_name(&tree, function), parameters.join(", "));
+        text += &format!("fun {}({}){width} = {body}\n", function_name(&tree, function), parameters.join(", "));
     }
     Ok(text)
 }

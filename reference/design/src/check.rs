@@ -1,11 +1,11 @@
-//! The table check: refusals 1 to 9 by rising number, each over the whole table.
+//! The table check: refusals 1 to 9 by rising number and then 25, each over the whole table.
 
 use std::collections::{BTreeMap, BTreeSet};
 
 use numbers::{BOUND, CALL, CONSTANT, IF, LET, PARAMETER, PRIMITIVE};
-use numbers::{MOST_FUNCTIONS, MOST_NODES, MOST_PARAMETERS};
+use numbers::{MOST_FUNCTIONS, MOST_NODES, MOST_PARAMETERS, MOST_WIDTH};
 
-use crate::table::{Function, Node, Refusal, Table, OPERATIONS};
+use crate::table::{narrow, Function, Node, Refusal, Table, OPERATIONS};
 
 /// Accepts a table or tells the first refusal that applies.
 pub fn check(bytes: &[u8]) -> Result<(), Refusal> {
@@ -30,7 +30,8 @@ pub fn check(bytes: &[u8]) -> Result<(), Refusal> {
     let definientia = definientia(&table);
     refuse(8, lowest(&table, |node| out_of_scope(&table, &owners, &definientia, node)))?;
     let tails = tail_positions(&table);
-    refuse(9, lowest(&table, |node| is_self_call(&table, &owners, node) && !tails.contains(&node)))
+    refuse(9, lowest(&table, |node| is_self_call(&table, &owners, node) && !tails.contains(&node)))?;
+    refuse(25, wide_constant(&table))
 }
 
 fn refuse(number: u16, place: Option<Node>) -> Result<(), Refusal> {
@@ -67,10 +68,11 @@ fn links(table: &Table) -> Option<Node> {
     })
 }
 
-/// Refusal 5: counts, kinds, operations and fields that have to be zero.
+/// Refusal 5: counts, widths, kinds, operations and fields that have to be zero.
 fn fields(table: &Table) -> Option<Node> {
-    let bad_record =
-        |function| usize::from(table.parameter_count(function)) > MOST_PARAMETERS || table.second_byte(function) != 0;
+    let bad_record = |function| {
+        usize::from(table.parameter_count(function)) > MOST_PARAMETERS || table.width_byte(function) > MOST_WIDTH
+    };
     if table.functions().any(bad_record) {
         return Some(Node(0));
     }
@@ -166,4 +168,13 @@ fn tail_positions(table: &Table) -> BTreeSet<Node> {
         }
     }
     tails
+}
+
+/// Refusal 25 by itself: the lowest constant that its function is too narrow for. Links and fields are in order.
+pub fn wide_constant(table: &Table) -> Option<Node> {
+    let owners = owners(table);
+    lowest(table, |node| {
+        let word = table.word(node);
+        table.kind(node) == CONSTANT && narrow(table.width(owners[&node]), word) != word
+    })
 }

@@ -84,7 +84,8 @@ pub fn start(bytes: &[u8], tags: &[u8], arguments: &[u32], state: &mut State) ->
         return Err(Refusal { number: 11, place: Node(0) });
     }
     *state = State::zero();
-    state.function_mut(tree.main()).registers[..arguments.len()].copy_from_slice(arguments);
+    let arguments = tree.keep_all(tree.main(), arguments);
+    state.function_mut(tree.main()).registers[..arguments.len()].copy_from_slice(&arguments);
     state.node_mut(tree.root(tree.main())).status = OPEN;
     Ok(())
 }
@@ -148,16 +149,16 @@ enum Change {
 
 /// The change a step would bring, or 21, 22 or 23.
 fn decide(tree: &Tree, tags: &[u8], state: &State, node: Node) -> Result<Change, u16> {
-    let children = tree.children(node);
+    let (children, owner) = (tree.children(node), tree.owner(node));
     match (state.node(node).status, tree.kind(node)) {
         (OPEN, Kind::Constant(value)) => Ok(Change::Done(value)),
-        (OPEN, Kind::Parameter(index)) => Ok(Change::Done(state.function(tree.owner(node)).registers[index])),
+        (OPEN, Kind::Parameter(index)) => Ok(Change::Done(state.function(owner).registers[index])),
         (OPEN, Kind::Bound(definiens)) => Ok(Change::Done(state.node(definiens).value)),
         (OPEN, Kind::Primitive(_) | Kind::Call(_)) => Ok(Change::Busy { opens: children.to_vec() }),
         (OPEN, Kind::If) => Ok(Change::Busy { opens: vec![children[0]] }),
         (OPEN, Kind::Let) => Ok(Change::Busy { opens: tree.definientia(node).to_vec() }),
         (BUSY, Kind::Primitive(operation)) if state.all_done(children) => {
-            Ok(Change::Done(compute(operation, &state.values(children))))
+            Ok(Change::Done(tree.keep(owner, compute(operation, &state.values(children)))))
         }
         (BUSY, Kind::If) => {
             let branch = if state.node(children[0]).value != 0 { children[1] } else { children[2] };
@@ -186,7 +187,9 @@ fn decide_call(tree: &Tree, tags: &[u8], state: &State, node: Node, callee: Func
     }
     if state.node(node).second {
         let root = tree.root(callee);
-        return if state.done(root) { Ok(Change::Leave(callee, state.node(root).value)) } else { Err(21) };
+        // The caller keeps of an answer what it has room for.
+        let answer = tree.keep(tree.owner(node), state.node(root).value);
+        return if state.done(root) { Ok(Change::Leave(callee, answer)) } else { Err(21) };
     }
     if !arguments_done {
         return Err(21);
@@ -231,7 +234,7 @@ fn finish(state: &mut State, node: Node, value: u32) {
 /// Makes a function's body ready for the arguments of this call and opens its root.
 fn reset(tree: &Tree, state: &mut State, call: Node, function: Function) {
     // Read before the reset, which takes the arguments of a self call with it.
-    let arguments = state.values(tree.children(call));
+    let arguments = tree.keep_all(function, &state.values(tree.children(call)));
     for node in tree.nodes_of(function) {
         *state.node_mut(*node) = NodeState::default();
     }

@@ -2,6 +2,7 @@
 
 use numbers::{BOUND, CALL, CONSTANT, IF, LET, PARAMETER, PRIMITIVE};
 
+use crate::check::owners;
 use crate::generator::{accepted, with_strays};
 use crate::random::Random;
 use crate::table::{Function, Node, Table};
@@ -12,10 +13,20 @@ pub fn damaged(random: &mut Random) -> Vec<u8> {
     match random.below(16) {
         0 => return plausible(random),
         1 => return noise(random),
-        2..=4 => return with_strays(random),
+        2..=4 => {
+            let mut bytes = with_strays(random);
+            if random.once_in(3) {
+                wide(random, &mut bytes);
+            }
+            return bytes;
+        }
+        5 => return too_wide(random),
         _ => {}
     }
     let mut bytes = accepted(random);
+    if random.once_in(8) {
+        wide(random, &mut bytes);
+    }
     let faults = if random.once_in(4) { random.within(2, 5) } else { 1 };
     for _ in 0..faults {
         // Length and header come last: the other faults have to find their records.
@@ -33,6 +44,15 @@ pub fn damaged(random: &mut Random) -> Vec<u8> {
     bytes
 }
 
+/// A table in order but for one function or more that is too narrow for a constant; one without constants stays.
+pub fn too_wide(random: &mut Random) -> Vec<u8> {
+    let mut bytes = accepted(random);
+    for _ in 0..random.within(1, 2) {
+        wide(random, &mut bytes);
+    }
+    bytes
+}
+
 /// Bytes with no plan at all.
 fn noise(random: &mut Random) -> Vec<u8> {
     let count = random.below(40);
@@ -45,7 +65,7 @@ fn plausible(random: &mut Random) -> Vec<u8> {
     let nodes = random.within(1, 6);
     let mut bytes = vec![functions as u8, 0, nodes as u8, 0];
     for _ in 0..functions {
-        bytes.extend([random.below(3) as u8, 0, random.within(1, nodes) as u8, 0]);
+        bytes.extend([random.below(3) as u8, random.below(3) as u8, random.within(1, nodes) as u8, 0]);
     }
     for number in 1..=nodes {
         let mut link = || match random.below(3) {
@@ -122,7 +142,7 @@ fn links(random: &mut Random, bytes: &mut [u8]) {
     }
 }
 
-/// Counts, kinds, operations and fields that have to be zero.
+/// Counts, widths, kinds, operations and fields that have to be zero.
 fn fields(random: &mut Random, bytes: &mut [u8]) {
     let node = any_node(random, bytes);
     let function = any_function(random, bytes);
@@ -132,7 +152,7 @@ fn fields(random: &mut Random, bytes: &mut [u8]) {
             let count = random.pick(&[9, 8, 255, small]);
             bytes[count_at(function)] = count;
         }
-        1 => bytes[count_at(function) + 1] = small,
+        1 => bytes[width_at(function)] = random.pick(&[33, 34, 63, 64, 65, 96, 128, 160, 255, small]),
         2 => {
             let kind = random.pick(&[0, 8, 255, small]);
             set(bytes, node, KIND, &[kind]);
@@ -156,6 +176,27 @@ fn fields(random: &mut Random, bytes: &mut [u8]) {
             bytes[at] ^= 1 << random.below(8);
         }
     }
+}
+
+/// A constant that its function is too narrow for, at the limit itself or above. Links are in order; a function of all
+/// bits is made narrower, and so now and then is another.
+fn wide(random: &mut Random, bytes: &mut [u8]) {
+    let node = node_of_kind(random, bytes, CONSTANT);
+    let table = Table::new(bytes);
+    if table.kind(node) != CONSTANT {
+        return;
+    }
+    let function = owners(&table)[&node];
+    let width = match table.width(function) {
+        width @ 1..=31 if !random.once_in(4) => width,
+        _ => random.within(1, 31) as u8,
+    };
+    let limit = 1 << width;
+    let higher = limit << random.below(32 - usize::from(width));
+    let any = limit | random.word();
+    let word = random.pick(&[limit, limit, limit + 1, higher, any, u32::MAX]);
+    bytes[width_at(function)] = width;
+    set(bytes, node, WORD, &word.to_le_bytes());
 }
 
 /// Faults in a table whose links and fields are in order.
@@ -249,6 +290,10 @@ fn node_of_kind(random: &mut Random, bytes: &[u8], kind: u8) -> Node {
 
 fn count_at(function: Function) -> usize {
     4 * usize::from(function.0)
+}
+
+fn width_at(function: Function) -> usize {
+    count_at(function) + 1
 }
 
 fn root_at(function: Function) -> usize {

@@ -14,7 +14,16 @@ pub struct Item {
 #[derive(Clone, Debug)]
 pub struct Head {
     pub parameters: u8,
+    /// The width byte.
+    pub width: u8,
     pub root: usize,
+}
+
+impl Head {
+    /// Of a function that has all 32 bits.
+    pub fn new(parameters: usize, root: usize) -> Head {
+        Head { parameters: parameters as u8, width: 0, root }
+    }
 }
 
 #[derive(Clone, Debug, Default)]
@@ -48,7 +57,7 @@ impl Draft {
         bytes.extend((self.functions.len() as u16).to_le_bytes());
         bytes.extend((self.items.len() as u16).to_le_bytes());
         for head in &self.functions {
-            bytes.extend([head.parameters, 0]);
+            bytes.extend([head.parameters, head.width]);
             bytes.extend(numbers[head.root].to_le_bytes());
         }
         for index in indices {

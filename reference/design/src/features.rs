@@ -1,9 +1,9 @@
 //! What the rules speak of and a design may have or not, so that tests can count how often it occurs.
 
-use numbers::BESIDE;
+use numbers::{BESIDE, MOST_WIDTH};
 
 use crate::list::arbiter_list;
-use crate::table::Node;
+use crate::table::{narrow, Function, Node};
 use crate::tree::{Kind, Tree};
 
 /// Nodes from this one down to the deepest leaf.
@@ -64,6 +64,21 @@ pub fn features(tree: &Tree) -> Vec<String> {
     note("function nobody calls", nobody);
     note("deep chain", tree.functions().any(|function| depth(tree, tree.root(function)) > 30));
     note("numbers out of preorder", !in_preorder(tree));
+    for width in [1, 2, 3, 4, 8, 16, 31, MOST_WIDTH] {
+        note(&format!("width {width}"), tree.functions().any(|function| tree.width(function) == width));
+    }
+    let widths = |node: Node, callee: Function| (tree.width(tree.owner(node)), tree.width(callee));
+    let calls = |fits: &dyn Fn((u8, u8)) -> bool| {
+        any(&|node| tree.other_callee(node).is_some_and(|callee| fits(widths(node, callee))))
+    };
+    note("narrow caller of a wider function", calls(&|(caller, callee)| caller < callee));
+    note("wide caller of a narrower function", calls(&|(caller, callee)| caller > callee));
+    note("narrow self call", any(&|node| self_call(node) && tree.width(tree.owner(node)) < MOST_WIDTH));
+    let is_largest = |node: Node| {
+        let width = tree.width(tree.owner(node));
+        width < MOST_WIDTH && tree.kind(node) == Kind::Constant(narrow(width, u32::MAX))
+    };
+    note("largest constant of a narrow function", any(&is_largest));
     let list = arbiter_list(tree);
     note("list", !list.is_empty());
     let sites = |node: Node| tree.nodes().filter(|other| tree.other_callee(*other) == tree.other_callee(node)).count();

@@ -5,6 +5,7 @@ use numbers::{MOST_FUNCTIONS, MOST_NODES};
 use crate::draft::{Draft, Head};
 use crate::maker::{Callees, Maker, Stray, Taste};
 use crate::random::Random;
+use crate::widths::widths;
 
 /// An accepted table of any size; small ones are frequent.
 pub fn accepted(random: &mut Random) -> Vec<u8> {
@@ -73,10 +74,11 @@ fn table(random: &mut Random, nodes: usize, taste: Taste) -> Vec<u8> {
     let few = random.once_in(2);
     let parameters: Vec<u8> = (0..functions).map(|_| parameter_count(random, few)).collect();
     let sizes = random.split(nodes, functions, taste.deep);
-    let mut maker = Maker::new(random, taste, &parameters);
-    for (size, parameters) in sizes.into_iter().zip(&parameters) {
+    let widths = widths(random, functions);
+    let mut maker = Maker::new(random, taste, &parameters, &widths);
+    for ((size, parameters), width) in sizes.into_iter().zip(&parameters).zip(&widths) {
         let root = maker.body(size);
-        maker.draft.functions.push(Head { parameters: *parameters, root });
+        maker.draft.functions.push(Head { parameters: *parameters, width: *width, root });
     }
     let draft = maker.draft;
     numbered(random, &draft)

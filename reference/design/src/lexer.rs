@@ -72,12 +72,12 @@ fn token(word: &str, start: char, line: usize) -> Result<Token, TextError> {
         let keyword = KEYWORDS.iter().find(|keyword| **keyword == word);
         return Ok(keyword.map_or_else(|| Token::Name(word.to_string()), |keyword| Token::Keyword(keyword)));
     }
-    if "(),=".contains(start) {
+    if "(),:=".contains(start) {
         return Ok(Token::Symbol(start));
     }
     // What can't be seen is told by its number.
     let shown = if start.is_ascii_graphic() { start.to_string() } else { start.escape_debug().to_string() };
-    Err(TextError { line, message: format!("expected a name, a number or one of `(),=`, found `{shown}`") })
+    Err(TextError { line, message: format!("expected a name, a number or one of `(),:=`, found `{shown}`") })
 }
 
 fn number(word: &str) -> Option<u32> {

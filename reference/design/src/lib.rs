@@ -21,6 +21,9 @@ pub mod states;
 pub mod table;
 pub mod towers;
 pub mod tree;
+pub mod width_cases;
+pub mod width_kinds;
+pub mod widths;
 
 pub use check::check;
 pub use table::{Function, Node, Refusal, Table};

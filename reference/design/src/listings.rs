@@ -36,7 +36,7 @@ impl Listing {
             Some(callee) => self.draft.add(CALL, 0, callee as u32),
             None => self.draft.add(CONSTANT, 0, 1),
         };
-        self.draft.functions.push(Head { parameters: parameters as u8, root });
+        self.draft.functions.push(Head::new(parameters, root));
     }
 
     /// Has main call a function so many times.
@@ -47,7 +47,7 @@ impl Listing {
     /// Main runs all its calls side by side, below nodes of this kind that hold eight each.
     fn main(mut self, random: &mut Random, (kind, extra, word): (u8, u8, u32)) -> Vec<u8> {
         let root = self.draft.add(PRIMITIVE, BESIDE, 0);
-        self.draft.functions.push(Head { parameters: 0, root });
+        self.draft.functions.push(Head::new(0, root));
         // A holder takes one place and gives eight; they come first, so that two of them run side by side.
         let holders = self.callees.len().saturating_sub(CHILDREN).div_ceil(CHILDREN - 1);
         let mut open = VecDeque::from([root]);

@@ -1,10 +1,12 @@
 //! Random function bodies, node by node.
 
-use numbers::{BESIDE, BOUND, CALL, CONSTANT, HALVE, IF, LET, PARAMETER, PRIMITIVE};
+use numbers::{ADD, BESIDE, HALVE};
+use numbers::{BOUND, CALL, CONSTANT, IF, LET, PARAMETER, PRIMITIVE};
 
 use crate::draft::Draft;
 use crate::random::Random;
 use crate::table::OPERATIONS;
+use crate::widths::constant;
 
 /// Which of the fitting functions are called.
 #[derive(Clone, Copy)]
@@ -45,6 +47,8 @@ pub struct Maker<'a> {
     random: &'a mut Random,
     taste: Taste,
     parameters: &'a [u8],
+    /// Width bytes.
+    widths: &'a [u8],
     pub draft: Draft,
     /// The function being made, from 1.
     function: usize,
@@ -55,9 +59,9 @@ pub struct Maker<'a> {
 }
 
 impl<'a> Maker<'a> {
-    pub fn new(random: &'a mut Random, taste: Taste, parameters: &'a [u8]) -> Self {
+    pub fn new(random: &'a mut Random, taste: Taste, parameters: &'a [u8], widths: &'a [u8]) -> Self {
         let draft = Draft::default();
-        Maker { random, taste, parameters, draft, function: 0, scope: Vec::new(), let_children: Vec::new() }
+        Maker { random, taste, parameters, widths, draft, function: 0, scope: Vec::new(), let_children: Vec::new() }
     }
 
     /// The body of the next function.
@@ -121,7 +125,7 @@ impl<'a> Maker<'a> {
             }
             _ => {}
         }
-        let value = self.random.word();
+        let value = constant(self.random, self.widths[self.function - 1]);
         self.draft.add(CONSTANT, 0, value)
     }
 
@@ -209,18 +213,25 @@ impl<'a> Maker<'a> {
         node
     }
 
-    /// if p0 then self(halve(p0), ..) else ..: a loop that ends, which chance alone seldom makes.
+    /// if p0 then self(halve(p0), ..) else ..: a loop that ends, which chance alone seldom makes. In a function of few
+    /// bits p0 may grow by an odd number instead, until it wraps to 0.
     fn countdown(&mut self, size: usize) -> usize {
         let node = self.draft.add(IF, 0, 0);
         let parameters = self.own_parameters();
         let condition = self.draft.add(PARAMETER, 0, 0);
         let again = self.draft.add(CALL, 0, self.function as u32);
-        // The if, its condition, the self call, halve and its parameter take five nodes.
-        let sizes = self.split(size - 5, parameters);
-        let halve = self.draft.add(PRIMITIVE, HALVE, 0);
-        let count = self.draft.add(PARAMETER, 0, 0);
-        self.draft.items[halve].children = vec![count];
-        let mut arguments = vec![halve];
+        let width = self.widths[self.function - 1];
+        let wraps = (1..=4).contains(&width) && self.random.once_in(2);
+        let step = self.draft.add(PRIMITIVE, if wraps { ADD } else { HALVE }, 0);
+        let mut operands = vec![self.draft.add(PARAMETER, 0, 0)];
+        if wraps {
+            let odd = constant(self.random, width) | 1;
+            operands.push(self.draft.add(CONSTANT, 0, odd));
+        }
+        // The if, its condition, the self call and the operation on its parameter take four nodes and the operands.
+        let sizes = self.split(size - 4 - operands.len(), parameters);
+        self.draft.items[step].children = operands;
+        let mut arguments = vec![step];
         for size in &sizes[1..] {
             arguments.push(self.expression(*size, false));
         }

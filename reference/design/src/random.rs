@@ -37,12 +37,12 @@ impl Random {
         from[self.below(from.len())]
     }
 
-    /// A value; small ones, the ends and powers of two are frequent.
+    /// A value; small ones, the ends, powers of two and what is below them are frequent.
     pub fn word(&mut self) -> u32 {
         match self.below(6) {
             0..=2 => self.below(9) as u32,
             3 => u32::MAX - self.below(3) as u32,
-            4 => 1 << self.below(32),
+            4 => (1 << self.below(32)) - self.below(2) as u32,
             _ => self.number() as u32,
         }
     }

@@ -46,7 +46,8 @@ impl Reader<'_> {
     /// A function's root read with these arguments, and anew for each self call.
     fn function(&mut self, function: Function, mut arguments: Vec<u32>) -> Option<u32> {
         loop {
-            let mut body = Body { arguments, bound: BTreeMap::new() };
+            let kept = self.tree.keep_all(function, &arguments);
+            let mut body = Body { arguments: kept, bound: BTreeMap::new() };
             match self.part(&mut body, self.tree.root(function))? {
                 End::Value(value) => return Some(value),
                 End::SelfCall(again) => arguments = again,
@@ -55,7 +56,7 @@ impl Reader<'_> {
     }
 
     fn part(&mut self, body: &mut Body, node: Node) -> Option<End> {
-        let children = self.tree.children(node);
+        let (children, owner) = (self.tree.children(node), self.tree.owner(node));
         match self.tree.kind(node) {
             Kind::Constant(value) => {
                 self.add(1)?;
@@ -72,7 +73,7 @@ impl Reader<'_> {
             Kind::Primitive(operation) => {
                 self.add(2)?;
                 let values = self.values(body, children)?;
-                Some(End::Value(compute(operation, &values)))
+                Some(End::Value(self.tree.keep(owner, compute(operation, &values))))
             }
             Kind::If => {
                 let condition = self.value(body, children[0])?;
@@ -85,14 +86,15 @@ impl Reader<'_> {
                 }
                 self.last_part(body, self.tree.body(node))
             }
-            Kind::Call(callee) if callee == self.tree.owner(node) => {
+            Kind::Call(callee) if callee == owner => {
                 self.add(2)?;
                 Some(End::SelfCall(self.values(body, children)?))
             }
             Kind::Call(callee) => {
                 self.add(3)?;
                 let arguments = self.values(body, children)?;
-                Some(End::Value(self.function(callee, arguments)?))
+                let answer = self.function(callee, arguments)?;
+                Some(End::Value(self.tree.keep(owner, answer)))
             }
         }
     }

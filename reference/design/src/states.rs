@@ -52,12 +52,14 @@ pub fn any_state(random: &mut Random, tree: &Tree) -> State {
     // Done nodes and busy calls are frequent: else hardly a call comes to enter or to wait.
     let done_share = random.within(1, 9);
     let free_share = random.within(0, 3);
+    // In half of the states there are values that a narrow function would not come to.
+    let wide = random.once_in(2);
     for (index, node) in state.nodes.iter_mut().enumerate() {
         let status = match random.below(done_share + 3) {
             chosen @ 0..=2 => chosen as u8,
             _ => DONE,
         };
-        let value = random.below(3) as u32;
+        let value = if wide && random.once_in(2) { random.word() } else { random.below(3) as u32 };
         *node = NodeState { status, second: random.once_in(2), value };
         if index >= node_count {
             node.status = random.number() as u8;

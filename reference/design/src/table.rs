@@ -1,6 +1,6 @@
 //! The byte layout of a design table. Every reader answers for any bytes: what lies outside reads as 0.
 
-use numbers::{ADD, AND, DOUBLE, EQUAL, HALVE, LESS, LOW_BIT, OR, SUBTRACT, XOR};
+use numbers::{ADD, AND, DOUBLE, EQUAL, HALVE, LESS, LOW_BIT, MOST_WIDTH, OR, SUBTRACT, XOR};
 
 /// A node number, 1 to N in an accepted table; 0 stands for none.
 #[derive(Clone, Copy, PartialEq, Eq, PartialOrd, Ord, Hash, Debug, Default)]
@@ -62,6 +62,11 @@ pub fn compute(operation: u8, values: &[u32]) -> u32 {
         LESS => u32::from(value(0) < value(1)),
         _ => values.last().copied().unwrap_or(0),
     }
+}
+
+/// A value modulo 2^width.
+pub fn narrow(width: u8, value: u32) -> u32 {
+    (u64::from(value) % (1 << width)) as u32
 }
 
 /// A table as its bytes stand, checked or not.
@@ -126,8 +131,16 @@ impl<'a> Table<'a> {
         self.function_field(function, 0, 1) as u8
     }
 
-    pub fn second_byte(&self, function: Function) -> u8 {
+    pub fn width_byte(&self, function: Function) -> u8 {
         self.function_field(function, 1, 1) as u8
+    }
+
+    /// The bits of a function; its byte is known to be no more than 32.
+    pub fn width(&self, function: Function) -> u8 {
+        match self.width_byte(function) {
+            0 => MOST_WIDTH,
+            byte => byte,
+        }
     }
 
     pub fn root(&self, function: Function) -> Node {

@@ -7,6 +7,7 @@ use numbers::{MOST_FUNCTIONS, MOST_NODES};
 use crate::draft::{Draft, Head};
 use crate::generator::numbered;
 use crate::random::Random;
+use crate::widths;
 
 const CALLS: usize = 8;
 
@@ -65,7 +66,7 @@ fn full_tower(parameters: impl Fn(usize) -> usize, level: impl Fn(&mut Draft, us
             1 => draft.add(CONSTANT, 0, 1),
             _ => level(&mut draft, function - 1, parameters(function - 1)),
         };
-        draft.functions.push(Head { parameters: parameters(function) as u8, root });
+        draft.functions.push(Head::new(parameters(function), root));
     }
     draft.bytes()
 }
@@ -90,8 +91,9 @@ pub fn any_tower(random: &mut Random) -> Vec<u8> {
                 Level { random, draft: &mut draft, own: parameters, below, callee: function - 1 }.root(calls)
             }
         };
-        draft.functions.push(Head { parameters: parameters as u8, root });
+        draft.functions.push(Head::new(parameters, root));
     }
+    widths::give(random, &mut draft);
     numbered(random, &draft)
 }
 
@@ -172,10 +174,11 @@ pub fn deep_calls() -> Vec<u8> {
 /// A chain of 500 nodes below each other, calls and operations of one operand.
 pub fn any_deep(random: &mut Random) -> Vec<u8> {
     let calls = random.below(5);
-    let draft = deep(|| match random.below(4) < calls {
+    let mut draft = deep(|| match random.below(4) < calls {
         true => (CALL, 0, random.within(1, 3) as u32),
         false => (PRIMITIVE, random.pick(&[DOUBLE, HALVE, LOW_BIT, BESIDE]), 0),
     });
+    widths::give(random, &mut draft);
     numbered(random, &draft)
 }
 
@@ -188,7 +191,7 @@ fn deep(mut pick: impl FnMut() -> (u8, u8, u32)) -> Draft {
     let three = two_calls(&mut draft);
     let (kind, extra, word) = pick();
     let main = draft.add(kind, extra, word);
-    draft.functions = [one, two, three, main].map(|root| Head { parameters: 1, root }).to_vec();
+    draft.functions = [one, two, three, main].map(|root| Head::new(1, root)).to_vec();
     let mut last = main;
     while draft.items.len() < MOST_NODES - 5 {
         let (kind, extra, word) = pick();
@@ -215,8 +218,7 @@ fn under_a_comb() -> Draft {
     let one = draft.add(CONSTANT, 0, 1);
     let two = draft.add(CALL, 0, 1);
     let three = draft.add(CALL, 0, 2);
-    draft.functions =
-        vec![Head { parameters: 0, root: one }, Head { parameters: 0, root: two }, Head { parameters: 2, root: three }];
+    draft.functions = vec![Head::new(0, one), Head::new(0, two), Head::new(2, three)];
     draft
 }
 
@@ -224,7 +226,7 @@ fn under_a_comb() -> Draft {
 pub fn deep_beside() -> Vec<u8> {
     let mut draft = under_a_comb();
     let root = draft.add(PRIMITIVE, BESIDE, 0);
-    draft.functions.push(Head { parameters: 0, root });
+    draft.functions.push(Head::new(0, root));
     let mut last = root;
     while draft.items.len() < MOST_NODES - 2 {
         add_below(&mut draft, last, CALL, 0, 2);
@@ -240,7 +242,8 @@ pub fn any_comb(random: &mut Random) -> Vec<u8> {
     let mut draft = under_a_comb();
     let left = MOST_NODES - draft.items.len();
     let root = tooth(random, &mut draft, left);
-    draft.functions.push(Head { parameters: 0, root });
+    draft.functions.push(Head::new(0, root));
+    widths::give(random, &mut draft);
     numbered(random, &draft)
 }
 

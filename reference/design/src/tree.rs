@@ -3,7 +3,7 @@
 use numbers::{BOUND, CALL, CONSTANT, IF, LET, PARAMETER, PRIMITIVE};
 
 use crate::check::{check, owners};
-use crate::table::{Function, Node, Refusal, Table};
+use crate::table::{narrow, Function, Node, Refusal, Table};
 
 #[derive(Clone, Copy, PartialEq, Eq, Debug)]
 pub enum Kind {
@@ -24,6 +24,7 @@ struct NodeEntry {
 
 struct FunctionEntry {
     parameters: usize,
+    width: u8,
     root: Node,
     nodes: Vec<Node>,
 }
@@ -43,6 +44,7 @@ impl Tree {
             |node: Node| NodeEntry { kind: kind(&table, node), owner: owners[&node], children: table.children(node) };
         let function_entry = |function: Function| FunctionEntry {
             parameters: usize::from(table.parameter_count(function)),
+            width: table.width(function),
             root: table.root(function),
             nodes: table.nodes().filter(|node| owners[node] == function).collect(),
         };
@@ -82,6 +84,21 @@ impl Tree {
 
     pub fn parameters(&self, function: Function) -> usize {
         self.function(function).parameters
+    }
+
+    /// Bits, 1 to 32.
+    pub fn width(&self, function: Function) -> u8 {
+        self.function(function).width
+    }
+
+    /// A value as a function keeps it.
+    pub fn keep(&self, function: Function, value: u32) -> u32 {
+        narrow(self.width(function), value)
+    }
+
+    /// Values as a function keeps them.
+    pub fn keep_all(&self, function: Function, values: &[u32]) -> Vec<u32> {
+        values.iter().map(|value| self.keep(function, *value)).collect()
     }
 
     pub fn root(&self, function: Function) -> Node {

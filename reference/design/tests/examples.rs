@@ -6,12 +6,13 @@ use std::fs;
 use design::asm::assemble;
 use design::examples::folder;
 use design::list::program;
+use design::reading::{read, Reading};
 use design::sheet::sheet_of;
-use design::{check, Node, Refusal, Table};
+use design::{check, Node, Refusal, Table, Tree};
 
 const OUT_OF_TAIL: Result<(), Refusal> = Err(Refusal { number: 9, place: Node(2) });
 
-const EXPECTED: [(&str, Result<(), Refusal>, &str); 10] = [
+const EXPECTED: [(&str, Result<(), Refusal>, &str); 11] = [
     ("twice", Ok(()), "design 2 4\ntotal 0\n"),
     ("beside", Ok(()), "design 2 6\narbiter 1 2 3\narbiter 1 2 5\ntotal 2\n"),
     ("main_beside", Ok(()), "design 3 8\narbiter 1 2 2\narbiter 2 3 5\narbiter 2 3 7\ntotal 3\n"),
@@ -22,6 +23,7 @@ const EXPECTED: [(&str, Result<(), Refusal>, &str); 10] = [
     ("eight_parameters", Ok(()), "design 2 18\ntotal 0\n"),
     ("no_argument", Ok(()), "design 2 2\ntotal 0\n"),
     ("pages", Ok(()), PAGES),
+    ("valve", Ok(()), "design 4 30\ntotal 0\n"),
 ];
 
 const PAGES: &str = "\
@@ -97,5 +99,17 @@ fn the_pages_of_a_sheet() {
         (3, 24, "                                "),
     ] {
         assert_eq!(lines[24 * (page - 1) + line - 1], wanted, "page {page}, line {line}");
+    }
+}
+
+/// A design of 4, 8 and 32 bits, with arguments that main cuts, that a callee cuts, and that fit.
+#[test]
+fn the_valve_comes_round() {
+    let bytes = fs::read(folder().join("valve.table")).expect("valve");
+    let table = Table::new(&bytes);
+    assert_eq!(table.functions().map(|function| table.width_byte(function)).collect::<Vec<u8>>(), [0, 4, 4, 8]);
+    let tree = Tree::read(&bytes).expect("an accepted table");
+    for (arguments, value, count) in [([9, 9], 40, 235), ([265, 9], 40, 235), ([25, 9], 40, 235), ([15, 1], 0, 53)] {
+        assert_eq!(read(&tree, &arguments, 1000), Some(Reading { value, count }), "{arguments:?}");
     }
 }

@@ -1,4 +1,4 @@
-//! Refusals 4 to 9 one by one, with the place each of them names.
+//! Refusals 4 to 9 and 25 one by one, with the place each of them names.
 
 use design::asm::assemble;
 use design::{check, Node, Refusal};
@@ -76,7 +76,7 @@ fn a_root_with_a_next() {
 #[test]
 fn fields_that_have_to_be_zero() {
     pair().function(1, 0, 9).refused(5, 0);
-    pair().function(2, 1, 1).refused(5, 0);
+    pair().function(2, 1, 33).refused(5, 0);
     pair().node(3, KIND, 0).refused(5, 3);
     pair().node(3, KIND, 8).refused(5, 3);
     pair().node(2, EXTRA, 11).refused(5, 2);
@@ -84,8 +84,8 @@ fn fields_that_have_to_be_zero() {
     pair().node(4, WORD, 1).refused(5, 4);
     pair().node(4, WORD, 1).node(3, KIND, 9).refused(5, 3);
     // The records come before the nodes, and links before both.
-    pair().node(3, KIND, 9).function(2, 1, 1).refused(5, 0);
-    pair().function(2, 1, 1).node(3, NEXT, 0).refused(4, 4);
+    pair().node(3, KIND, 9).function(2, 1, 33).refused(5, 0);
+    pair().function(2, 1, 33).node(3, NEXT, 0).refused(4, 4);
     let every = || table("fun f() = let a = 1 in if a then f() else add(2, 3)");
     every().accepted();
     // 1 let, 2 constant, 3 if, 4 bound, 5 call, 6 add, 7 and 8 constants.
@@ -206,4 +206,61 @@ fn self_calls_out_of_tail_position() {
     // An if in an argument is no tail position, and neither are its branches.
     table("fun f(x) = double(if x then f(x) else x)").refused(9, 4);
     table("fun f(x) = let a = let b = 1 in f(b) in f(a)").refused(9, 4);
+}
+
+#[test]
+fn width_bytes() {
+    for byte in 0..=32 {
+        pair().function(1, 1, byte).accepted();
+        pair().function(2, 1, byte).accepted();
+    }
+    for byte in 33..=255 {
+        pair().function(1, 1, byte).refused(5, 0);
+        pair().function(2, 1, byte).refused(5, 0);
+        pair().function(2, 1, byte).node(3, KIND, 9).refused(5, 0);
+        // What comes later isn't looked at, whatever 2^255 would be.
+        table("fun main(): 4 = 16").function(1, 1, byte).refused(5, 0);
+    }
+}
+
+#[test]
+fn constants_too_wide() {
+    let one = |width: u8, value: u32| table(&format!("fun main(): {width} = {value}"));
+    for width in 1..=31 {
+        one(width, 0).accepted();
+        one(width, (1 << width) - 1).accepted();
+        one(width, 1 << width).refused(25, 1);
+        one(width, (1 << width) + 1).refused(25, 1);
+        one(width, 1 << 31).refused(25, 1);
+        one(width, u32::MAX).refused(25, 1);
+    }
+    for width in [0, 32] {
+        one(32, u32::MAX).function(1, 1, width).accepted();
+    }
+    one(4, 15).accepted();
+    one(4, 16).refused(25, 1);
+    // The width is that of the function that the constant is in, not that of a caller or callee.
+    let two = |f: u8, main: u8| table(&format!("fun f(x): {f} = add(x, 9)  fun main(): {main} = f(6)"));
+    two(4, 3).accepted();
+    two(3, 4).refused(25, 3);
+    two(4, 2).refused(25, 5);
+    two(3, 2).refused(25, 3);
+    // The lowest node, though it is of the later function: 1 main's root, 2 f's.
+    table("fun f(): 4 = 16  fun main(): 4 = 17").function(1, 2, 2).function(2, 2, 1).refused(25, 1);
+    // A callee and a definiens are no constants: node 3 is a call of function 2, node 4 a bound of node 2.
+    table("fun a() = 1  fun b(): 1 = let c = 1 in c  fun main(): 1 = b()").accepted();
+}
+
+#[test]
+fn wide_constants_come_last() {
+    // 9, also where it is at a higher node; 8, 7, 6 and 5 too.
+    table("fun main(x): 4 = if 16 then x else beside(main(1))").refused(9, 5);
+    table("fun main(x): 4 = if 15 then x else beside(main(16))").refused(9, 5);
+    table("fun main(x): 4 = add(16, x)").node(3, EXTRA, 1).refused(8, 3);
+    table("fun main(x): 4 = add(16, x)").node(1, EXTRA, 5).refused(7, 1);
+    table("fun main(x): 4 = if 16 then main(x) else 1").node(3, WORD, 2).refused(6, 3);
+    table("fun main(x): 4 = add(16, x)").node(3, KIND, 9).refused(5, 3);
+    table("fun main(x): 4 = add(16, x)").function(1, 0, 9).refused(5, 0);
+    table("fun main(x): 4 = add(16, x)").node(2, NEXT, 0).refused(4, 3);
+    table("fun main(x): 4 = add(16, x)").refused(25, 2);
 }

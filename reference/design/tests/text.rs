@@ -1,6 +1,6 @@
 //! What the assembler says of texts that are not in order.
 
-use design::asm::assemble;
+use design::asm::{assemble, disassemble};
 
 fn says(text: &str, line: usize, message: &str) {
     let error = assemble(text).expect_err(text);
@@ -17,7 +17,7 @@ fn errors_name_the_line_and_what_was_expected() {
     says("fun f(x x) = 1", 1, "expected `,` or `)`, found `x`");
     says("fun f(x, x) = 1", 1, "expected a new parameter name, found `x` again");
     says("fun f(1) = 1", 1, "expected a parameter name, found `1`");
-    says("fun f(x)\n1", 2, "expected `=`, found `1`");
+    says("fun f(x)\n1", 2, "expected `:` or `=`, found `1`");
     says("fun f(x) = y", 1, "expected a parameter or a let name in scope, found `y`");
     says("fun f(x) = g(x)", 1, "expected a primitive or a function defined so far, found `g`");
     let later = "expected a primitive or a function defined so far, found `g`, which is defined later, on line 3";
@@ -34,7 +34,7 @@ fn errors_name_the_line_and_what_was_expected() {
     says("fun f(x) = f(\nx, x)", 1, "expected 1 argument of `f`, found 2");
     says("fun f(x) = 4294967296", 1, "expected a number from 0 to 4294967295, found `4294967296`");
     says("fun f(x) = 1x", 1, "expected a number from 0 to 4294967295, found `1x`");
-    says("fun f(x) = x + 1", 1, "expected a name, a number or one of `(),=`, found `+`");
+    says("fun f(x) = x + 1", 1, "expected a name, a number or one of `(),:=`, found `+`");
     says("fun f(x) = x x", 1, "expected `fun` or the end of the text, found `x`");
     says("fun f(x) = )", 1, "expected an expression, found `)`");
     let nine = "fun f(a, b, c, d, e, g, h, i, j) = 1";
@@ -60,4 +60,35 @@ fn numbers_and_brackets() {
     same("fun f() = 0xff", "fun f() = 255");
     same("fun f() = ((255))  # brackets make no nodes", "fun f() = 255");
     same("fun f(x) = let x = x in x", "fun f(y) = let z = y in z");
+}
+
+/// A function's width is its second byte; without one it is 0.
+#[test]
+fn widths() {
+    let byte = |head: &str| assemble(&format!("{head} = 1")).expect(head)[5];
+    assert_eq!(byte("fun f()"), 0);
+    for width in 1..=32 {
+        assert_eq!(byte(&format!("fun f(): {width}")), width);
+        assert_eq!(byte(&format!("fun f(x, y)\n:{width:#x}")), width);
+    }
+    let text = "fun f1(p0): 4 = p0\nfun f2() = 7\nfun main(p0, p1): 32 = f1(p1)\n";
+    let bytes = assemble(text).expect(text);
+    assert_eq!([bytes[5], bytes[9], bytes[13]], [4, 0, 32]);
+    assert_eq!(disassemble(&bytes).as_deref(), Ok(text));
+    // A constant that is too wide is the table check's.
+    assert!(assemble("fun f(): 4 = 16").is_ok());
+}
+
+#[test]
+fn widths_that_are_none() {
+    for found in ["0", "33", "64", "255", "256", "4294967295", "w", "=", "(", ":", "if"] {
+        says(&format!("fun f(x):\n{found} = x"), 2, &format!("expected a width from 1 to 32, found `{found}`"));
+    }
+    says("fun f(x):", 1, "expected a width from 1 to 32, found the end of the text");
+    says("fun f(x): 4 x", 1, "expected `=`, found `x`");
+    says("fun f(x): 4: 4 = x", 1, "expected `=`, found `:`");
+    says("fun f: 4 = 1", 1, "expected `(`, found `:`");
+    says("fun f(x: 4) = x", 1, "expected `,` or `)`, found `:`");
+    says("fun f() = 1: 4", 1, "expected `fun` or the end of the text, found `:`");
+    says("fun f() = let a: 4 = 1 in a", 1, "expected `=`, found `:`");
 }

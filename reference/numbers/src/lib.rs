@@ -1,10 +1,13 @@
-//! The numbers that document 01 gives to its limits, kinds, operations and statuses, and document 02 to the sheet's
-//! pages. They stand here alone.
+//! The numbers that document 01 gives to its limits, kinds, operations and statuses, and document 02 to widths and the
+//! sheet's pages. They stand here alone.
 
 // Limits.
 pub const MOST_FUNCTIONS: usize = 32;
 pub const MOST_NODES: usize = 512;
 pub const MOST_PARAMETERS: usize = 8;
+
+/// The bits of a value, and of a function whose width byte is 0.
+pub const MOST_WIDTH: u8 = 32;
 
 // Kinds of nodes.
 pub const CONSTANT: u8 = 1;
