@@ -3,11 +3,12 @@
 
 use std::hint::select_unpredictable as select;
 
-use numbers::{BOUND, CALL, IF, LET, MOST_FUNCTIONS, MOST_NODES, PARAMETER};
+use numbers::{BOUND, CALL, CONSTANT, IF, LET, PARAMETER};
+use numbers::{MOST_FUNCTIONS, MOST_NODES, MOST_WIDTH};
 
 use crate::rules::{rule, whole};
 use crate::scope::{all_see, Order};
-use crate::{first, half, next, refusal, word, Parts};
+use crate::{beyond, first, half, next, refusal, word, Parts};
 
 /// 0 for an accepted table, else the refusal's number times 65536 plus its place.
 pub fn check(table: &[u8]) -> u32 {
@@ -163,21 +164,23 @@ impl Survey {
         Survey { above: [Above::NONE; MOST_NODES + 1] }
     }
 
-    /// Whether one of the refusals 5 to 9 applies, or none where 4 does. A name is a root, a first or a next; they come
+    /// Whether one of the refusals 5 to 9 or 25 applies, or none where 4 does. A name is a root, a first or a next; they come
     /// before the node that they name, and every node is named once if each is named and the names come to the sum of
     /// all nodes.
     fn look(&mut self, parts: &Parts) -> Option<bool> {
         let nodes = parts.nodes();
         let above = self.above.get_mut(..=nodes)?;
         let mut parameters = [0; 256];
+        let mut wide = [0; MOST_FUNCTIONS + 1];
         let (mut names, mut bad) = (0, 0);
         for (index, head) in parts.heads.iter().enumerate() {
             let root = half(head, 2);
             if root == 0 || root > nodes || next(parts.record(root)) != 0 {
                 return None;
             }
-            bad |= u64::from(head[0] > 8 || head[1] != 0);
+            bad |= u64::from(is_bad(head));
             parameters[index + 1] = head[0];
+            wide[index + 1] = beyond(head[1]);
             above[root] = Above::root(index + 1);
             names += root;
         }
@@ -206,7 +209,7 @@ impl Survey {
             };
             // Only in tail position the own function may be called.
             let callees = u32::from(owner) - u32::from(!in_tail);
-            bad |= whole & rule.zero
+            bad |= whole & (rule.zero | select(kind == CONSTANT, wide[usize::from(owner)], 0))
                 | u64::from(select(first == 0, rule.fewest | arguments, 0))
                 | u64::from((kind == CALL) & (word.wrapping_sub(1) >= callees))
                 | u64::from((kind == PARAMETER) & (extra >= parameters[usize::from(owner)]))
@@ -221,10 +224,15 @@ impl Survey {
     }
 }
 
-/// The lowest of the refusals 5 to 9, one of which applies: the lowest number, and within it the lowest node.
+/// Whether a function record is refused 5.
+pub(crate) fn is_bad(head: &[u8; 4]) -> bool {
+    head[0] > 8 || head[1] > MOST_WIDTH
+}
+
+/// The lowest of the refusals 5 to 9 and 25, one of which applies: the lowest number, and within it the lowest node.
 #[cold]
 fn fault(parts: &Parts, known: &Survey) -> u32 {
-    if parts.heads.iter().any(|head| head[0] > 8 || head[1] != 0) {
+    if parts.heads.iter().any(is_bad) {
         return refusal(5, 0);
     }
     let order = Order::of(parts, &known.above);
@@ -259,6 +267,8 @@ fn fault(parts: &Parts, known: &Survey) -> u32 {
             8
         } else if kind == CALL && word == owner && !above.in_tail(next(record) == 0) {
             9
+        } else if kind == CONSTANT && word & !parts.mask(owner as usize) != 0 {
+            25
         } else {
             NO_FAULT
         }

@@ -55,6 +55,11 @@ impl<'a> Parts<'a> {
         self.heads[function - 1][0].into()
     }
 
+    /// The bits that a function keeps of a value.
+    pub fn mask(&self, function: usize) -> u32 {
+        u32::MAX >> spare(self.heads[function - 1][1])
+    }
+
     pub fn root(&self, function: usize) -> usize {
         half(&self.heads[function - 1], 2)
     }
@@ -62,6 +67,16 @@ impl<'a> Parts<'a> {
     pub fn record(&self, node: usize) -> &'a [u8; 10] {
         &self.records[node - 1]
     }
+}
+
+/// The bits that a function with this width byte lacks: none with 0, as with 32.
+pub(crate) const fn spare(width: u8) -> u8 {
+    width.wrapping_neg() % 32
+}
+
+/// The bits that no constant of such a function may have, where they are in the first eight bytes of its record.
+pub(crate) const fn beyond(width: u8) -> u64 {
+    (!(u32::MAX >> spare(width)) as u64) << 16
 }
 
 pub(crate) fn half(bytes: &[u8], at: usize) -> usize {

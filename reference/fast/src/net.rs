@@ -3,7 +3,7 @@
 use numbers::{BOUND, CALL, MOST_FUNCTIONS, MOST_NODES, PARAMETER};
 
 use crate::check::Survey;
-use crate::{first, next, word, Parts};
+use crate::{first, next, spare, word, Parts};
 
 /// No cell.
 pub const NONE: u16 = u16::MAX;
@@ -29,9 +29,19 @@ pub struct Cell {
     pub operation: u8,
     /// The node's function, from 0.
     pub owner: u8,
+    /// The bits that this function lacks.
+    pub spare: u8,
 }
 
-const EMPTY: Cell = Cell { word: 0, first: NONE, next: NONE, holder: NONE, node: 0, kind: 0, operation: 0, owner: 0 };
+impl Cell {
+    /// What the node's function keeps of a value.
+    pub fn keep(&self, value: u32) -> u32 {
+        value & u32::MAX >> (self.spare % 32)
+    }
+}
+
+const EMPTY: Cell =
+    Cell { word: 0, first: NONE, next: NONE, holder: NONE, node: 0, kind: 0, operation: 0, owner: 0, spare: 0 };
 
 pub struct Net {
     pub cells: [Cell; MOST_NODES],
@@ -78,6 +88,7 @@ impl Net {
                 kind: if kind == CALL && word - 1 == owner.into() { SELF_CALL } else { kind },
                 operation: record[1],
                 owner,
+                spare: spare(parts.heads[usize::from(owner)][1]),
             };
         }
         let mut roots = [NONE; MOST_FUNCTIONS];

@@ -230,7 +230,7 @@ impl<'a> Runner<'a> {
                     return false;
                 };
                 let values = [self.values[cell(first)], self.values[last]];
-                self.finish(top, at, compute(operation, values));
+                self.finish(top, at, self.net.cells[at].keep(compute(operation, values)));
             }
             BUSY_IF => {
                 let condition = cell(first);
@@ -288,7 +288,7 @@ impl<'a> Runner<'a> {
                 self.inside.add(callee, at);
                 return false;
             }
-            self.finish(top, at, self.values[root]);
+            self.finish(top, at, self.net.cells[at].keep(self.values[root]));
             self.occupant[callee] = 0;
             let mut waiting = self.blocked.take(callee);
             while let Some(at) = waiting {
@@ -374,12 +374,13 @@ impl<'a> Runner<'a> {
     /// Makes a function's body ready for these arguments; its root is to be opened.
     fn enter(&mut self, function: usize, first: u16) {
         let mut arguments = [0; 8];
+        let root = self.net.cells[cell(self.net.roots[function % MOST_FUNCTIONS])];
         let mut child = first;
         for argument in &mut arguments {
             if child == NONE {
                 break;
             }
-            *argument = self.values[cell(child)];
+            *argument = root.keep(self.values[cell(child)]);
             child = self.net.cells[cell(child)].next;
         }
         self.registers[8 * function..8 * function + 8].copy_from_slice(&arguments);

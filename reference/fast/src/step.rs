@@ -39,6 +39,7 @@ pub fn start_lent(table: &[u8], tags: &[u8], arguments: &[u32], lent: &mut Lent)
 struct Begun<'a> {
     main: usize,
     root: usize,
+    mask: u32,
     arguments: &'a [u32],
 }
 
@@ -46,7 +47,7 @@ impl Begun<'_> {
     fn put(&self, state: &mut State) {
         *state = State::zero();
         for (register, argument) in state.registers[self.main - 1].iter_mut().zip(self.arguments) {
-            *register = *argument;
+            *register = *argument & self.mask;
         }
         state.status[self.root - 1] = OPEN;
     }
@@ -58,7 +59,7 @@ fn begun<'a>(table: &[u8], tags: &[u8], arguments: &'a [u32]) -> Result<Begun<'a
     if arguments.len() != parts.parameters(main) {
         return Err(refusal(11, 0));
     }
-    Ok(Begun { main, root: parts.root(main), arguments })
+    Ok(Begun { main, root: parts.root(main), mask: parts.mask(main), arguments })
 }
 
 /// Asks for a step at a node, given by any number. 0 says taken; 2^32 and a value answered; 2 * 2^32 and a refusal
@@ -119,11 +120,14 @@ impl Asked<'_> {
         0
     }
 
+    fn owner(&self) -> usize {
+        self.known.above[self.node].owner().into()
+    }
+
     fn open(&self, record: &[u8; 10], state: &mut State) {
-        let owner = usize::from(self.known.above[self.node].owner());
         match record[0] {
             CONSTANT => state.finish(self.node, word(record)),
-            PARAMETER => state.finish(self.node, state.registers[owner - 1][usize::from(record[1] & 7)]),
+            PARAMETER => state.finish(self.node, state.registers[self.owner() - 1][usize::from(record[1] & 7)]),
             BOUND => state.finish(self.node, state.value[word(record) as usize - 1]),
             kind => {
                 state.status[self.node - 1] = BUSY;
@@ -146,7 +150,7 @@ impl Asked<'_> {
             PRIMITIVE if self.all_done(record, state) => {
                 let last = self.children(record).last().map_or(condition, |(child, _)| child);
                 let values = [condition, last].map(|child| state.value[child - 1]);
-                state.finish(self.node, compute(record[1], values));
+                state.finish(self.node, compute(record[1], values) & self.parts.mask(self.owner()));
                 0
             }
             IF => {
@@ -184,7 +188,7 @@ impl Asked<'_> {
 
     fn call(&self, record: &[u8; 10], state: &mut State) -> u32 {
         let callee = word(record) as usize;
-        if callee == usize::from(self.known.above[self.node].owner()) {
+        if callee == self.owner() {
             if !self.all_done(record, state) {
                 return 21;
             }
@@ -194,7 +198,7 @@ impl Asked<'_> {
             if !state.is_done(root) {
                 return 21;
             }
-            state.finish(self.node, state.value[root - 1]);
+            state.finish(self.node, state.value[root - 1] & self.parts.mask(self.owner()));
             state.occupant[callee - 1] = 0;
         } else {
             if !self.all_done(record, state) {
@@ -214,8 +218,9 @@ impl Asked<'_> {
     /// Makes a function's body ready for the arguments of this call and opens its root.
     fn enter(&self, record: &[u8; 10], function: usize, state: &mut State) {
         let mut arguments = [0; 8];
+        let mask = self.parts.mask(function);
         for (argument, (child, _)) in arguments.iter_mut().zip(self.children(record)) {
-            *argument = state.value[child - 1];
+            *argument = state.value[child - 1] & mask;
         }
         state.registers[function - 1] = arguments;
         let nodes = self.parts.nodes();

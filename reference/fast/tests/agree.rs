@@ -278,7 +278,7 @@ fn same_step(bytes: &[u8], tags: &[u8], begun: &circuit::State, node: u16) -> u6
 #[test]
 fn steps_from_any_state_agree() {
     let mut random = Random::new(17);
-    let (mut taken, mut refused) = (0, [0; 25]);
+    let (mut taken, mut refused) = (0, [0; 26]);
     let mut ask =
         |bytes: &[u8], tags: &[u8], begun: &circuit::State, node: u16| match same_step(bytes, tags, begun, node) {
             answer if answer >> 32 == 2 => refused[(answer >> 16 & 0xffff) as usize] += 1,

@@ -6,12 +6,12 @@ mod rules;
 
 use std::hint::select_unpredictable as select;
 
-use numbers::{MOST_FUNCTIONS, MOST_NODES};
+use numbers::{CONSTANT, MOST_FUNCTIONS, MOST_NODES};
 
-use crate::check::{check, framed};
+use crate::check::{check, framed, is_bad};
 use crate::rules::whole;
 use crate::scope::{is_before, outwards};
-use crate::{first, half, next, word, Parts};
+use crate::{beyond, first, half, next, word, Parts};
 use above::{Above, OWNER, TOO_FEW, TOO_MANY};
 use rules::{arguments_of, room_of, rule, BOUNDS_AT, NO_ROOM};
 
@@ -23,24 +23,25 @@ pub fn check_packed(table: &[u8]) -> u32 {
     }
 }
 
-/// Whether none of the refusals 4 to 9 applies; false too where that takes long to tell. A name is a root, a first or
+/// Whether none of the refusals 4 to 9 and 25 applies; false too where that takes long to tell. A name is a root, a first or
 /// a next. If every node was named before it is looked at and the names come to the sum of all nodes, each is named
 /// once, and by a lower one.
 fn is_clean(parts: &Parts) -> bool {
     let nodes = parts.nodes();
     let mut above = [Above::NONE; MOST_NODES + 1];
-    let (mut arguments, mut room) = ([0; 64], [0; 64]);
+    let (mut arguments, mut room, mut wide) = ([0; 64], [0; 64], [0; 64]);
     // An unnamed node has function 0.
     room[0] = NO_ROOM;
     // The sum of the names, and above it the number of bounds.
     let mut tally = 0;
     for (head, function) in parts.heads.iter().zip(1..MOST_FUNCTIONS + 1) {
         let root = half(head, 2);
-        if root == 0 || root > nodes || next(parts.record(root)) != 0 || head[0] > 8 || head[1] != 0 {
+        if root == 0 || root > nodes || next(parts.record(root)) != 0 || is_bad(head) {
             return false;
         }
         arguments[function] = arguments_of(head[0]);
         room[function] = room_of(function, head[0]);
+        wide[function] = beyond(head[1]);
         above[root] = Above::root(function);
         tally += root;
     }
@@ -70,7 +71,7 @@ fn is_clean(parts: &Parts) -> bool {
         ends |= above[0].0;
         // Out of tail position the own function is one too many.
         let used = asked + (u32::from(!in_tail) << 16) + room[named.owner()];
-        wrong |= u64::from(used & NO_ROOM);
+        wrong |= u64::from(used & NO_ROOM) | whole & select(whole as u8 == CONSTANT, wide[named.owner()], 0);
     }
     let (names, bound_count) = (tally % (1 << BOUNDS_AT), tally >> BOUNDS_AT);
     (wrong | ends & (TOO_MANY | TOO_FEW)) == 0
