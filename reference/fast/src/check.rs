@@ -209,7 +209,7 @@ impl Survey {
             };
             // Only in tail position the own function may be called.
             let callees = u32::from(owner) - u32::from(!in_tail);
-            bad |= whole & (rule.zero | select(kind == CONSTANT, wide[usize::from(owner)], 0))
+            bad |= whole & (rule.zero | rule.room & wide[usize::from(owner)])
                 | u64::from(select(first == 0, rule.fewest | arguments, 0))
                 | u64::from((kind == CALL) & (word.wrapping_sub(1) >= callees))
                 | u64::from((kind == PARAMETER) & (extra >= parameters[usize::from(owner)]))

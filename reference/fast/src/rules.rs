@@ -11,6 +11,8 @@ use crate::check::Above;
 pub(crate) struct Rule {
     /// Which of the bytes of kind, extra, word and first have to be zero.
     pub zero: u64,
+    /// Which of them have to be zero besides if the function has no room for them: the word of a constant.
+    pub room: u64,
     /// The place of its first child.
     pub below: u32,
     /// Fewest and most children; a call has the number of its callee, which is looked at apart.
@@ -37,7 +39,8 @@ pub(crate) static RULES: [Rule; 512] = {
     const WORD: u64 = 0xffff_ffff << 16;
     const FIRST: u64 = 0xffff << 48;
     const fn rule(kind: u8, zero: u64, fewest: u8, most: u8) -> Rule {
-        Rule { zero, below: Above::below(kind, fewest, most), fewest: fewest as u32, most: most as u32 }
+        let room = if kind == CONSTANT { WORD } else { 0 };
+        Rule { zero, room, below: Above::below(kind, fewest, most), fewest: fewest as u32, most: most as u32 }
     }
     let mut rules = [rule(0, u64::MAX, 1, 1); 512];
     rules[CONSTANT as usize] = rule(CONSTANT, EXTRA | FIRST, 0, 0);
