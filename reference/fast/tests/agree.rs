@@ -2,14 +2,16 @@
 
 use design::asm::assemble;
 use design::circuit::{self, Answer, NodeState};
-use design::damage::damaged;
-use design::difference::{code, shown};
+use design::damage::{damaged, too_wide};
+use design::difference::{code, shown, Outcome};
 use design::generator::{accepted, accepted_of, accepted_sharing};
 use design::list::tags_of;
 use design::random::Random;
 use design::reading::read;
 use design::states::{any_state, arguments, damage_state, damaged_tags, tags};
 use design::towers::{any_comb, any_deep, any_tower};
+use design::width_cases::{standings, CASES};
+use design::width_kinds::{WidthKinds, ASTRAY, STARTED};
 use design::{check, Node, Tree};
 use fast::{run_watched, Ending, State};
 
@@ -31,10 +33,14 @@ fn checks_say(bytes: &[u8], wanted: u32) {
 #[test]
 fn the_checks_agree() {
     let mut random = Random::new(11);
+    let mut wide = 0;
     for _ in 0..50000 {
         let bytes = damaged(&mut random);
-        checks_say(&bytes, code(check(&bytes)));
+        let wanted = code(check(&bytes));
+        checks_say(&bytes, wanted);
+        wide += usize::from(wanted >> 16 == 25);
     }
+    assert!(wide > 2000, "{wide}");
     for _ in 0..4000 {
         checks_say(&accepted(&mut random), 0);
     }
@@ -154,7 +160,7 @@ fn from_fast(state: &State) -> circuit::State {
 }
 
 /// Runs from this state and has the reference take the same steps one by one.
-fn replay(bytes: &[u8], tags: &[u8], begun: &circuit::State, budget: u32) -> (u32, Ending) {
+fn replay(kinds: &mut WidthKinds, bytes: &[u8], tags: &[u8], begun: &circuit::State, budget: u32) -> (u32, Ending) {
     let tree = Tree::read(bytes).expect("an accepted table");
     let mut state = to_fast(begun);
     let mut steps = Vec::new();
@@ -165,6 +171,7 @@ fn replay(bytes: &[u8], tags: &[u8], begun: &circuit::State, budget: u32) -> (u3
     let mut answer = Answer::Taken;
     for node in steps {
         assert_eq!(answer, Answer::Taken);
+        kinds.note(&tree, &own, Node(node));
         answer = circuit::step_with(&tree, tags, &mut own, node);
         assert!(!matches!(answer, Answer::Refused(_)), "{node}: {answer:?}");
     }
@@ -181,8 +188,8 @@ fn replay(bytes: &[u8], tags: &[u8], begun: &circuit::State, budget: u32) -> (u3
 }
 
 #[test]
-fn runs_from_a_start_agree() {
-    let mut random = Random::new(13);
+fn runs_from_a_start_agree() -> Outcome {
+    let (mut random, mut kinds) = (Random::new(13), WidthKinds::default());
     for round in 0..1500 {
         let bytes = accepted(&mut random);
         let tree = Tree::read(&bytes).expect("an accepted table");
@@ -195,17 +202,47 @@ fn runs_from_a_start_agree() {
             assert!(own == to_fast(&begun));
         }
         let budget = if round % 4 == 0 { random.below(200) as u32 } else { 800 };
-        let found = replay(&bytes, &tags, &begun, budget);
+        let found = replay(&mut kinds, &bytes, &tags, &begun, budget);
         match read(&tree, &arguments, budget.into()) {
             Some(reading) => assert_eq!(found, (reading.count as u32, Ending::Answered(reading.value))),
             None => assert_eq!(found, (budget, Ending::Spent)),
         }
     }
+    kinds.often(&STARTED, 200)?;
+    kinds.never(&ASTRAY)
+}
+
+/// The named designs of narrow functions: both starts and the run.
+#[test]
+fn named_widths_agree() {
+    for (text, arguments, value, count) in CASES {
+        let bytes = assemble(text).expect(text);
+        let tags = tags_of(&bytes).expect(text);
+        for start in STARTS {
+            let mut state = State::zero();
+            assert_eq!(start(&bytes, &tags, arguments, &mut state), 0, "{text}");
+            let told = fast::run(&bytes, &tags, &mut state, 1000);
+            assert_eq!(told, Ok((count, Ending::Answered(value))), "{text} of {arguments:?}");
+        }
+    }
 }
 
 #[test]
-fn runs_from_any_state_agree() {
-    let mut random = Random::new(14);
+fn named_steps_agree() {
+    for case in standings() {
+        let bytes = assemble(case.text).expect(case.text);
+        assert!(same_step(&bytes, &[0], &case.before, case.node) >> 32 < 2, "{}", case.text);
+        for step in STEPS {
+            let mut state = to_fast(&case.before);
+            step(&bytes, &[0], &mut state, case.node);
+            assert!(from_fast(&state) == case.after, "{}", case.text);
+        }
+    }
+}
+
+#[test]
+fn runs_from_any_state_agree() -> Outcome {
+    let (mut random, mut kinds) = (Random::new(14), WidthKinds::default());
     let mut endings = [0; 3];
     for _ in 0..3000 {
         let nodes = random.within(1, 60);
@@ -213,7 +250,7 @@ fn runs_from_any_state_agree() {
         let tree = Tree::read(&bytes).expect("an accepted table");
         let tags = tags(&mut random, &tree);
         let mut begun = any_state(&mut random, &tree);
-        let (_, ending) = replay(&bytes, &tags, &begun, 300);
+        let (_, ending) = replay(&mut kinds, &bytes, &tags, &begun, 300);
         endings[match ending {
             Ending::Answered(_) => 0,
             Ending::AtRest => 1,
@@ -225,13 +262,19 @@ fn runs_from_any_state_agree() {
         assert!(state == to_fast(&begun));
     }
     assert!(endings.iter().all(|count| *count > 100), "{endings:?}");
+    kinds.often(&ASTRAY, 30)
 }
 
 #[test]
 fn starts_are_refused_alike() {
     let mut random = Random::new(15);
+    let mut refused = [0; 26];
     for _ in 0..2000 {
-        let bytes = if random.once_in(2) { damaged(&mut random) } else { accepted(&mut random) };
+        let bytes = match random.below(12) {
+            0..=4 => damaged(&mut random),
+            5 => too_wide(&mut random),
+            _ => accepted(&mut random),
+        };
         let tags = match Tree::read(&bytes) {
             Ok(tree) if random.once_in(2) => damaged_tags(&mut random, &tree),
             Ok(tree) => tags(&mut random, &tree),
@@ -245,7 +288,9 @@ fn starts_are_refused_alike() {
             assert_eq!(start(&bytes, &tags, &vec![1; count], &mut found), code(answer));
             assert!(found == to_fast(&wanted));
         }
+        refused[answer.map_or_else(|refusal| usize::from(refusal.number), |()| 0)] += 1;
     }
+    assert!([0, 5, 9, 10, 11, 25].iter().all(|number| refused[*number] > 20), "{refused:?}");
 }
 
 type Start = fn(&[u8], &[u8], &[u32], &mut State) -> u32;
@@ -295,8 +340,12 @@ fn steps_from_any_state_agree() {
         }
         ask(&bytes, &damaged_tags(&mut random, &tree), &begun, 1);
         ask(&damaged(&mut random), &tags, &begun, 1);
+        ask(&too_wide(&mut random), &tags, &begun, 1);
         damage_state(&mut random, &tree, &mut begun);
         ask(&bytes, &tags, &begun, random.within(0, nodes + 1) as u16);
     }
-    assert!(taken > 5000 && [10, 12, 20, 21, 22, 23, 24].iter().all(|number| refused[*number] > 100), "{refused:?}");
+    assert!(
+        taken > 5000 && [10, 12, 20, 21, 22, 23, 24, 25].iter().all(|number| refused[*number] > 100),
+        "{refused:?}"
+    );
 }
