@@ -147,6 +147,7 @@ fn every_byte_of_small_tables() -> Outcome {
         "fun f(x) = x  fun main(x) = beside(f(x), f(x))",
         "fun f(x) = if x then f(halve(x)) else let a = 1, b = x in add(a, b)",
         "fun f() = 3  fun g(x, y) = let a = f() in g(a, less(x, y))  fun main() = g(1, f())",
+        "fun f(x): 4 = add(x, 15)  fun main(x): 8 = if less(x, 200) then f(x) else main(halve(x))",
     ] {
         let bytes = table(text);
         for at in 0..bytes.len() {

@@ -8,6 +8,7 @@ use design::generator::{accepted, accepted_of, accepted_sharing, accepted_sharin
 use design::list::tags_of;
 use design::random::Random;
 use design::states::{any_state, arguments, damage_state, tags};
+use design::width_kinds::{is_narrow, WidthKinds};
 use design::{Node, Refusal, Tree};
 
 use crate::lent::Lent;
@@ -21,6 +22,9 @@ const MOST_STEPS: u32 = 6;
 pub const EMPTY_LIST: &str = "the list is empty";
 pub const LIST_HELD: &str = "tags hold the list";
 pub const LIST_MISSED: &str = "tags miss some of the list";
+
+/// A design with a function of fewer bits than a value has.
+pub const NARROW: &str = "narrow";
 
 /// A table, mostly of a small design: it gets through its steps. In half of them something is on the list.
 pub fn some_table(random: &mut Random) -> Vec<u8> {
@@ -69,6 +73,8 @@ pub struct Round {
     pub lent: Lent,
     /// Whether every step of the last drive was found.
     pub retraced: bool,
+    /// What the steps that were asked for one by one did with widths.
+    pub widths: WidthKinds,
 }
 
 impl Round {
@@ -90,6 +96,7 @@ impl Round {
             Round::standing(bytes, tags, state)?
         };
         seen.note(round.tagging()?);
+        seen.note_if(NARROW, is_narrow(&round.tree));
         Ok(round)
     }
 
@@ -110,7 +117,7 @@ impl Round {
     pub fn standing(bytes: Vec<u8>, tags: Vec<u8>, own: State) -> Result<Round, String> {
         let tree = tree_of(&bytes)?;
         let lent = Lent::of(&own);
-        Ok(Round { bytes, tags, tree, own, lent, retraced: false })
+        Ok(Round { bytes, tags, tree, own, lent, retraced: false, widths: WidthKinds::default() })
     }
 
     fn expect(&self, holds: bool, otherwise: impl FnOnce() -> String) -> Outcome {
@@ -192,6 +199,9 @@ impl Round {
     pub fn step(&mut self, node: u16) -> Result<Answer, String> {
         let before = self.own.clone();
         let wanted = step_with(&self.tree, &self.tags, &mut self.own, node);
+        if !matches!(wanted, Answer::Refused(_)) {
+            self.widths.note(&self.tree, &before, Node(node));
+        }
         let found = crate::step(&self.bytes, &self.tags, &mut self.lent, node)?;
         self.agreed(before, found, wanted, || format!("step at {node}"))
     }

@@ -1,6 +1,6 @@
 //! The run on a budget of the proved circuit against the reference and the plain reading.
 
-use compare_circuit::rounds::{some_table, some_tags, tree_of, Round, EMPTY_LIST, LIST_HELD, LIST_MISSED};
+use compare_circuit::rounds::{some_table, some_tags, tree_of, Round, EMPTY_LIST, LIST_HELD, LIST_MISSED, NARROW};
 use compare_circuit::seen::Seen;
 use design::circuit::{run_budget, Ending};
 use design::difference::{ensure, Outcome};
@@ -8,6 +8,7 @@ use design::random::Random;
 use design::reading::{read, Reading};
 use design::states::arguments;
 use design::towers::{any_comb, any_deep, any_tower};
+use design::width_kinds::is_narrow;
 
 const DRIVES: usize = 6_000;
 
@@ -43,10 +44,12 @@ fn drives_from_a_start() -> Outcome {
         let reading = read(&tree, &arguments, LIMIT);
         let round = Round::started(bytes, tags, &arguments)?;
         seen.note(round.tagging()?);
+        seen.note_if(NARROW, is_narrow(&tree));
         let told = drive_on(&mut random, &mut seen, round, reading);
         told.map_err(|difference| format!("{difference}\narguments {arguments:?}"))?;
     }
     let wanted = [
+        (NARROW, DRIVES / 2),
         (EMPTY_LIST, DRIVES / 10),
         (LIST_HELD, DRIVES / 5),
         (LIST_MISSED, DRIVES / 12),
@@ -120,6 +123,7 @@ fn drives_step_by_step() -> Outcome {
         let _ = round.drive(&mut random, budget)?;
     }
     let wanted = [
+        (NARROW, DRIVES / 2),
         ("from a start", DRIVES / 3),
         ("from any state", DRIVES / 3),
         (EMPTY_LIST, DRIVES / 10),

@@ -2,13 +2,14 @@
 
 use std::collections::BTreeMap;
 
-use compare_circuit::rounds::{some_table, some_tags, tree_of, Round, EMPTY_LIST, LIST_HELD, LIST_MISSED};
+use compare_circuit::rounds::{some_table, some_tags, tree_of, Round, EMPTY_LIST, LIST_HELD, LIST_MISSED, NARROW};
 use compare_circuit::seen::Seen;
 use design::circuit::{self, possible, Answer};
 use design::difference::{ensure, Outcome};
 use design::random::Random;
 use design::reading::read;
 use design::states::arguments;
+use design::width_kinds::is_narrow;
 use design::Node;
 
 const RUNS: usize = 6_000;
@@ -17,7 +18,8 @@ const RUNS: usize = 6_000;
 const LIMIT: u64 = 1_000;
 
 /// Both beginnings and each sort of tags have to occur in every test.
-const ROUNDS: [(&str, usize); 5] = [
+const ROUNDS: [(&str, usize); 6] = [
+    (NARROW, RUNS / 2),
     ("from a start", RUNS / 3),
     ("from any state", RUNS / 3),
     (EMPTY_LIST, RUNS / 10),
@@ -160,6 +162,7 @@ fn runs_to_the_answer() -> Outcome {
         let tags = some_tags(&mut random, &bytes)?;
         let mut round = Round::started(bytes, tags, &arguments)?;
         seen.note(round.tagging()?);
+        seen.note_if(NARROW, is_narrow(&tree));
         let nodes = good_nodes(&mut random, &round, usize::MAX);
         let told = round.run(&mut random, &nodes)?;
         let root = *round.own.node(tree.root(tree.main()));
@@ -176,6 +179,7 @@ fn runs_to_the_answer() -> Outcome {
         seen.note_if("in more than 100 steps", reading.count > 100);
     }
     let wanted = [
+        (NARROW, RUNS / 4),
         (EMPTY_LIST, RUNS / 20),
         (LIST_HELD, RUNS / 20),
         (LIST_MISSED, RUNS / 50),

@@ -4,13 +4,15 @@ use compare_circuit::lent::Lent;
 use compare_circuit::seen::Seen;
 use compare_circuit::{drive, query, run, start, step};
 use design::circuit::{self, Answer, State};
-use design::damage::damaged;
+use design::damage::{damaged, too_wide};
 use design::difference::{ensure, shown, Outcome};
 use design::generator::accepted;
 use design::list::tag_length;
 use design::random::Random;
 use design::states::{any_state, arguments, damage_state, damaged_tags, tags};
-use design::{Node, Refusal, Tree};
+use design::table::narrow;
+use design::{Function, Node, Refusal, Table, Tree};
+use numbers::MOST_NODES;
 
 const STARTS: usize = 8_000;
 
@@ -34,6 +36,8 @@ fn some_tags(random: &mut Random, bytes: &[u8]) -> Vec<u8> {
     match Tree::read(bytes) {
         Ok(tree) if random.once_in(3) => damaged_tags(random, &tree),
         Ok(tree) => tags(random, &tree),
+        // Such as would do if the table did.
+        Err(_) if random.once_in(3) => vec![0; nodes_of(bytes).div_ceil(8)],
         Err(_) => {
             let length = random.below(66);
             random.bytes(length)
@@ -41,10 +45,16 @@ fn some_tags(random: &mut Random, bytes: &[u8]) -> Vec<u8> {
     }
 }
 
+/// N, if it is within its limits.
+fn nodes_of(bytes: &[u8]) -> usize {
+    usize::from(Table::new(bytes).node_count()).min(MOST_NODES)
+}
+
 fn some_table(random: &mut Random) -> Vec<u8> {
-    match random.once_in(3) {
-        true => damaged(random),
-        false => accepted(random),
+    match random.below(30) {
+        0..=8 => damaged(random),
+        9 => too_wide(random),
+        _ => accepted(random),
     }
 }
 
@@ -67,6 +77,26 @@ fn note_refusal(seen: &mut Seen, refusal: Refusal, bytes: &[u8], tags: &[u8]) {
         (10, Node(0)) if right_length => seen.note("10 for a tag past N"),
         (10, Node(0)) => seen.note("10 for the length"),
         (10, _) => seen.note("10 at a node"),
+        _ => {}
+    }
+}
+
+/// What would be refused after 25, and where a start cuts an argument.
+fn note_start(seen: &mut Seen, told: Result<(), Refusal>, bytes: &[u8], tags: &[u8], arguments: &[u32]) {
+    let (table, nodes) = (Table::new(bytes), nodes_of(bytes));
+    let main = Function(table.function_count());
+    match told {
+        Ok(()) => {
+            let cut = |value: &u32| narrow(table.width(main), *value) != *value;
+            seen.note_if("an argument cut by the start", arguments.iter().any(cut));
+        }
+        Err(refusal) if refusal.number == 25 => {
+            let (other_tags, count) = (tags.len() != nodes.div_ceil(8), usize::from(table.parameter_count(main)));
+            let no_tags = !other_tags && tags.iter().all(|byte| *byte == 0);
+            seen.note_if("25 beside 10", other_tags);
+            seen.note_if("25 beside 11", no_tags && arguments.len() != count);
+            seen.note_if("25 alone", no_tags && arguments.len() == count);
+        }
         _ => {}
     }
 }
@@ -96,6 +126,7 @@ fn starts() -> Outcome {
         let found = start(&bytes, &tags, &arguments, &mut lent)?;
         let with = || format!("table {}, tags {}, arguments {arguments:?}", shown(&bytes), shown(&tags));
         ensure(found == wanted, || format!("said {found:?}, wanted {wanted:?}: {}", with()))?;
+        note_start(&mut seen, wanted, &bytes, &tags, &arguments);
         match wanted {
             Ok(()) => seen.note("started"),
             Err(refusal) => {
@@ -106,8 +137,9 @@ fn starts() -> Outcome {
         lent.same_as(&own).map_err(|difference| format!("after {wanted:?} {difference}: {}", with()))?;
     }
     seen.often("starts", &CAUSES)?;
-    seen.at_least("starts", &[("started", 2000), ("refused 11", 500)])?;
-    seen.refused_often("starts", 1..=11, 50)
+    seen.at_least("starts", &[("started", 2000), ("refused 11", 500), ("an argument cut by the start", 500)])?;
+    seen.at_least("starts", &[("25 beside 10", 100), ("25 beside 11", 50), ("25 alone", 5)])?;
+    seen.refused_often("starts", (1..=11).chain([25]), 50)
 }
 
 /// The refusals before any step: the table's, then the tags', then for a step 12, then 24. All keep the state, and
@@ -133,7 +165,7 @@ fn refused_before_any_step() -> Outcome {
         note_refusal(&mut seen, refusal, &bytes, &tags);
         all_refused(&mut random, &bytes, &tags, &own, refusal)?;
         seen.note(match refusal.number {
-            1..=9 => "for the table",
+            1..=9 | 25 => "for the table",
             10 => "for the tags",
             _ => "for the state",
         });
@@ -141,7 +173,7 @@ fn refused_before_any_step() -> Outcome {
     seen.often("before any step", &CAUSES)?;
     let wanted = ["for the table", "for the tags", "for the state"].map(|cause| (cause, 1000));
     seen.at_least("before any step", &wanted)?;
-    seen.refused_often("before any step", (1..=10).chain([24]), 50)
+    seen.refused_often("before any step", (1..=10).chain([24, 25]), 50)
 }
 
 fn all_refused(random: &mut Random, bytes: &[u8], tags: &[u8], own: &State, refusal: Refusal) -> Outcome {

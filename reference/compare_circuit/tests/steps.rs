@@ -1,6 +1,6 @@
 //! Single steps of the proved circuit against the reference: the answer and the whole state after each.
 
-use compare_circuit::rounds::{some_table, some_tags, tree_of, Round, EMPTY_LIST, LIST_HELD, LIST_MISSED};
+use compare_circuit::rounds::{some_table, some_tags, tree_of, Round, EMPTY_LIST, LIST_HELD, LIST_MISSED, NARROW};
 use compare_circuit::seen::Seen;
 use design::asm::assemble;
 use design::circuit::Answer;
@@ -9,11 +9,14 @@ use design::random::Random;
 use design::reading::{read, Reading};
 use design::states::{any_state, arguments, damage_state};
 use design::towers::{any_comb, any_deep, any_tower};
+use design::width_kinds::{is_narrow, WidthKinds, ASTRAY, STARTED};
 use design::Node;
 
-/// Schedules from a start, and rounds from any state.
+/// Schedules from a start, and rounds from any state; of each so many in a hundred have a narrow function, which makes
+/// more than 20000 such designs.
 const SCHEDULES: usize = 20_000;
 const STANDINGS: usize = 9_000;
+const NARROW_SHARE: usize = 75;
 
 /// Steps up to which a reading is followed.
 const LIMIT: u64 = 400;
@@ -60,8 +63,8 @@ impl Schedule {
     }
 }
 
-/// Asks until main answers and a little on, or until the asks are used up.
-fn schedule(random: &mut Random, seen: &mut Seen, bytes: Vec<u8>, mut asks: usize) -> Outcome {
+/// Asks until main answers and a little on, or until the asks are used up; tells what the steps did with widths.
+fn schedule(random: &mut Random, seen: &mut Seen, bytes: Vec<u8>, mut asks: usize) -> Result<WidthKinds, String> {
     let mut schedule = Schedule::started(random, bytes)?;
     let tagging = schedule.round.tagging()?;
     let mut answered = false;
@@ -85,18 +88,22 @@ fn schedule(random: &mut Random, seen: &mut Seen, bytes: Vec<u8>, mut asks: usiz
         answered && schedule.out_of_order && schedule.refused > 4,
     );
     seen.note_if("goes on past the limit", schedule.reading.is_none());
-    Ok(())
+    seen.note_if(NARROW, is_narrow(&schedule.round.tree));
+    Ok(schedule.round.widths)
 }
 
 #[test]
 fn schedules_from_a_start() -> Outcome {
-    let (mut random, mut seen) = (Random::new(401), Seen::default());
+    let (mut random, mut seen, mut widths) = (Random::new(401), Seen::default(), WidthKinds::default());
     for _ in 0..SCHEDULES {
         let bytes = some_table(&mut random);
         let asks = if bytes.len() > 1000 { 60 } else { random.within(20, 400) };
-        schedule(&mut random, &mut seen, bytes, asks)?;
+        widths.add(schedule(&mut random, &mut seen, bytes, asks)?);
     }
+    widths.often(&STARTED, 500)?;
+    widths.never(&ASTRAY)?;
     let wanted = [
+        (NARROW, SCHEDULES * NARROW_SHARE / 100),
         ("taken", 300_000),
         (EMPTY_LIST, SCHEDULES / 10),
         (LIST_HELD, SCHEDULES / 5),
@@ -118,13 +125,13 @@ fn towers_and_deep_chains() -> Outcome {
             schedule(&mut random, &mut seen, bytes, 150)?;
         }
     }
-    seen.often("towers", &[("taken", 5000), (LIST_HELD, 40), (LIST_MISSED, 10)])
+    seen.often("towers", &[("taken", 5000), (LIST_HELD, 40), (LIST_MISSED, 10), (NARROW, 80)])
 }
 
 /// States that no start leads to: asked at many nodes each, and some steps on from there.
 #[test]
 fn steps_from_any_state() -> Outcome {
-    let (mut random, mut seen) = (Random::new(403), Seen::default());
+    let (mut random, mut seen, mut widths) = (Random::new(403), Seen::default(), WidthKinds::default());
     for _ in 0..STANDINGS {
         let bytes = some_table(&mut random);
         let tree = tree_of(&bytes)?;
@@ -139,6 +146,7 @@ fn steps_from_any_state() -> Outcome {
             1..=24 => asked.extend(1..=count),
             _ => asked.extend((0..12).map(|_| random.within(1, count.into()) as u16)),
         }
+        seen.note_if(NARROW, is_narrow(&tree));
         let mut round = Round::standing(bytes, tags, state)?;
         let (own, lent) = (round.own.clone(), round.lent.clone());
         for node in asked {
@@ -149,8 +157,11 @@ fn steps_from_any_state() -> Outcome {
             let node = round.some_node(&mut random);
             seen.answer(round.step(node)?);
         }
+        widths.add(round.widths);
     }
-    seen.often("any state", &[("taken", 50_000), ("answered", 1000)])?;
+    widths.often(&[&STARTED[..], &ASTRAY].concat(), 200)?;
+    let narrow = STANDINGS * NARROW_SHARE / 100;
+    seen.often("any state", &[("taken", 50_000), ("answered", 1000), (NARROW, narrow)])?;
     seen.refused_often("any state", [12, 20, 21, 22, 23, 24], 1000)
 }
 

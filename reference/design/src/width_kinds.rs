@@ -47,6 +47,12 @@ impl WidthKinds {
         }
     }
 
+    pub fn add(&mut self, other: WidthKinds) {
+        for (kind, count) in other.counts {
+            *self.counts.entry(kind).or_insert(0) += count;
+        }
+    }
+
     fn count(&self, kind: &str) -> usize {
         self.counts.get(kind).copied().unwrap_or(0)
     }

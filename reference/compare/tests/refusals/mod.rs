@@ -20,7 +20,7 @@ impl Refusals {
     pub fn often(&self, accepted: usize, fewest: usize) -> Outcome {
         println!("{:?}", self.counts);
         let at_place_0 = (1..=5).map(|number| (number, false));
-        let at_a_node = (4..=9).map(|number| (number, true));
+        let at_a_node = (4..=9).chain([25]).map(|number| (number, true));
         let refused = at_place_0.chain(at_a_node).map(|cause| (cause, fewest));
         for (cause, fewest) in refused.chain([((0, false), accepted)]) {
             let count = self.counts.get(&cause).copied().unwrap_or(0);
