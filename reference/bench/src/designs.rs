@@ -7,6 +7,7 @@ use design::list::tags_of;
 use design::random::Random;
 use design::reading::read;
 use design::states::arguments;
+use design::width_kinds::is_narrow;
 use design::Tree;
 
 /// Nodes of the tables that the check and the list are timed on.
@@ -19,21 +20,31 @@ const JOBS: usize = 12;
 
 pub fn tables(size: usize) -> Vec<Vec<u8>> {
     let mut random = Random::new(size as u64);
-    (0..TABLES).map(|_| accepted_of(&mut random, size)).collect()
+    let tables: Vec<Vec<u8>> = (0..TABLES).map(|_| accepted_of(&mut random, size)).collect();
+    let has_widths = |table: &&Vec<u8>| is_narrow(&Tree::read(table).expect("an accepted table"));
+    mostly_narrow(tables.iter().filter(has_widths).count(), TABLES);
+    tables
+}
+
+/// Widths are timed too: most designs have a function that is narrow.
+fn mostly_narrow(narrow: usize, all: usize) {
+    assert!(2 * narrow > all, "{narrow} of {all} designs have a narrow function");
 }
 
 /// Jobs, each made of a table of this size and arguments for main with which it goes on for longer than these steps.
 pub fn jobs<Job>(size: usize, steps: u32, job: impl Fn(Vec<u8>, Vec<u32>) -> Job) -> Vec<Job> {
     let mut random = Random::new(size as u64);
-    let mut jobs = Vec::new();
+    let (mut jobs, mut narrow) = (Vec::new(), 0);
     while jobs.len() < JOBS {
         let table = accepted_of(&mut random, size);
         let tree = Tree::read(&table).expect("an accepted table");
         let arguments = arguments(&mut random, &tree);
         if read(&tree, &arguments, steps.into()).is_none() {
+            narrow += usize::from(is_narrow(&tree));
             jobs.push(job(table, arguments));
         }
     }
+    mostly_narrow(narrow, JOBS);
     jobs
 }
 

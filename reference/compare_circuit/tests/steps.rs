@@ -159,7 +159,7 @@ fn steps_from_any_state() -> Outcome {
         }
         widths.add(round.widths);
     }
-    widths.often(&[&STARTED[..], &ASTRAY].concat(), 200)?;
+    widths.often(&[&STARTED[..], &ASTRAY].concat(), 50)?;
     let narrow = STANDINGS * NARROW_SHARE / 100;
     seen.often("any state", &[("taken", 50_000), ("answered", 1000), (NARROW, narrow)])?;
     seen.refused_often("any state", [12, 20, 21, 22, 23, 24], 1000)

@@ -115,9 +115,8 @@ fn links(random: &mut Random, bytes: &mut [u8]) {
     let lower = Node(random.within(1, usize::from(node.0)) as u16);
     let far = random.number() as u16;
     let value = random.pick(&[0, node.0, lower.0, other.0, other.0, nodes, nodes + 1, far]);
-    match random.below(8) {
-        0 => put(bytes, root_at(function), &value.to_le_bytes()),
-        1 => swap(bytes, root_at(function), root_at(sibling)),
+    match random.below(9) {
+        0..=1 => put(bytes, root_at(function), &value.to_le_bytes()),
         2 => {
             let root = Table::new(bytes).root(sibling);
             put(bytes, root_at(function), &root.0.to_le_bytes());
@@ -138,6 +137,7 @@ fn links(random: &mut Random, bytes: &mut [u8]) {
             let (one, two) = (root_at(function), node_at(bytes, node, field));
             swap(bytes, one, two);
         }
+        6 => swap(bytes, root_at(function), root_at(sibling)),
         _ => set(bytes, node, field, &value.to_le_bytes()),
     }
 }

@@ -49,7 +49,8 @@ pub fn damaged_tags(random: &mut Random, tree: &Tree) -> Vec<u8> {
 pub fn any_state(random: &mut Random, tree: &Tree) -> State {
     let mut state = State::zero();
     let node_count = tree.node_count();
-    // Done nodes and busy calls are frequent: else hardly a call comes to enter or to wait.
+    // Done nodes and busy calls are frequent: else hardly a call comes to enter or to wait. Other nodes that hold some
+    // are busy too: else few of them go on with wide values.
     let done_share = random.within(1, 9);
     let free_share = random.within(0, 3);
     // In half of the states there are values that a narrow function would not come to.
@@ -66,7 +67,8 @@ pub fn any_state(random: &mut Random, tree: &Tree) -> State {
         }
     }
     for node in tree.nodes() {
-        if tree.other_callee(node).is_some() && random.once_in(2) {
+        let is_call = tree.other_callee(node).is_some();
+        if is_call && random.once_in(2) || !tree.children(node).is_empty() && random.once_in(3) {
             state.node_mut(node).status = BUSY;
         }
     }
