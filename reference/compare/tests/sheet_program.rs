@@ -78,7 +78,7 @@ fn all_kinds_of_tables() -> Outcome {
         seen.refused += other.refused;
     }
     println!("{} refused", seen.refused);
-    seen.kinds.often(40)?;
+    seen.kinds.often(30)?;
     ensure(seen.refused >= 2_000, || format!("{} refused", seen.refused))
 }
 
