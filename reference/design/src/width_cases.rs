@@ -75,7 +75,7 @@ pub struct Standing {
     pub after: State,
 }
 
-/// A state of a function's own: registers and values are wider than it, and a step keeps or cuts them.
+/// A state with these first nodes, and after the step the one asked at as given.
 fn standing(text: &'static str, node: u16, nodes: &[(u8, bool, u32)], after: (u8, bool, u32)) -> Standing {
     let entry = |(status, second, value): (u8, bool, u32)| NodeState { status, second, value };
     let mut before = State::zero();
