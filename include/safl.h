@@ -52,12 +52,12 @@ static inline unsigned safl_place(uint32_t refusal) {
     return refusal & 0xffffu;
 }
 
-/* ---- The table: refusals 1 to 9 */
+/* ---- The table: refusals 1 to 9, then 25 */
 
 /* 0 for an accepted table, or a refusal. */
 uint32_t table_check(const uint8_t *table, size_t table_len);
 
-/* ---- The arbiter list. Refusals 1 to 9 of the table come first, then 10. */
+/* ---- The arbiter list. The table's refusals, 1 to 9 and 25, come first, then 10. */
 
 /* A call that needs an arbiter: the function called, the function it stands in, its node. All three count from 1. */
 struct safl_record {
@@ -87,11 +87,11 @@ uint32_t list_fill_records(const uint8_t *table, size_t table_len, struct safl_r
 /* ---- The arbiter sheet: the list by resource, in pages of 24 lines of 32 characters and a line feed. */
 
 /* Prints the sheet of a table into the text, from the front; bytes past its end stay as they were, and no zero byte is put there.
-   SAFL_VALUE: the number of its bytes; SAFL_REFUSED, 1 to 9 of the table, the text as it was. */
+   SAFL_VALUE: the number of its bytes; SAFL_REFUSED, by the table alone, the text as it was. */
 uint64_t sheet_fill(const uint8_t *table, size_t table_len, uint8_t text[SAFL_SHEET_BYTES]);
 
-/* ---- The circuit under a tag list. Refusals 1 to 10 of table and tags come first; then 11 of a start; 12, 24, 20, and 21, 22 or 23 of a
-   step; 24 of a query and of a run, whose steps follow. */
+/* ---- The circuit under a tag list. The refusals of table and tags, 1 to 9, 25 and 10, come first; then 11 of a start; 12, 24, 20, and 21,
+   22 or 23 of a step; 24 of a query and of a run, whose steps follow. */
 
 /* A circuit's state: five arrays, each lent by itself. Node n is at n - 1; the registers of function f are at 8 * (f - 1) to 8 * f - 1, its
    occupant is at f - 1. A start fills all of it; before one, zeros will do. */

@@ -25,7 +25,7 @@ fn code(c: Checked) -> u32
     }
 }
 
-// Refusals 1 to 9.
+// Refusals 1 to 9, then 25.
 #[no_mangle]
 pub extern "C" fn table_check(bytes: &[u8]) -> u32
     ensures { λ r. ⌜ r ≡ codeOf (checkOf (now (bytes .entry))) ⌝ }
