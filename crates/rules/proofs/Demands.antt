@@ -117,7 +117,7 @@ module _ (t : List ℕ) (F N : ℕ) (check : checkOf t ≡ accepted F N) where
       not-over true e = absurd (true≢false e)
       not-over false e = tt
 
-  main-few : (args : List ℕ) → length args ≡ params t (functions t) → length args ≤ 8
+  pub main-few : (args : List ℕ) → length args ≡ params t (functions t) → length args ≤ 8
   main-few args e = let p = passed t F N check .0 in omega (arith, params-small t p (functions t) (p .F-low, omega arith))
 
   module _ (args : List ℕ) (number : length args ≡ params t (functions t)) where

@@ -16,6 +16,7 @@ pub mod EveryState
 pub mod Narrow
 pub mod MetFacts
 pub mod MetBelow
+pub mod StatesBelow
 -- the step on lists: what a write reads as, what a move changes, the cases of a step, when it is refused, what it keeps
 pub mod StateLaws
 pub mod Performed

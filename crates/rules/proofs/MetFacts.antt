@@ -30,7 +30,7 @@ module _ (P : ℕ → Type 0) where
   cons-all v vs p w zero = p
   cons-all v vs p w (suc i) = w i
 
-  map-all : P 0 → (keep : ℕ → ℕ) → ((v : ℕ) → P (keep v)) → (vs : List ℕ) → All P (map keep vs)
+  pub map-all : P 0 → (keep : ℕ → ℕ) → ((v : ℕ) → P (keep v)) → (vs : List ℕ) → All P (map keep vs)
   map-all z keep k [] i = z
   map-all z keep k (v ∷ vs) zero = k v
   map-all z keep k (v ∷ vs) (suc i) = map-all z keep k vs i

@@ -1,32 +1,48 @@
 -- a start is a started circuit of the abstract proof
-use Prim.Native.Nat.{ℕ, zero, suc, _≤_}
-use mathlib.Core.Bool.{false}
+use Prim.Native.Nat.{ℕ, zero, suc, _+_, _*_, _≤_}
+use mathlib.Core.Bool.{Bool, true, false}
 use mathlib.Core.Path.{_≡_, refl, subst, sym, ap, _∙_}
 use mathlib.Core.Logic.{inl}
 use mathlib.Core.List.{List}
 use native.Mathlib.Omega.{arith}
 use native.Mathlib.Decide.{ℕ-discrete}
-use lib.ListN.{length, getD, length-replicate}
+use lib.Dec.{ltb}
+use lib.ListN.{length, getD, replicate, length-replicate}
 use Rattle.table.specs.Syntax.{Expr, id, Node}
 use Rattle.rules.proofs.Shape.{Still, Idle}
 use Rattle.table.proofs.SyntaxLaws.{node-id}
 use Rattle.rules.proofs.Answers.{AtStart}
 use Rattle.rules.proofs.StateLaws.{length-write, length-fill, entry-same, entry-other, fill-mine}
-use Rattle.rules.specs.State.{Sized, entry, view, blank, circuitStart}
+use Rattle.rules.specs.State.{Sized, entry, register, view, blank, circuitStart}
+use Rattle.table.specs.Pick.{pick}
 use Rattle.table.specs.Well.{Fn, Laid}
 use Rattle.rules.proofs.LaidFacts.{every-all, under-all, fn-main}
 
-length-blank : {A : Type 0} (k : ℕ) (a : A) → length (blank k a) ≡ k
+pub length-blank : {A : Type 0} (k : ℕ) (a : A) → length (blank k a) ≡ k
 unfolding blank
 length-blank k a = length-replicate k a
 
-entry-blank : {A : Type 0} (k : ℕ) (a : A) (n : ℕ) → entry (blank k a) a n ≡ a
+pub entry-blank : {A : Type 0} (k : ℕ) (a : A) (n : ℕ) → entry (blank k a) a n ≡ a
 unfolding blank entry
 entry-blank zero a zero = refl
 entry-blank zero a (suc n) = refl
 entry-blank (suc k) a zero = refl
 entry-blank (suc k) a (suc zero) = refl
 entry-blank (suc k) a (suc (suc n)) = entry-blank k a (suc n)
+
+zeros-at : (k j : ℕ) → getD {A = ℕ} (replicate k 0) j 0 ≡ 0
+zeros-at zero j = refl
+zeros-at (suc k) zero = refl
+zeros-at (suc k) (suc j) = zeros-at k j
+
+pub register-blank : (k f i : ℕ) → register (blank k 0) f i ≡ 0
+unfolding blank register
+register-blank k zero i = refl
+register-blank k (suc f) i = go (ltb i 8)
+  where
+    go : (b : Bool) → pick b (getD {A = ℕ} (replicate k 0) (8 * f + i) 0) 0 ≡ 0
+    go true = zeros-at k (8 * f + i)
+    go false = refl
 
 module _ (F : ℕ) (body : ℕ → Expr) (args : List ℕ) where
   pub start-sized : Sized (circuitStart F body args)

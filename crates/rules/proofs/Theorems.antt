@@ -8,7 +8,7 @@ use Rattle.rules.specs.Play.{Ask}
 use Rattle.rules.specs.Circuit.{started, startOf}
 use Rattle.rules.specs.Demand.{ThirdDemand, ReadingUnique}
 use Rattle.rules.specs.Companions.{UnderAnyTags, OwnStart, OwnList, ReadingFixed, ReadingWord, FitsFromStart, InAnyState, AfterSteps}
-use Rattle.rules.specs.Widths.{NarrowFirst, FunctionBelow, ReadingBelow, AnswerBelow}
+use Rattle.rules.specs.Widths.{NarrowFirst, FunctionBelow, ReadingBelow, AnswerBelow, StepNarrow, StatesBelow}
 use Rattle.rules.proofs.Demands as Demands
 use Rattle.rules.proofs.OwnList as OwnLists
 use Rattle.rules.proofs.EveryState as EveryState
@@ -16,6 +16,7 @@ use Rattle.rules.proofs.RunFacts as RunFacts
 use Rattle.rules.proofs.Fits as FitsProof
 use Rattle.rules.proofs.Narrow as Narrow
 use Rattle.rules.proofs.MetBelow as Meets
+use Rattle.rules.proofs.StatesBelow as StatesBelow
 
 -- Demand 3, "one claim about the whole list of steps": for every table, tags and arguments that start takes, the tags holding the
 -- arbiter list, and every list ns of asked numbers, which "may be empty or go on past the answer", "0 and above N too"
@@ -53,6 +54,13 @@ reading-below = Meets.reading-below
 
 pub answer-below : AnswerBelow
 answer-below = Meets.answer-below
+
+-- .. nor is any that a started circuit holds for it
+pub step-narrow : StepNarrow
+step-narrow = StatesBelow.step-narrow
+
+pub states-below : StatesBelow
+states-below = StatesBelow.states-below
 
 -- over steps from a start, "its table being the table of every step", the tags free to change at each
 pub under-any-tags : (t tags args : List ℕ) (s : State512) → startOf t tags args ≡ started s → (asked : List (Ask (List ℕ)))

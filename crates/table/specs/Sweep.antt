@@ -186,7 +186,8 @@ abbrev pub SiftedBy : (t kin kids wanted offspring bounds : List ℕ) → Residu
 SiftedBy t kin kids wanted offspring bounds (Passed count) = Sifted t kin kids wanted offspring bounds count
 SiftedBy t kin kids wanted offspring bounds Failed = Unit {0}
 
--- what a kind asks, as `fields` has it, and tells its children: 1 is yes; a parameter's extra and a call's word are asked for elsewhere
+-- what a kind asks, as `fields` and 25 have it, and tells its children: 1 is yes; a parameter's extra and a call's word are asked for
+-- elsewhere; a bound's word is at most 512, so that no width stands in its way
 abbrev pub ruleOf : (kind : ℕ) → Rule
 ruleOf k = record {
   extras = pick (eqb k 3) 11 (one (eqb k 1 || among 4 7 k));

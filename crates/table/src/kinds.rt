@@ -66,7 +66,7 @@ pub struct Rule {
     pub reach: u16,
     pub bound: u16,
     pub primitive: u16,
-    // How many times the highest constant of its function the word may be: a bound's is a node, a call's a callee.
+    // The word is at most so many times the highest constant of its function; a bound's is a node's number, a call's a callee.
     pub words: u16,
 }
 
