@@ -22,10 +22,10 @@ use Rattle.table.proofs.Bodies.{id-body}
 use Rattle.rules.specs.State.{State512, View, view, entry, register}
 use Rattle.rules.specs.Step.{Act, stuck, blocked, does, begins, turns, finishes, enters, leaves, restarts, all-done, branch, by-status}
 use Rattle.rules.specs.Step.{act}
-use Rattle.rules.specs.Arithmetic.{handed, arithmetic}
+use Rattle.rules.specs.Arithmetic.{keepAll, arithmetic}
 use Rattle.rules.specs.Circuit.{actOf}
 use Rattle.table.specs.Working.{Taken}
-use Rattle.circuit.specs.Working.{allDone, lastFrom, given, handedTo, opens, passed}
+use Rattle.circuit.specs.Working.{allDone, lastFrom, given, keptBy, opens, passed}
 use Rattle.circuit.proofs.ChainLaws.{ok}
 use Rattle.rules.proofs.AnyState.{bound-node}
 
@@ -40,11 +40,11 @@ openBy t value registers n =
 
 unfoldable pub primBy : (t status value : List ℕ) → ℕ → Act
 primBy t status value n =
-    pick (allDone (entry status 0) (children t n)) (does (finishes (arithmetic t .operate (owner t n) (extra t n) (given t value n)))) stuck
+    pick (allDone (entry status 0) (children t n)) (does (finishes (arithmetic t .result (owner t n) (extra t n) (given t value n)))) stuck
 
 unfoldable pub selfBy : (t status value : List ℕ) → ℕ → Act
 selfBy t status value n = pick (allDone (entry status 0) (children t n))
-    (does (restarts (owner t n) (handedTo t value (owner t n) n))) stuck
+    (does (restarts (owner t n) (keptBy t value (owner t n) n))) stuck
 
 unfoldable pub callBy : (t status : List ℕ) → List Bool → (value occupant : List ℕ) → ℕ → Act
 callBy t status second value occupant n =
@@ -52,7 +52,7 @@ callBy t status second value occupant n =
     pick (entry second false n)
     (pick (eqb (entry status 0 (root t g)) 3) (does (leaves g (arithmetic t .keep (owner t n) (entry value 0 (root t g))))) stuck)
     (pick (allDone (entry status 0) (children t n))
-    (pick (eqb (entry occupant 0 g) 0) (does (enters g (handedTo t value g n))) blocked) stuck)
+    (pick (eqb (entry occupant 0 g) 0) (does (enters g (keptBy t value g n))) blocked) stuck)
 
 -- the branch that a condition's value takes
 unfoldable pub branchBy : (t value : List ℕ) → ℕ → ℕ
@@ -212,7 +212,7 @@ module _ (t : List ℕ) (fair : Taken t) (n : ℕ) (i : IsNode t n) where
     as-prim : kind t n ≡ 3 → exprAt t n ≡ prim n (extra t n) es → Is (actBy t s n)
     unfolding busyBy primBy
     as-prim k q = parts _ _ _ q refl (begins-all k)
-        (ap₂ (λ b l. pick b (does (finishes (arithmetic t .operate (owner t n) (extra t n) l))) stuck) done-kids value-kids
+        (ap₂ (λ b l. pick b (does (finishes (arithmetic t .result (owner t n) (extra t n) l))) stuck) done-kids value-kids
         ∙ sym (rw k refl))
 
     as-call : kind t n ≡ 4 → (word t n ≡ owner t n → ⊥) → exprAt t n ≡ call n (word t n) es → IsFunction t (word t n) → Is (actBy t s n)
@@ -223,14 +223,14 @@ module _ (t : List ℕ) (fair : Taken t) (n : ℕ) (i : IsNode t n) where
         (ap₂ (λ x y. pick (entry (s .second) false n) x y)
         (ap (λ m. pick (eqb (st m) 3) (does (leaves (word t n) (arithmetic t .keep (owner t n) (va m)))) stuck) r)
         (ap₂ (λ b l. pick b (pick (eqb (entry (s .occupant) 0 (word t n)) 0)
-        (does (enters (word t n) (handed (arithmetic t) (word t n) l))) blocked) stuck) done-kids
+        (does (enters (word t n) (keepAll (arithmetic t) (word t n) l))) blocked) stuck) done-kids
         value-kids)
         ∙ sym (rw (k, ne-eqb (word t n) (owner t n) w) refl))
 
     as-self : kind t n ≡ 4 → word t n ≡ owner t n → exprAt t n ≡ self n es → Is (actBy t s n)
     unfolding busyBy selfBy
     as-self k w q = parts _ _ _ q refl (begins-call k)
-        (ap₂ (λ b l. pick b (does (restarts (owner t n) (handed (arithmetic t) (owner t n) l))) stuck) done-kids value-kids
+        (ap₂ (λ b l. pick b (does (restarts (owner t n) (keepAll (arithmetic t) (owner t n) l))) stuck) done-kids value-kids
         ∙ sym (rw (k, eq-eqb (word t n) (owner t n) w) refl))
 
     as-cond : kind t n ≡ 5 → IsNode t (first t n) → IsNode t (thenAt t n) → IsNode t (elseAt t n)

@@ -11,7 +11,7 @@ use Rattle.table.specs.Check.{stage}
 use Rattle.table.specs.Expressions.{bodyOf}
 use Rattle.list.specs.Tags.{after, checkWith}
 use Rattle.rules.specs.State.{write, fill, blank, circuitStart}
-use Rattle.rules.specs.Arithmetic.{handed, arithmetic}
+use Rattle.rules.specs.Arithmetic.{keepAll, arithmetic}
 use Rattle.rules.specs.Circuit.{started, opening, turned, startOf, checkStart, startAfter}
 use Rattle.rules.proofs.Narrow.{narrow-zero}
 use Rattle.circuit.specs.Meaning.{stateAs}
@@ -21,11 +21,11 @@ use Rattle.circuit.proofs.TurnLaws.{main-root}
 use Rattle.table.specs.Check as TableCheck
 
 -- an argument, as a function keeps it; past the last it is 0
-pub handed-at : (t : List ℕ) (f : ℕ) (vs : List ℕ) (i : ℕ) → getD (handed (arithmetic t) f vs) i 0 ≡ arithmetic t .keep f (getD vs i 0)
-handed-at t f vs i = ap (getD (handed (arithmetic t) f vs) i) (sym (narrow-zero (width t f))) ∙ List·getD-map (arithmetic t .keep f) vs i 0
+pub kept-at : (t : List ℕ) (f : ℕ) (vs : List ℕ) (i : ℕ) → getD (keepAll (arithmetic t) f vs) i 0 ≡ arithmetic t .keep f (getD vs i 0)
+kept-at t f vs i = ap (getD (keepAll (arithmetic t) f vs) i) (sym (narrow-zero (width t f))) ∙ List·getD-map (arithmetic t .keep f) vs i 0
 
 pub start-is : (t args : List ℕ) → Taken t → (a d : List ℕ) (r : ℕ) → r ≡ root t (functions t) → a ≡ write (replicate 512 0) r 1
-    → d ≡ fill (functions t) (handed (arithmetic t) (functions t) args) (replicate 256 0)
+    → d ≡ fill (functions t) (keepAll (arithmetic t) (functions t) args) (replicate 256 0)
     → stateAs a (replicate 512 false) (replicate 512 0) d (replicate 32 0) ≡ opening t args
 unfolding circuitStart blank
 start-is t args fair a d r er ea ed =

@@ -23,7 +23,7 @@ use Rattle.table.proofs.KindLaws.{leaf, parameter}
 use Rattle.rules.specs.Circuit.{actOf}
 use Rattle.circuit.specs.Meaning.{stateAs}
 use Rattle.circuit.proofs.OperationLaws.{operateBy}
-use Rattle.circuit.specs.Working.{allDone, leading, lastFrom, handedTo, opens, passed, goes}
+use Rattle.circuit.specs.Working.{allDone, leading, lastFrom, keptBy, opens, passed, goes}
 use Rattle.circuit.proofs.ActBy.{open-is, busy-is, openBy, primBy, selfBy, callBy, branchBy, condBy, bindBy, busyBy}
 use Rattle.circuit.proofs.ChainLaws.{ok, chain-end, chain-here, next-in, operate-by}
 
@@ -43,7 +43,7 @@ module _ (t status : List ℕ) (n c : ℕ) (ec : c ≡ first t n) (a : Bool) (ea
   all-kids : a ≡ allDone (entry status 0) (children t n)
   all-kids = ea ∙ ap (allDone (entry status 0)) kids
 
-  pub self-yes : (value : List ℕ) → a ≡ true → does (restarts (owner t n) (handedTo t value (owner t n) n)) ≡ selfBy t status value n
+  pub self-yes : (value : List ℕ) → a ≡ true → does (restarts (owner t n) (keptBy t value (owner t n) n)) ≡ selfBy t status value n
   unfolding selfBy
   self-yes value h = sym (rw (sym all-kids ∙ h) refl)
 
@@ -93,9 +93,9 @@ module _ (t status : List ℕ) (second : List Bool) (value occupant : List ℕ) 
         ne-eqb (entry occupant 0 (word t n)) 0 (λ q. z (eo ∙ ap (entry occupant 0) eg ∙ q)),
       ) refl)
 
-      pub enter-yes : o ≡ 0 → does (enters g (handedTo t value g n)) ≡ callBy t status second value occupant n
+      pub enter-yes : o ≡ 0 → does (enters g (keptBy t value g n)) ≡ callBy t status second value occupant n
       unfolding callBy
-      enter-yes z = ap (λ f. does (enters f (handedTo t value f n))) eg ∙ sym (rw (
+      enter-yes z = ap (λ f. does (enters f (keptBy t value f n))) eg ∙ sym (rw (
         sym eb ∙ h,
         sym (all-kids t status n c ec a ea) ∙ d,
         eq-eqb (entry occupant 0 (word t n)) 0 (sym (ap (entry occupant 0) eg) ∙ sym eo ∙ z),

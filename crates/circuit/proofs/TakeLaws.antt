@@ -13,7 +13,7 @@ use Rattle.table.specs.Working.{IsNode, IsFunction}
 use Rattle.table.proofs.Bodies.{id-body}
 use Rattle.rules.specs.State.{State512, view, entry, write, opened, clear, fill}
 use Rattle.rules.specs.Step.{Act, does, Move, begins, turns, finishes, enters, leaves, restarts, mine, perform}
-use Rattle.rules.specs.Arithmetic.{handed, arithmetic}
+use Rattle.rules.specs.Arithmetic.{keepAll, arithmetic}
 use Rattle.rules.specs.Circuit.{actOf}
 use Rattle.circuit.specs.Meaning.{stateAs}
 use Rattle.table.specs.Working.{Taken}
@@ -21,7 +21,7 @@ use Rattle.circuit.specs.declared.changes.Effect.{Effect}
 use Rattle.circuit.specs.declared.changes.Effect.the-variants as Effect
 use Rattle.circuit.specs.declared.plan.Plan.the-variants as Plan
 use Rattle.table.specs.declared.Function.{Function}
-use Rattle.circuit.specs.Working.{leading, given, handedTo, opens, planned, Took}
+use Rattle.circuit.specs.Working.{leading, given, keptBy, opens, planned, Took}
 use Rattle.rules.proofs.Demands.{lay}
 use Rattle.rules.proofs.Performed.{FairAct}
 use Rattle.rules.proofs.StepTaken.{act-fair}
@@ -66,8 +66,8 @@ module _ (t : List ℕ) (fair : Taken t) (n : ℕ) (i : IsNode t n) (a : List �
 
   -- a function that is entered, anew or once more
   pub called-in : (g : Function) (anew : Bool) → planned t c n (Plan.Enters g anew) ≡ actOf t s n → IsFunction t (g .0)
-  called-in g true q = enter-in (g .0) (handedTo t c (g .0) n) q
-  called-in g false q = again-in (g .0) (handedTo t c (g .0) n) q
+  called-in g true q = enter-in (g .0) (keptBy t c (g .0) n) q
+  called-in g false q = again-in (g .0) (keptBy t c (g .0) n) q
 
   pub leave-in : (g v : ℕ) → does (leaves g v) ≡ actOf t s n → IsFunction t g
   leave-in g v q = there (leaves g v) q
@@ -99,7 +99,7 @@ module _ (t : List ℕ) (fair : Taken t) (n : ℕ) (i : IsNode t n) (a : List �
 
   module _ (g : ℕ) (f : IsFunction t g) (k : ℕ) (ek : k ≡ first t n) (a′ : List ℕ) (b′ : List Bool) (c′ d′ : List ℕ)
       (ea : a′ ≡ write (clear (mine (nodes t) (owner t) g) 0 a) (root t g) 1) (eb : b′ ≡ clear (mine (nodes t) (owner t) g) false b)
-      (ec : c′ ≡ clear (mine (nodes t) (owner t) g) 0 c) (ed : d′ ≡ fill g (handed (arithmetic t) g (map (entry c 0) (chain t k))) d) where
+      (ec : c′ ≡ clear (mine (nodes t) (owner t) g) 0 c) (ed : d′ ≡ fill g (keepAll (arithmetic t) g (map (entry c 0) (chain t k))) d) where
     given-are : map (entry c 0) (chain t k) ≡ given t c n
     unfolding children
     given-are = ap (λ m. map (entry c 0) (chain t m)) ek
@@ -110,14 +110,14 @@ module _ (t : List ℕ) (fair : Taken t) (n : ℕ) (i : IsNode t n) (a : List �
     status-is : a′ ≡ write (clear (mine (nodes t) (owner t) g) 0 a) (id (bodyOf t g)) 1
     status-is = ea ∙ ap (λ m. write (clear (mine (nodes t) (owner t) g) 0 a) m 1) root-is
 
-    registers-are : d′ ≡ fill g (handedTo t c g n) d
-    registers-are = ed ∙ ap (λ vs. fill g (handed (arithmetic t) g vs) d) given-are
+    registers-are : d′ ≡ fill g (keptBy t c g n) d
+    registers-are = ed ∙ ap (λ vs. fill g (keepAll (arithmetic t) g vs) d) given-are
 
-    pub entered : does (enters g (handedTo t c g n)) ≡ actOf t s n → (b″ : List Bool) → b″ ≡ write b′ n true → (e′ : List ℕ)
+    pub entered : does (enters g (keptBy t c g n)) ≡ actOf t s n → (b″ : List Bool) → b″ ≡ write b′ n true → (e′ : List ℕ)
         → e′ ≡ write e g n
         → After a′ b″ c′ d′ e′
-    entered q b″ eb′ e′ ee = made (enters g (handedTo t c g n)) q a′ b″ c′ d′ e′
+    entered q b″ eb′ e′ ee = made (enters g (keptBy t c g n)) q a′ b″ c′ d′ e′
         (λ j. stateAs (status-is j) ((eb′ ∙ ap (λ l. write l n true) eb) j) (ec j) (registers-are j) (ee j))
 
-    pub restarted : does (restarts g (handedTo t c g n)) ≡ actOf t s n → After a′ b′ c′ d′ e
-    restarted q = made (restarts g (handedTo t c g n)) q a′ b′ c′ d′ e (λ j. stateAs (status-is j) (eb j) (ec j) (registers-are j) e)
+    pub restarted : does (restarts g (keptBy t c g n)) ≡ actOf t s n → After a′ b′ c′ d′ e
+    restarted q = made (restarts g (keptBy t c g n)) q a′ b′ c′ d′ e (λ j. stateAs (status-is j) (eb j) (ec j) (registers-are j) e)

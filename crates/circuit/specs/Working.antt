@@ -12,7 +12,7 @@ use Rattle.table.specs.Check.{accepted}
 use Rattle.table.specs.Expressions.{bodyOf}
 use Rattle.table.specs.declared.Checked.{Checked}
 use Rattle.list.specs.Tags.{checkWith}
-use Rattle.rules.specs.Arithmetic.{handed, arithmetic}
+use Rattle.rules.specs.Arithmetic.{keepAll, arithmetic}
 use Rattle.rules.specs.State.{State512, entry}
 use Rattle.rules.specs.Step.{Act, stuck, blocked, does, Move, turns, finishes, enters, leaves, restarts, over, perform}
 use Rattle.rules.specs.Circuit.{actOf, playOf}
@@ -61,8 +61,8 @@ lastFrom d (n ∷ ns) = lastFrom n ns
 abbrev pub given : List ℕ → List ℕ → ℕ → List ℕ
 given t value n = map (entry value 0) (children t n)
 
-abbrev pub handedTo : List ℕ → List ℕ → (g n : ℕ) → List ℕ
-handedTo t value g n = handed (arithmetic t) g (given t value n)
+abbrev pub keptBy : List ℕ → List ℕ → (g n : ℕ) → List ℕ
+keptBy t value g n = keepAll (arithmetic t) g (given t value n)
 
 -- the nodes that a node opens
 unfoldable pub opens : List ℕ → ℕ → List ℕ
@@ -74,8 +74,8 @@ planned t value n Plan.Stuck = stuck
 planned t value n Plan.Blocked = blocked
 planned t value n (Plan.Turns m) = does (turns (m .0))
 planned t value n (Plan.Finishes v) = does (finishes v)
-planned t value n (Plan.Enters g true) = does (enters (g .0) (handedTo t value (g .0) n))
-planned t value n (Plan.Enters g false) = does (restarts (g .0) (handedTo t value (g .0) n))
+planned t value n (Plan.Enters g true) = does (enters (g .0) (keptBy t value (g .0) n))
+planned t value n (Plan.Enters g false) = does (restarts (g .0) (keptBy t value (g .0) n))
 planned t value n (Plan.Leaves g v) = does (leaves (g .0) v)
 
 -- node r once it is done: the value goes on

@@ -10,7 +10,7 @@ ghost use mathlib.Core.Path.{_≡_};
 ghost use lib.ListN.{getD};
 ghost use Prim.Native.Nat.{ℕ};
 ghost use Rattle.table.specs.Bytes.{functions, nodes};
-ghost use Rattle.rules.specs.Arithmetic.{handed, arithmetic};
+ghost use Rattle.rules.specs.Arithmetic.{keepAll, arithmetic};
 ghost use Rattle.rules.specs.State.{fill};
 ghost use Rattle.rules.specs.Circuit.{opening, startOf};
 ghost use Rattle.table.specs.Check.{accepted};
@@ -29,7 +29,7 @@ fn argument(args: &[u32], i: usize) -> u32
 fn fill_main(table: &[u8], cells: &Cells, registers: &mut [u32; 256], main: Function, args: &[u32])
     requires { ⌜ Read (now table) (now cells) × IsFunction (now table) (main .0) ⌝ }
     ensures { λ _. ⌜ now (registers .exit)
-        ≡ fill (main .0) (handed (arithmetic (now (table .entry))) (main .0) (now (args .entry))) (now (registers .entry)) ⌝ }
+        ≡ fill (main .0) (keepAll (arithmetic (now (table .entry))) (main .0) (now (args .entry))) (now (registers .entry)) ⌝ }
 {
     let f = main.0 as usize;
     let base = 8 * (f - 1);

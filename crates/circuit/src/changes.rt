@@ -16,7 +16,7 @@ ghost use Prim.Native.Nat.{ℕ, _≤_};
 ghost use Rattle.table.specs.Bytes.{nodes, root};
 ghost use Rattle.table.specs.Naming.{owner, chain};
 ghost use Rattle.table.specs.Working.{IsNode, IsFunction, Read};
-ghost use Rattle.rules.specs.Arithmetic.{handed, arithmetic};
+ghost use Rattle.rules.specs.Arithmetic.{keepAll, arithmetic};
 ghost use Rattle.rules.specs.State.{entry, write, opened, clear, fill};
 ghost use Rattle.rules.specs.Step.{mine};
 ghost use Rattle.rules.specs.Circuit.{actOf};
@@ -48,7 +48,7 @@ fn give(
 )
     requires { ⌜ Read (now table) (now cells) × IsFunction (now table) (g .0) × (c .0 ≤ nodes (now table)) ⌝ }
     ensures { λ _. ⌜ now (registers .exit)
-        ≡ fill (g .0) (handed (arithmetic (now (table .entry))) (g .0)
+        ≡ fill (g .0) (keepAll (arithmetic (now (table .entry))) (g .0)
         (map (entry (now (value .entry)) 0) (chain (now (table .entry)) (c .0)))) (now (registers .entry)) ⌝ }
 {
     blank(registers, g);
@@ -118,7 +118,7 @@ fn reset(
         × (now (second .exit) ≡ clear (mine (nodes (now (table .entry))) (owner (now (table .entry))) (g .0)) false (now (second .entry)))
         × (now (value .exit) ≡ clear (mine (nodes (now (table .entry))) (owner (now (table .entry))) (g .0)) 0 (now (value .entry)))
         × (now (registers .exit)
-        ≡ fill (g .0) (handed (arithmetic (now (table .entry))) (g .0)
+        ≡ fill (g .0) (keepAll (arithmetic (now (table .entry))) (g .0)
         (map (entry (now (value .entry)) 0) (chain (now (table .entry)) (c .0)))) (now (registers .entry))) ⌝ }
 {
     give(table, cells, value, registers, g, c);

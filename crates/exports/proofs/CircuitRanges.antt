@@ -12,7 +12,7 @@ use Rattle.table.specs.Expressions.{exprAt, bodyOf}
 use Rattle.table.specs.Syntax.{id}
 use Rattle.list.specs.Tags.{tagged, checkWith}
 use Rattle.list.proofs.NodeLaws.{few}
-use Rattle.rules.specs.Operations.{operate}
+use Rattle.rules.specs.Arithmetic.{arithmetic}
 use Rattle.rules.specs.State.{State512, View, entry, view}
 use Rattle.rules.specs.Step.{Reply, taken, answered, denied, Stepped, refusal, done, told, circuitStep}
 use Rattle.circuit.proofs.TurnLaws.{fair-from}
@@ -51,7 +51,7 @@ value-word l w (suc n) = w n
 
 module _ (t tags : List ℕ) (s : State512) (n : ℕ) where
   module _ (l : nodes t ≤ 512) where
-    cause-fits : (c : Cause operate (functions t) (nodes t) (bodyOf t) (exprAt t) (owner t) (tagged tags) s n)
+    cause-fits : (c : Cause (arithmetic t) (functions t) (nodes t) (bodyOf t) (exprAt t) (owner t) (tagged tags) s n)
         → Refusable (number c) (place c)
     cause-fits (no-node e) = refusable 12 0 (omega arith) (omega arith) (omega arith)
     cause-fits (bad-status r e) = refusable 24 0 (omega arith) (omega arith) (omega arith)
@@ -73,10 +73,10 @@ module _ (t tags : List ℕ) (s : State512) (n : ℕ) where
   by-answer P f g = go (checkWith t tags) refl (with-fits t tags)
     where
       go : (v : Verdict) → checkWith t tags ≡ v → FitsVerdict v
-          → P (stepAfter v s (circuitStep operate (functions t) (nodes t) (bodyOf t) (exprAt t) (owner t) (tagged tags) s n))
+          → P (stepAfter v s (circuitStep (arithmetic t) (functions t) (nodes t) (bodyOf t) (exprAt t) (owner t) (tagged tags) s n))
       go (accepted F N) e b = unfold stepAfter in (
           let l : nodes t ≤ 512 = few t (fair-from t tags F N e) .1 in
-          step-cases operate (functions t) (nodes t) (bodyOf t) (exprAt t) (owner t) (tagged tags) s n P
+          step-cases (arithmetic t) (functions t) (nodes t) (bodyOf t) (exprAt t) (owner t) (tagged tags) s n P
           (λ c. f (number c) (place c) (cause-fits l c)) (λ r e m h. g l r _))
       go (refused k p) e b = unfold stepAfter in f k p b
 

@@ -72,7 +72,8 @@ check-fits t =
     stage-fits 6 _ _ _ (omega arith) (omega arith) (in-size _) (λ _.
     stage-fits 7 _ _ _ (omega arith) (omega arith) (in-size _) (λ _.
     stage-fits 8 _ _ _ (omega arith) (omega arith) (in-size _) (λ _.
-    stage-fits 9 _ _ _ (omega arith) (omega arith) (in-size _) (λ _. tt)))))))))
+    stage-fits 9 _ _ _ (omega arith) (omega arith) (in-size _) (λ _.
+    stage-fits 25 _ _ _ (omega arith) (omega arith) (in-size _) (λ _. tt))))))))))
 
 module _ (t : List ℕ) where
   few-taken : (F N : ℕ) → checkOf t ≡ accepted F N → nodes t ≤ 512

@@ -42,7 +42,7 @@ pub extern "C" fn list_fill_tags(bytes: &[u8], tags: &mut [u8]) -> u32
     code(list::fill_tags(bytes, tags))
 }
 
-// Refusals 1 to 10 of a table and a tag list.
+// The table's refusals, then 10 of a tag list.
 #[no_mangle]
 pub extern "C" fn list_check_tags(bytes: &[u8], tags: &[u8]) -> u32
     ensures { λ r. ⌜ r ≡ codeOf (checkWith (now (bytes .entry)) (now (tags .entry))) ⌝ }

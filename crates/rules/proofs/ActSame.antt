@@ -11,7 +11,7 @@ use Rattle.table.specs.Syntax.{Expr, Exprs, const, param, prim, call, self, con
 use Rattle.table.specs.Environment.{values}
 use Rattle.table.specs.Pick.{pick}
 use Rattle.table.proofs.SyntaxLaws.{node-id}
-use Rattle.rules.specs.Arithmetic.{Arithmetic, handed}
+use Rattle.rules.specs.Arithmetic.{Arithmetic, keepAll}
 use Rattle.rules.specs.State.{View}
 use Rattle.rules.specs.Step.{Act, stuck, blocked, does, begins, turns, finishes, enters, leaves, restarts, done, all-done}
 use Rattle.rules.specs.Step.{branch, by-status, act}
@@ -113,11 +113,11 @@ module _ (units : Arithmetic) (body : ℕ → Expr) (h : ℕ) (s s′ : View) wh
   act-same (prim n op es) x =
       let y = all-same s s′ es (x .1) in
       let z = values-same s s′ es (x .1) in
-      (λ i. by-status (x .0 i) (does (begins (roots es))) (pick (y i) (does (finishes (units .operate h op (z i)))) stuck))
+      (λ i. by-status (x .0 i) (does (begins (roots es))) (pick (y i) (does (finishes (units .result h op (z i)))) stuck))
   act-same (self n es) x =
       let y = all-same s s′ es (x .1) in
       let z = values-same s s′ es (x .1) in
-      (λ i. by-status (x .0 i) (does (begins (roots es))) (pick (y i) (does (restarts h (handed units h (z i)))) stuck))
+      (λ i. by-status (x .0 i) (does (begins (roots es))) (pick (y i) (does (restarts h (keepAll units h (z i)))) stuck))
   act-same (call n g es) x =
       (λ i. by-status (x .0 i) (does (begins (roots es))) (pick (x .1 i) (leaving s′) (entering s′)))
       ∙ by-phase (s .status n) (s .second n) (does (begins (roots es))) (leaving s′) (leaving s) (entering s′) (entering s)
@@ -125,14 +125,14 @@ module _ (units : Arithmetic) (body : ℕ → Expr) (h : ℕ) (s s′ : View) wh
       let d = done-same s s′ (id (body g)) r in
       (λ i. pick (d i) (does (leaves g (units .keep h (r .1 i)))) stuck))
       (λ t w. let o = x .3 .1 (t, w) in
-      (λ i. pick (y i) (pick (eqb (o i) 0) (does (enters g (handed units g (z i)))) blocked) stuck))
+      (λ i. pick (y i) (pick (eqb (o i) 0) (does (enters g (keepAll units g (z i)))) blocked) stuck))
     where
       leaving : View → Act
       leaving s = pick (done s (id (body g))) (does (leaves g (units .keep h (s .value (id (body g)))))) stuck
 
       entering : View → Act
       entering s = pick (all-done s es)
-          (pick (eqb (s .occupant g) 0) (does (enters g (handed units g (values (s .value) es)))) blocked) stuck
+          (pick (eqb (s .occupant g) 0) (does (enters g (keepAll units g (values (s .value) es)))) blocked) stuck
 
       y : all-done s′ es ≡ all-done s es
       y = all-same s s′ es (x .2)

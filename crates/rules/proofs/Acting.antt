@@ -125,7 +125,7 @@ module _ {F : ℕ} {body : ℕ → Expr} (well : Well F body) {s : View} (sound 
     sound = sound;
     fn = r;
     place = st .place;
-    moving = inner-moving (units .operate h) s s′ (s .register h) u (st .rule);
+    moving = inner-moving (units .result h) s s′ (s .register h) u (st .rule);
   }
 
   pub enter-acts : {units : Arithmetic} {s′ : View} {n g : ℕ} {es : Exprs} → EnterStep units body s s′ h n g es

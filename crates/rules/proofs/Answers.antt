@@ -14,11 +14,11 @@ use Rattle.table.specs.Well.{Fn, Well}
 use Rattle.table.proofs.CallPlaces.{call-node}
 use Rattle.rules.proofs.Places.{still-busy}
 use Rattle.rules.proofs.Invariant.{Step, inner, enter, leave, again, Active, New, Holder, Sound, new-live}
-use Rattle.rules.specs.Reading.{val, Readings, Reads, answers}
+use Rattle.rules.specs.Reading.{val, Readings, Reads, keptAnswers}
 use Rattle.rules.proofs.Counts.{left-reads, over-left}
 use Rattle.rules.proofs.Total.{step-before}
 use Rattle.table.specs.Find.{total}
-use Rattle.rules.specs.Arithmetic.{Arithmetic, handed}
+use Rattle.rules.specs.Arithmetic.{Arithmetic, keepAll}
 use Rattle.rules.proofs.SumLaws.{sum-zero, sum-last}
 use Rattle.rules.proofs.Remaining.{gets, Closes, nowhere, Rest, Expects}
 use Rattle.rules.proofs.Acting.{inner-acts, enter-acts, leave-acts, again-acts}
@@ -104,7 +104,7 @@ module _ {units : Arithmetic} {F : ℕ} {body : ℕ → Expr} (well : Well F bod
           val (s .value (id (body F))),
           0,
           0,
-          over-left (units .operate F) (answers (units .keep F) K) s (λ m. units .keep F (s .value (id (body F)))) (s .register F)
+          over-left (units .result F) (keptAnswers (units .keep F) K) s (λ m. units .keep F (s .value (id (body F)))) (s .register F)
               (body F) nowhere
               (val (s .value (id (body F)))) 0 (h, refl, refl),
           (refl, refl),
@@ -118,17 +118,17 @@ module _ {units : Arithmetic} {F : ℕ} {body : ℕ → Expr} (well : Well F bod
         act f q (inr a) (no e) = absurd (a (asleep s d r h (suc F) f (omega arith) q e))
 
     -- the third demand's last sentence
-    pub answer : (s s′ : View) (args : List ℕ) (n : ℕ) → Fn F body F → AtStart F body s (handed units F args) → Steps units F body s s′ n
+    pub answer : (s s′ : View) (args : List ℕ) (n : ℕ) → Fn F body F → AtStart F body s (keepAll units F args) → Steps units F body s s′ n
         → s′ .status (id (body F)) ≡ 3 → K F args (s′ .value (id (body F))) n
     answer s s′ args n r st p h =
-        let d = started-sound s (handed units F args) st in
+        let d = started-sound s (keepAll units F args) st in
         let d′ = steps-sound s s′ n d p in
         let c = steps-before s s′ n (λ m. s′ .value (id (body F))) (λ f. 0) d p (end s′ d′ r h) in
         let x = c .2 .active F r (inl refl) in
-        let q = left-reads (units .operate F) (answers (units .keep F) K) s (gets units F (c .0)) (s .register F) (body F)
+        let q = left-reads (units .result F) (keptAnswers (units .keep F) K) s (gets units F (c .0)) (s .register F) (body F)
         (inr (st .main .0 .0)) nowhere (x .0) (x .1) (x .3) in
         let k = reads F (c .0 (s .occupant F)) args (x .0) (x .1) (x .2) r
-        (subst (λ y. Reads (units .operate F) (answers (units .keep F) K) y (body F) nowhere (x .0) (x .1)) (fun-ext (st .arguments)) q)
+        (subst (λ y. Reads (units .result F) (keptAnswers (units .keep F) K) y (body F) nowhere (x .0) (x .1)) (fun-ext (st .arguments)) q)
         (x .4) in
         let total : x .1 + x .2 ≡ n = omega (
           arith,

@@ -22,7 +22,7 @@ use Rattle.rules.specs.State.{State512, view, entry, write, register, al
 use Rattle.rules.specs.Step.{Act, stuck, blocked, does, Move, begins, turns, finishes, enters, leaves, restarts, done, all-done}
 use Rattle.rules.specs.Step.{branch, act, mine, reset, finish, perform}
 use Rattle.rules.specs.Operations.{lastValue, wrap, operate}
-use Rattle.rules.specs.Arithmetic.{Arithmetic, handed, narrow, arithmetic}
+use Rattle.rules.specs.Arithmetic.{Arithmetic, keepAll, narrow, arithmetic}
 use Rattle.rules.specs.Play.{Ask, played}
 use Rattle.rules.specs.Circuit.{started, opening, startOf, stepOf, playsOf}
 use Rattle.rules.specs.Companions.{Word, Words, Bytes, Fits}
@@ -68,7 +68,7 @@ operate-word op vs h =
 
 -- of words the primitives of every function make words, and it keeps words
 pub record WordUnits (units : Arithmetic) : Type 0 where
-  pub operated : (f op : ℕ) (vs : List ℕ) → Words vs → Word (units .operate f op vs)
+  pub operated : (f op : ℕ) (vs : List ℕ) → Words vs → Word (units .result f op vs)
   pub kept : (f v : ℕ) → Word v → Word (units .keep f v)
 
 -- the arithmetic of a table does: what is reduced is no greater
@@ -78,10 +78,10 @@ table-words t = record { operated = λ f op vs w. less f (operate op vs) (operat
     less : (f v : ℕ) → Word v → Word (narrow (width t f) v)
     less f v w = omega (arith, narrow-less (width t f) v, w)
 
-handed-words : (units : Arithmetic) → WordUnits units → (f : ℕ) (vs : List ℕ) → Words vs → Words (handed units f vs)
-handed-words units ok f [] w i = w i
-handed-words units ok f (v ∷ vs) w zero = ok .kept f v (w 0)
-handed-words units ok f (v ∷ vs) w (suc i) = handed-words units ok f vs (λ j. w (suc j)) i
+kept-words : (units : Arithmetic) → WordUnits units → (f : ℕ) (vs : List ℕ) → Words vs → Words (keepAll units f vs)
+kept-words units ok f [] w i = w i
+kept-words units ok f (v ∷ vs) w zero = ok .kept f v (w 0)
+kept-words units ok f (v ∷ vs) w (suc i) = kept-words units ok f vs (λ j. w (suc j)) i
 
 -- a constant of an accepted table
 pub const-word : (t : List ℕ) → Bytes t → Passed t → (n m v : ℕ) → IsNode t n → exprAt t n ≡ const m v → Word v
@@ -179,11 +179,11 @@ module _ (s : State512) (fits : Fits s) where
       (λ e. by-pick ActFits (done (view s) (id (body g))) _ _ (λ e. ok .kept h (view s .value (id (body g))) (value-word (id (body g))))
       (λ e. tt))
       (λ e. by-pick ActFits (all-done (view s) es) _ _
-      (λ e. by-pick ActFits (eqb (view s .occupant g) 0) _ _ (λ e. handed-words units ok g (values (view s .value) es) (values-words es))
+      (λ e. by-pick ActFits (eqb (view s .occupant g) 0) _ _ (λ e. kept-words units ok g (values (view s .value) es) (values-words es))
       (λ e. tt)) (λ e. tt)))
       tt
   act-fits units ok body h (self n es) c = by-state ActFits (view s .status n) _ _ (λ e. tt)
-      (λ e. by-pick ActFits (all-done (view s) es) _ _ (λ e. handed-words units ok h (values (view s .value) es) (values-words es))
+      (λ e. by-pick ActFits (all-done (view s) es) _ _ (λ e. kept-words units ok h (values (view s .value) es) (values-words es))
       (λ e. tt)) tt
   act-fits units ok body h (cond n a b d) c =
       let r : Expr = branch (view s .value (id a)) b d in
@@ -235,7 +235,7 @@ start-fits : (t args : List ℕ) → Words args → Fits (opening t args)
 unfolding circuitStart
 start-fits t args w = record {
   value = blank-words 512;
-  registers = fill-words (functions t) _ (blank 256 0) (handed-words (arithmetic t) (table-words t) (functions t) args w) (blank-words 256);
+  registers = fill-words (functions t) _ (blank 256 0) (kept-words (arithmetic t) (table-words t) (functions t) args w) (blank-words 256);
 }
 
 pub plays-fit : (t : List ℕ) → Bytes t → (s : State512) → Fits s → (asked : List (Ask (List ℕ))) → Fits (played (stepOf t) s asked .state)

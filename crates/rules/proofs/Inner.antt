@@ -36,7 +36,7 @@ module _ {units : Arithmetic} {F : ℕ} {body : ℕ → Expr} {s s′ : View} {h
     where
       opened-f : (f : ℕ) → Fn F body f → Active F s′ f → Dec (f ≡ h) → Opened s′ (body f)
       opened-f f q a (yes e) = subst (λ y. Opened s′ (body y)) (sym e)
-          (within s s′ u (st .keeps) holds (x .moving) (inner-live s s′ (units .operate h) (s .register h) u (st .rule)) (body h)
+          (within s s′ u (st .keeps) holds (x .moving) (inner-live s s′ (units .result h) (s .register h) u (st .rule)) (body h)
           (apart x) (st .place)
           (live x))
       opened-f f q a (no e) = opened-over s s′ (λ m. Node m u) (st .keeps) holds (body f) (untouched f q e)
@@ -50,11 +50,11 @@ module _ {units : Arithmetic} {F : ℕ} {body : ℕ → Expr} {s s′ : View} {h
       not-u : (f c g : ℕ) → Fn F body g → CallIn c f (body g) → Busy s c true → Node c u → ⊥
       not-u f c g q k b i =
           let e : g ≡ h = x .well .owner g h c q (x .fn) (call-node c f (body g) k) (sub-node u c (body h) (st .place) i) in
-          let j : c ≡ id u = inner-busy s c (b .0) (units .operate h) (s .register h) s′ u (st .rule) (live-part x) i in
+          let j : c ≡ id u = inner-busy s c (b .0) (units .result h) (s .register h) s′ u (st .rule) (live-part x) i in
           let t = call-at u c f (sym j) (body h) (apart x) (subst (λ y. CallIn c f (body y)) e k) (st .place) in
-          opens (t .0) (subst (Inner (units .operate h) (s .register h) s s′) (t .1) (st .rule))
+          opens (t .0) (subst (Inner (units .result h) (s .register h) s s′) (t .1) (st .rule))
         where
-          opens : (es : Exprs) → Inner (units .operate h) (s .register h) s s′ (call c f es) → ⊥
+          opens : (es : Exprs) → Inner (units .result h) (s .register h) s s′ (call c f es) → ⊥
           opens es o = omega (arith, o .0 .0, b .0)
 
       held-f : (f c : ℕ) → Fn F body f → s′ .occupant f ≡ c → (c ≡ 0 → ⊥) → Holder F body s′ f c

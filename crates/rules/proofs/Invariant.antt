@@ -12,7 +12,7 @@ use Rattle.rules.proofs.Frame.{Same, SameFunction}
 use Rattle.table.specs.Environment.{values}
 use Rattle.rules.proofs.Moves.{Under, Finished*, Becomes, Inner}
 use Rattle.table.specs.Well.{CallIn, Fn}
-use Rattle.rules.specs.Arithmetic.{Arithmetic, handed}
+use Rattle.rules.specs.Arithmetic.{Arithmetic, keepAll}
 
 -- main, or occupied by a call
 abbrev pub Active : ℕ → View → ℕ → Type 0
@@ -38,7 +38,7 @@ New body s f = Open s (id (body f)) × Under (Idle s) (body f)
 -- a step inside a body
 pub record InnerStep (units : Arithmetic) (body : ℕ → Expr) (s s′ : View) (h : ℕ) (u : Expr) : Type 0 where
   pub place : Sub u (body h)
-  pub rule : Inner (units .operate h) (s .register h) s s′ u
+  pub rule : Inner (units .result h) (s .register h) s s′ u
   pub keeps : (m : ℕ) → (Node m u → ⊥) → Same s s′ m
   pub keepsFn : (f : ℕ) → SameFunction s s′ f
 
@@ -52,7 +52,7 @@ module _ (units : Arithmetic) (body : ℕ → Expr) where
     pub new : New body s′ g
     pub keeps : (m : ℕ) → (m ≡ n → ⊥) → (Node m (body g) → ⊥) → Same s s′ m
     pub occupies : s′ .occupant g ≡ n
-    pub arguments : (i : ℕ) → s′ .register g i ≡ getD (handed units g (values (s .value) es)) i 0
+    pub arguments : (i : ℕ) → s′ .register g i ≡ getD (keepAll units g (values (s .value) es)) i 0
     pub keepsFn : (f : ℕ) → (f ≡ g → ⊥) → SameFunction s s′ f
 
   pub record LeaveStep (s s′ : View) (h n g : ℕ) (es : Exprs) : Type 0 where
@@ -71,7 +71,7 @@ module _ (units : Arithmetic) (body : ℕ → Expr) where
     pub ready : Finished* s es
     pub new : New body s′ h
     pub keeps : (m : ℕ) → (Node m (body h) → ⊥) → Same s s′ m
-    pub arguments : (i : ℕ) → s′ .register h i ≡ getD (handed units h (values (s .value) es)) i 0
+    pub arguments : (i : ℕ) → s′ .register h i ≡ getD (keepAll units h (values (s .value) es)) i 0
     pub occupants : (f : ℕ) → s′ .occupant f ≡ s .occupant f
     pub keepsFn : (f : ℕ) → (f ≡ h → ⊥) → SameFunction s s′ f
 

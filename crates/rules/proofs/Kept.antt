@@ -18,7 +18,7 @@ use Rattle.table.specs.Pick.{pick, Range}
 use Rattle.rules.proofs.LaidFacts.{fn-main}
 use Rattle.rules.proofs.Levels.{closes}
 use Rattle.table.specs.Well.{Fn, CallIn, Laid}
-use Rattle.rules.specs.Arithmetic.{Arithmetic, handed}
+use Rattle.rules.specs.Arithmetic.{Arithmetic, keepAll}
 use Rattle.list.specs.Conflict.{C}
 use Rattle.rules.proofs.Invariant.{Sound}
 use Rattle.rules.proofs.Collide.{waiting-listed}
@@ -128,7 +128,7 @@ module _ (units : Arithmetic) {F N : ℕ} {body at : ℕ → Expr} {home : ℕ �
   module _ (args : List ℕ) (few : length args ≤ 8) where
     -- main's arguments as it keeps them
     abbrev kept-args : List ℕ
-    kept-args = handed units F args
+    kept-args = keepAll units F args
 
     abbrev s₀ : View
     s₀ = view (circuitStart F body kept-args)

@@ -9,7 +9,7 @@ use lib.Dec.{eqb}
 use borrow.Author.Tests.{eqb-true, eq-eqb}
 use Rattle.table.specs.Syntax.{Expr, Exprs, const, param, prim, call, self, cond, bind, bound, none, some, id, Every, Every*, Node, Node*}
 use Rattle.table.specs.Syntax.{size, roots}
-use Rattle.rules.specs.Arithmetic.{Arithmetic, handed}
+use Rattle.rules.specs.Arithmetic.{Arithmetic, keepAll}
 use Rattle.rules.specs.State.{View, In}
 use Rattle.table.specs.Environment.{values}
 use Rattle.table.specs.Pick.{Range}
@@ -23,8 +23,8 @@ length-values : (s : View) (es : Exprs) → length (values (s .value) es) ≡ si
 length-values s none = refl
 length-values s (some e es) = ap suc (length-values s es)
 
-pub length-handed : (units : Arithmetic) (f : ℕ) (s : View) (es : Exprs) → length (handed units f (values (s .value) es)) ≡ size es
-length-handed units f s es = length-map (values (s .value) es) (units .keep f) ∙ length-values s es
+pub length-kept : (units : Arithmetic) (f : ℕ) (s : View) (es : Exprs) → length (keepAll units f (values (s .value) es)) ≡ size es
+length-kept units f s es = length-map (values (s .value) es) (units .keep f) ∙ length-values s es
 
 -- what holds of each node holds of every node
 module _ (P : ℕ → Type 0) where

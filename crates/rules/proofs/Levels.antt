@@ -7,7 +7,7 @@ use native.Mathlib.Omega.{arith}
 use native.Mathlib.Decide.{ℕ-discrete}
 use lib.ListN.{getD}
 use Rattle.table.specs.Syntax.{Expr, Exprs, const, param, prim, call, self, cond, bind, bound, none, some}
-use Rattle.rules.specs.Reading.{Outcome, val, again, Readings, Reads, Reads*, answers, BodyReads, stops, goes, Rounds, readings}
+use Rattle.rules.specs.Reading.{Outcome, val, again, Readings, Reads, Reads*, keptAnswers, BodyReads, stops, goes, Rounds, readings}
 use Rattle.rules.specs.Arithmetic.{Arithmetic}
 use Rattle.rules.proofs.Branches.{chosen-map}
 use Rattle.table.specs.Environment.{extend}
@@ -75,10 +75,10 @@ module _ (units : Arithmetic) (body : ℕ → Expr) (K K′ : Readings) (f : ℕ
     (change : (g v k : ℕ) (vs : List ℕ) → ((c : ℕ) × CallIn c g (body f)) → K g vs v k → K′ g vs v k) where
   -- its body, as it is read with these arguments
   abbrev Body : Readings → List ℕ → Outcome → ℕ → Type 0
-  Body K vs o k = BodyReads (units .operate f) (units .keep f) K (body f) vs o k
+  Body K vs o k = BodyReads (units .result f) (units .keep f) K (body f) vs o k
 
   pub body-over : (vs : List ℕ) (o : Outcome) (k : ℕ) → Body K vs o k → Body K′ vs o k
-  body-over vs o k = reads-over (units .operate f) (answers (units .keep f) K) (answers (units .keep f) K′)
+  body-over vs o k = reads-over (units .result f) (keptAnswers (units .keep f) K) (keptAnswers (units .keep f) K′)
       (λ z. getD (map (units .keep f) vs) z 0) (body f) (λ g v k ws p q. (q .0, change g (q .0) k ws p (q .1), q .2)) (λ d. 0) o k
 
   pub round-over : (vs : List ℕ) (v k : ℕ) → Rounds units body K f vs v k → Rounds units body K′ f vs v k
@@ -119,7 +119,7 @@ module _ (units : Arithmetic) (body : ℕ → Expr) where
   closes F well (suc t) v vs o j i r h e = level-in F t v (j + i) vs (r .1) (round o e here)
     where
       Here : Outcome → Type 0
-      Here o = BodyReads (units .operate (suc t)) (units .keep (suc t)) (readings units body t) (body (suc t)) vs o j
+      Here o = BodyReads (units .result (suc t)) (units .keep (suc t)) (readings units body t) (body (suc t)) vs o j
 
       here : Here o
       here = body-over units body (readings units body F) (readings units body t) (suc t)

@@ -9,7 +9,7 @@ use lib.ListN.{getD}
 use Rattle.table.specs.Syntax.{Expr, Exprs, const, param, prim, call, self, cond, bind, bound, none, some, id, Sub, Sub*}
 use Rattle.table.specs.Environment.{extend}
 use Rattle.table.specs.Pick.{pick}
-use Rattle.rules.specs.Reading.{Outcome, val, again, Chosen, Readings, Reads, Reads*, answers, BodyReads, Round, stops, goes}
+use Rattle.rules.specs.Reading.{Outcome, val, again, Chosen, Readings, Reads, Reads*, keptAnswers, BodyReads, Round, stops, goes}
 use Rattle.rules.specs.Met.{of-chosen, Sayings, Comes, Met, Met*, Heard, MetBody, MetRound}
 
 -- each value of a list
@@ -89,7 +89,7 @@ module _ (P : ℕ → Type 0) (apply : ℕ → List ℕ → ℕ) (operated : (op
     reads-met* (some e es) c ρ p vs j h =
         let x = reads-met e (λ m v s. c m v (inl s)) ρ p (val (h .0)) (h .2) (h .4) in
         let y = reads-met* es (λ m v s. c m v (inr s)) ρ p (h .1) (h .3) (h .5) in
-        ((x .0, x .1, y .0), λ i. subst (λ l. P (getD l i 0)) (sym (h .6)) (cons-all P (h .0) (h .1) (x .1) (y .1) i))
+        ((x .0, y .0), λ i. subst (λ l. P (getD l i 0)) (sym (h .6)) (cons-all P (h .0) (h .1) (x .1) (y .1) i))
 
 -- a body read again and again, with kept arguments
 module _ (P : ℕ → Type 0) (zero-passes : P 0) (apply : ℕ → List ℕ → ℕ) (operated : (op : ℕ) (vs : List ℕ) → P (apply op vs))
@@ -98,7 +98,7 @@ module _ (P : ℕ → Type 0) (zero-passes : P 0) (apply : ℕ → List ℕ → 
     (consts : (m v : ℕ) → Sub (const m v) e → P v) where
   body-met : (vs : List ℕ) (o : Outcome) (k : ℕ) (h : BodyReads apply keep K e vs o k) → MetBody P apply keep K Q e vs o k h × Comes P o
   body-met vs o k h =
-      let x = reads-met P apply operated (answers keep K) (Heard P apply keep K Q)
+      let x = reads-met P apply operated (keptAnswers keep K) (Heard P apply keep K Q)
       (λ g ws v k a. (callees g ws (a .0) k (a .1), subst P (sym (a .2)) (kept (a .0)))) (λ x. getD (map keep vs) x 0)
       (map-all P zero-passes keep kept vs) zero-passes e consts (λ d. 0) (λ d. zero-passes) o k h in
       ((map-all P zero-passes keep kept vs, x .0), x .1)

@@ -1,4 +1,4 @@
--- reduced modulo 2^w: the result is below 2^w, and of the operations 0 to 5 it is the same whether the operands were reduced first or not
+-- laws of reducing modulo 2^w: the result is below 2^w, and six operations give the same after it, their operands reduced before or not
 use Prim.Native.Nat.{ℕ, zero, suc, _+_, _-_, _*_, _/_, _%_, _^_, _≤_, _<_}
 use mathlib.Core.Path.{_≡_, subst, sym, ap, _∙_}
 use mathlib.Core.List.{List, map}

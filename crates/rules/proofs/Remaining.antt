@@ -11,7 +11,7 @@ use Rattle.table.specs.Environment.{put}
 use Rattle.table.specs.Find.{total}
 use Rattle.rules.specs.Arithmetic.{Arithmetic}
 use Rattle.rules.specs.State.{View}
-use Rattle.rules.specs.Reading.{Outcome, val, Readings, answers, BodyReads}
+use Rattle.rules.specs.Reading.{Outcome, val, Readings, keptAnswers, BodyReads}
 use Rattle.rules.proofs.Shape.{Live}
 use Rattle.rules.proofs.Frame.{Same, SameFunction, Avoids}
 use Rattle.rules.proofs.Left.{Left}
@@ -37,11 +37,11 @@ gets units f W m = units .keep f (W m)
 -- K has what a body reads to, also over a self call
 abbrev pub Closes : (units : Arithmetic) (F : ℕ) (body : ℕ → Expr) (K : Readings) → Type 0
 Closes units F body K = (f v : ℕ) (vs : List ℕ) (o : Outcome) (j i : ℕ) → Fn F body f
-    → BodyReads (units .operate f) (units .keep f) K (body f) vs o j → Ends K f o v i → K f vs v (j + i)
+    → BodyReads (units .result f) (units .keep f) K (body f) vs o j → Ends K f o v i → K f vs v (j + i)
 
 -- what is left of a part of the body of f
 abbrev pub LeftIn : (units : Arithmetic) (K : Readings) (f : ℕ) → View → (W args : ℕ → ℕ) → Expr → (ℕ → ℕ) → Outcome → ℕ → Type 0
-LeftIn units K f s W args = Left (units .operate f) (answers (units .keep f) K) s (gets units f W) args
+LeftIn units K f s W args = Left (units .result f) (keptAnswers (units .keep f) K) s (gets units f W) args
 
 module _ (units : Arithmetic) (body : ℕ → Expr) (K : Readings) where
   -- f, as it stands, is to return v after k more steps of its own and of the calls that it has yet to make
@@ -57,7 +57,7 @@ module _ (units : Arithmetic) (body : ℕ → Expr) (K : Readings) where
         y .0,
         y .1,
         y .2,
-        left-over (units .operate f) (answers (units .keep f) K) s s′ (gets units f W) (gets units f W′) (s .register f) X keeps
+        left-over (units .result f) (keptAnswers (units .keep f) K) s s′ (gets units f W) (gets units f W′) (s .register f) X keeps
             (λ m d. ap (units .keep f) (expects m d)) (body f) c nowhere (y .0) (y .1)
             (subst (λ r. LeftIn units K f s′ W′ r (body f) nowhere (y .0) (y .1)) (fun-ext (g .1)) (y .3)),
         subst (λ v. Ends K f (y .0) v (y .2)) (ap W′ (g .0) ∙ e) (y .4),
@@ -75,7 +75,7 @@ module _ (units : Arithmetic) (body : ℕ → Expr) (K : Readings) where
         y .0,
         d + y .1,
         y .2,
-        left-within (units .operate h) (answers (units .keep h) K) s s′ (gets units h W) (gets units h W′) (s .register h) u d keeps
+        left-within (units .result h) (keptAnswers (units .keep h) K) s s′ (gets units h W) (gets units h W′) (s .register h) u d keeps
             (λ m k. ap (units .keep h) (expects m k)) (x .moving) local (body h) (apart x) (x .place) nowhere (y .0)
             (y .1) (live x) (sees-body (s .value) (body h) (x .well .scoped h (x .fn)))
             (subst (λ r. LeftIn units K h s′ W′ r (body h) nowhere (y .0) (y .1)) (fun-ext (g .1)) (y .3)),

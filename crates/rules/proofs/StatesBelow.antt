@@ -16,12 +16,12 @@ use Rattle.table.specs.Bytes.{functions, nodes, width}
 use Rattle.table.specs.Naming.{owner}
 use Rattle.table.specs.Check.{accepted, checkOf}
 use Rattle.table.specs.Expressions.{bodyOf, exprAt}
-use Rattle.table.specs.Well.{Defines, Scoped, Scoped*, Fn, Laid, Below, Wide}
+use Rattle.table.specs.Well.{Defines, Scoped, Scoped*, Fn, Laid, Below, WidthsHold}
 use Rattle.table.proofs.SyntaxLaws.{node-id, sub-node}
-use Rattle.table.proofs.Theorems.{laid, wide}
+use Rattle.table.proofs.Theorems.{laid, widths-hold}
 use Rattle.list.specs.Tags.{tagged}
 use Rattle.rules.specs.Operations.{operate}
-use Rattle.rules.specs.Arithmetic.{handed, narrow, arithmetic}
+use Rattle.rules.specs.Arithmetic.{keepAll, narrow, arithmetic}
 use Rattle.rules.specs.State.{State512, Sized, entry, write, register, view, fill, clear, blank, circuitStart}
 use Rattle.rules.specs.Step.{Act, stuck, blocked, does, Move, begins, turns, finishes, enters, leaves, restarts, done, all-done}
 use Rattle.rules.specs.Step.{branch, act, mine, perform}
@@ -93,8 +93,8 @@ module _ (t : List ℕ) where
   ActBelow h blocked = Unit {0}
   ActBelow h (does m) = MoveBelow h m
 
-  handed-below : (f : ℕ) (vs : List ℕ) (i : ℕ) → Below (width t f) (getD (handed (arithmetic t) f vs) i 0)
-  handed-below f vs = map-all (Below (width t f)) (pow-pos (width t f)) (narrow (width t f)) (narrow-below (width t f)) vs
+  kept-below : (f : ℕ) (vs : List ℕ) (i : ℕ) → Below (width t f) (getD (keepAll (arithmetic t) f vs) i 0)
+  kept-below f vs = map-all (Below (width t f)) (pow-pos (width t f)) (narrow (width t f)) (narrow-below (width t f)) vs
 
   module _ (F N : ℕ) (check : checkOf t ≡ accepted F N) (s : State512) (fits : FitsWidths t s) (h : ℕ) (r : Range (functions t) h) where
     abbrev lay : Laid (functions t) (nodes t) (bodyOf t) (exprAt t) (owner t)
@@ -113,7 +113,7 @@ module _ (t : List ℕ) where
     P = ActBelow h
 
     act-below : (u : Expr) → Sub u (bodyOf t h) → P (act (arithmetic t) (bodyOf t) h (view s) u)
-    act-below (const n v) p = by-state P (view s .status n) _ _ (λ e. wide t F N check .consts h n v r p) (λ e. tt) tt
+    act-below (const n v) p = by-state P (view s .status n) _ _ (λ e. widths-hold t F N check .consts h n v r p) (λ e. tt) tt
     act-below (param n i) p = by-state P (view s .status n) _ _ (λ e. fits .registers h i r) (λ e. tt) tt
     act-below (bound n d) p = by-state P (view s .status n) _ _
         (λ e. held d (⊎-elim absurd (λ k. k) (bound-inside n d (bodyOf t h) (λ d. ⊥) (lay .well .scoped h r) p))) (λ e. tt) tt
@@ -123,10 +123,10 @@ module _ (t : List ℕ) where
         (λ e. by-pick P (view s .second n) _ _
         (λ e. by-pick P (done (view s) (id (bodyOf t g))) _ _ (λ e. narrow-below (width t h) (view s .value (id (bodyOf t g)))) (λ e. tt))
         (λ e. by-pick P (all-done (view s) es) _ _
-        (λ e. by-pick P (eqb (view s .occupant g) 0) _ _ (λ e. handed-below g (values (view s .value) es)) (λ e. tt)) (λ e. tt)))
+        (λ e. by-pick P (eqb (view s .occupant g) 0) _ _ (λ e. kept-below g (values (view s .value) es)) (λ e. tt)) (λ e. tt)))
         tt
     act-below (self n es) p = by-state P (view s .status n) _ _ (λ e. tt)
-        (λ e. by-pick P (all-done (view s) es) _ _ (λ e. handed-below h (values (view s .value) es)) (λ e. tt)) tt
+        (λ e. by-pick P (all-done (view s) es) _ _ (λ e. kept-below h (values (view s .value) es)) (λ e. tt)) tt
     act-below (cond n a b c) p =
         let x : Expr = branch (view s .value (id a)) b c in
         by-state P (view s .status n) _ _ (λ e. tt)
@@ -174,7 +174,8 @@ module _ (t : List ℕ) where
       where
         go : Dec (f ≡ g) → Below (width t f) (register (fill g vs (s .registers)) f i)
         go (yes e) = subst (λ k. Below (width t k) (register (fill g vs (s .registers)) k i)) (sym e)
-            (subst (Below (width t g)) (sym (fill-mine g vs (s .registers) i a (omega (arith, b, functions-few)) (sized .registered) l)) (x i))
+            (subst (Below (width t g)) (sym (fill-mine g vs (s .registers) i a (omega (arith, b, functions-few)) (sized .registered) l))
+            (x i))
         go (no e) = subst (Below (width t f)) (sym (fill-other g vs (s .registers) f i e)) (fits .registers f i q)
 
     perform-below : (m : Move) → Fair (functions t) (nodes t) (owner t) (bodyOf t) n m → MoveBelow (owner t n) m
@@ -209,13 +210,17 @@ plays-below t s sized fits (a ∷ rest) = plays-below t (stepOf t (a .tags) s (a
 -- zeros, and main's registers
 start-below : (t args : List ℕ) (F N : ℕ) → checkOf t ≡ accepted F N → length args ≤ 8 → FitsWidths t (opening t args)
 unfolding circuitStart
-start-below t args F N check few = record { value = λ n i. none (width t (owner t n)) (entry-blank 512 0 n); registers = λ f i r. go f i (ℕ-discrete f (functions t)) }
+start-below t args F N check few = record {
+  value = λ n i. none (width t (owner t n)) (entry-blank 512 0 n);
+  registers = λ f i r. go f i
+      (ℕ-discrete f (functions t));
+}
   where
     none : (w : ℕ) {v : ℕ} → v ≡ 0 → Below w v
     none w e = subst (Below w) (sym e) (pow-pos w)
 
     kept : List ℕ
-    kept = handed (arithmetic t) (functions t) args
+    kept = keepAll (arithmetic t) (functions t) args
 
     lay : Laid (functions t) (nodes t) (bodyOf t) (exprAt t) (owner t)
     lay = laid t F N check
@@ -224,7 +229,7 @@ start-below t args F N check few = record { value = λ n i. none (width t (owner
     go f i (yes e) = subst (λ k. Below (width t k) (register (fill (functions t) kept (blank 256 0)) k i)) (sym e)
         (subst (Below (width t (functions t)))
         (sym (fill-mine (functions t) kept (blank 256 0) i (lay .some-function) (lay .functions) (length-blank 256 0)
-        (omega (arith, few, length-map args (arithmetic t .keep (functions t)))))) (handed-below t (functions t) args i))
+        (omega (arith, few, length-map args (arithmetic t .keep (functions t)))))) (kept-below t (functions t) args i))
     go f i (no e) = none (width t f) (fill-other (functions t) kept (blank 256 0) f i e ∙ register-blank 256 f i)
 
 pub states-below : StatesBelow
@@ -232,4 +237,5 @@ unfolding playsOf
 states-below t tags args s e asked =
     let p = start-passes t tags args s e in
     plays-below t s (subst Sized (sym (p .state)) (start-sized (functions t) (bodyOf t) _))
-    (subst (FitsWidths t) (sym (p .state)) (start-below t args (functions t) (nodes t) (p .check) (main-few t (functions t) (nodes t) (p .check) args (p .count)))) asked
+    (subst (FitsWidths t) (sym (p .state))
+    (start-below t args (functions t) (nodes t) (p .check) (main-few t (functions t) (nodes t) (p .check) args (p .count)))) asked

@@ -16,7 +16,7 @@ use Rattle.rules.proofs.Frame.{Same}
 use Rattle.table.proofs.SyntaxLaws.{node-id, apart-sub}
 use Rattle.rules.proofs.Moves.{Becomes, Opens, Opens*, Keeps, Keeps*, Inner}
 use Rattle.table.proofs.CallPlaces.{sub-call}
-use Rattle.rules.specs.Arithmetic.{Arithmetic, handed}
+use Rattle.rules.specs.Arithmetic.{Arithmetic, keepAll}
 use Rattle.rules.proofs.Invariant.{New, Sound, Step, inner, enter, leave, again}
 use Rattle.rules.proofs.Acting.{stepping-live}
 use Rattle.rules.specs.Step.{stuck, does, finishes, enters, done, all-done, branch, act}
@@ -45,7 +45,7 @@ module _ (units : Arithmetic) {F N : ℕ} {body at : ℕ → Expr} {home : ℕ �
     apart u p = apart-sub u (body h) (laid .well .apart h r) p
 
     -- a step inside the body that finishes the node
-    ends : (u : Expr) → Sub u (body h) → (v : ℕ) → Does N home body s s′ (id u) (finishes v) → Inner (units .operate h)
+    ends : (u : Expr) → Sub u (body h) → (v : ℕ) → Does N home body s s′ (id u) (finishes v) → Inner (units .result h)
         (s .register h) s s′ u
         → StepAt units F body s s′ (id u)
     ends u p v d i = (
@@ -60,7 +60,7 @@ module _ (units : Arithmetic) {F N : ℕ} {body at : ℕ → Expr} {home : ℕ �
 
     -- one that opens the nodes of ns
     starts : (u : Expr) → Sub u (body h) → (ns : List ℕ) → ((m : ℕ) → In m ns → Node m u) → Begins s s′ (id u) ns
-        → Inner (units .operate h) (s .register h) s s′ u → StepAt units F body s s′ (id u)
+        → Inner (units .result h) (s .register h) s s′ u → StepAt units F body s s′ (id u)
     starts u p ns f d i = (
       inner h r u record {
         place = p;
@@ -71,7 +71,7 @@ module _ (units : Arithmetic) {F N : ℕ} {body at : ℕ → Expr} {home : ℕ �
       refl,
     )
 
-    turning : (u : Expr) → Sub u (body h) → (q : ℕ) → Node q u → Turns s s′ (id u) q → Inner (units .operate h) (s .register h) s s′ u
+    turning : (u : Expr) → Sub u (body h) → (q : ℕ) → Node q u → Turns s s′ (id u) q → Inner (units .result h) (s .register h) s s′ u
         → StepAt units F body s s′ (id u)
     turning u p q f d i = (
       inner h r u record {
@@ -133,7 +133,7 @@ module _ (units : Arithmetic) {F N : ℕ} {body at : ℕ → Expr} {home : ℕ �
         a = apart (prim n op es) p
 
         v : ℕ
-        v = units .operate h op (values (s .value) es)
+        v = units .result h op (values (s .value) es)
 
     -- one expression below a node that becomes busy, or in its second phase
     begun₁ : (n : ℕ) (e : Expr) → (Node n e → ⊥) → Apart e → Begins s s′ n (id e ∷ []) → Opens s s′ e
@@ -317,7 +317,7 @@ module _ (units : Arithmetic) {F N : ℕ} {body at : ℕ → Expr} {home : ℕ �
             ready = all-done-finished s es f;
             free = eqb-true (s .occupant g) 0 z;
             enters = (d .status ∙ t, d .second);
-            new = renewed g fn-g (λ m. m ≡ n) (handed units g (values (s .value) es)) (d .new);
+            new = renewed g fn-g (λ m. m ≡ n) (keepAll units g (values (s .value) es)) (d .new);
             keeps = λ m e k. d .new .others m e (λ o. k (own-node laid g m (o .0, o .1) (o .2)));
             occupies = d .occupies;
             arguments = d .new .registers;
@@ -346,7 +346,7 @@ module _ (units : Arithmetic) {F N : ℕ} {body at : ℕ → Expr} {home : ℕ �
             place = p;
             waits = t;
             ready = all-done-finished s es f;
-            new = renewed h r (λ m. ⊥) (handed units h (values (s .value) es)) (d .0);
+            new = renewed h r (λ m. ⊥) (keepAll units h (values (s .value) es)) (d .0);
             keeps = λ m k. d .0 .others m (λ z. z) (λ o. k (own-node laid h m (o .0, o .1) (o .2)));
             arguments = d .0 .registers;
             occupants = d .1;

@@ -19,8 +19,8 @@ use Rattle.rules.proofs.Progress.{Able}
 use Rattle.rules.specs.Step.{Act, stuck, blocked, does, Move, turns, finishes, restarts, done, all-done, branch, by-status, act}
 use Rattle.rules.proofs.Performed.{Owns, FairAct}
 use Rattle.table.specs.Well.{Fn, Laid}
-use Rattle.rules.specs.Arithmetic.{Arithmetic, handed}
-use Rattle.rules.proofs.LaidFacts.{length-handed, root-node, all-done-finished, finished-all-done, callee-fn}
+use Rattle.rules.specs.Arithmetic.{Arithmetic, keepAll}
+use Rattle.rules.proofs.LaidFacts.{length-kept, root-node, all-done-finished, finished-all-done, callee-fn}
 use Rattle.rules.proofs.ActCases.{by-pick, by-state}
 
 abbrev pub Moves : Act → Type 0
@@ -81,7 +81,7 @@ module _ (units : Arithmetic) {F N : ℕ} {body at : ℕ → Expr} {home : ℕ �
         (λ e. (
           fn-g .0,
           fn-g .1,
-          omega (arith, length-handed units g s es, laid .few h (call n g es) r p),
+          omega (arith, length-kept units g s es, laid .few h (call n g es) r p),
           own-root g fn-g,
           elsewhere,
         )) (λ e. tt))
@@ -104,7 +104,7 @@ module _ (units : Arithmetic) {F N : ℕ} {body at : ℕ → Expr} {home : ℕ �
           λ i. apart-sub (self n es) (body h) (laid .well .apart h r) p .0 (root-node n es i),
         ))
         (λ b. by-pick (FairAct F N home body n) (all-done s es) _ _
-        (λ e. (r .0, r .1, omega (arith, length-handed units h s es, laid .few h (self n es) r p), own-root h r)) (λ e. tt)) tt
+        (λ e. (r .0, r .1, omega (arith, length-kept units h s es, laid .few h (self n es) r p), own-root h r)) (λ e. tt)) tt
     act-fair (cond n a b c) p = by-state (FairAct F N home body n) (s .status n) _ _
         (λ o. (
           λ m i. ⊎-elim (λ e. range (cond n a b c) p m (inr (inl (subst (λ y. Node y a) (sym e) (node-id a))))) absurd i,
@@ -180,9 +180,9 @@ module _ (units : Arithmetic) {F N : ℕ} {body at : ℕ → Expr} {home : ℕ �
     blocked-waits (param n i) = free n (param n i) (s .status n) _ _ (λ z. z) (λ z. z)
     blocked-waits (bound n d) = free n (bound n d) (s .status n) _ _ (λ z. z) (λ z. z)
     blocked-waits (prim n op es) = free n (prim n op es) (s .status n) _ _ (λ z. z)
-        (open-test (all-done s es) (finishes (units .operate h op (values (s .value) es))))
+        (open-test (all-done s es) (finishes (units .result h op (values (s .value) es))))
     blocked-waits (self n es) = free n (self n es) (s .status n) _ _ (λ z. z)
-        (open-test (all-done s es) (restarts h (handed units h (values (s .value) es))))
+        (open-test (all-done s es) (restarts h (keepAll units h (values (s .value) es))))
     blocked-waits (cond n a b c) =
         let r : Expr = branch (s .value (id a)) b c in
         free n (cond n a b c) (s .status n) _ _ (λ z. z) (two-tests (s .second n) (done s (id r)) (done s (id a))

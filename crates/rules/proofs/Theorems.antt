@@ -1,4 +1,4 @@
--- the theorems on the circuit, for a reader: each statement is in specs/, its parts with document 01's words
+-- the theorems on the circuit, for a reader: each statement is in specs/, its parts with the documents' words
 use mathlib.Core.Path.{_≡_}
 use mathlib.Core.List.{List}
 use Prim.Native.Nat.{ℕ}

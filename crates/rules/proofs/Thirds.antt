@@ -44,7 +44,7 @@ module _ (units : Arithmetic) {F N : ℕ} {body at : ℕ → Expr} {home : ℕ �
   -- a busy call keeps its state while another node takes a step
   module _ (f c g : ℕ) (q : Fn F body f) (i : CallIn c g (body f)) (busy : s .status c ≡ 2) where
     pub busy-kept : (st : Step units F body s s′) → (c ≡ stepped units F body st → ⊥) → Same s s′ c
-    busy-kept (inner h r u st) d = st .keeps c (λ k. d (inner-busy s c busy (units .operate h) (s .register h) s′ u (st .rule)
+    busy-kept (inner h r u st) d = st .keeps c (λ k. d (inner-busy s c busy (units .result h) (s .register h) s′ u (st .rule)
         (live-part (inner-acts (laid .well) sound r st)) k))
     busy-kept (enter h r n k es st) d =
         let x = enter-acts (laid .well) sound r st in

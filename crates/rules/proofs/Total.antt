@@ -11,9 +11,9 @@ use Rattle.table.specs.Syntax.{Expr, Exprs, call, self, id, Node}
 use Rattle.table.specs.Well.{Fn, Well}
 use Rattle.table.specs.Environment.{values, put}
 use Rattle.table.proofs.SyntaxLaws.{sub-node}
-use Rattle.rules.specs.Arithmetic.{Arithmetic, handed}
+use Rattle.rules.specs.Arithmetic.{Arithmetic, keepAll}
 use Rattle.rules.specs.State.{View}
-use Rattle.rules.specs.Reading.{Outcome, val, Readings, Reads, answers}
+use Rattle.rules.specs.Reading.{Outcome, val, Readings, Reads, keptAnswers}
 use Rattle.rules.proofs.Frame.{Same}
 use Rattle.rules.proofs.Mix.{mix-out}
 use Rattle.rules.proofs.SelfCalls.{self-left}
@@ -41,7 +41,7 @@ module _ (units : Arithmetic) {F : ℕ} {body : ℕ → Expr} (K : Readings) (s 
     inner-before : Before units F body K s W′ R′
     inner-before = one-more units F body K s W′ W′ R′ R′ h 0 (x .fn) (active x) (omega arith) refl
         (rest-own units body K s s′ W′ W′ x 1 (st .keeps) (λ m y. refl)
-        (λ ρ o k l f g. inner-left (units .operate h) (answers (units .keep h) K) s s′ (gets units h W′) (s .register h) u
+        (λ ρ o k l f g. inner-left (units .result h) (keptAnswers (units .keep h) K) s s′ (gets units h W′) (s .register h) u
         (st .rule) l ρ o k f g)
         (R′ h) (st .keepsFn h) refl (still h (x .fn) (st .keepsFn h .0) (active x)))
         (λ f q a e. rest-aside units body K s s′ W′ W′ (λ m. Node m u) (st .keeps) (λ m y. refl) f (R′ f)
@@ -67,7 +67,7 @@ module _ (units : Arithmetic) {F : ℕ} {body : ℕ → Expr} (K : Readings) (s 
         → LeftIn units K h s W₁ (s .register h) (call n g es) ρ o (1 + k)
     unfolding got
     leaving ρ o k y =
-        let z = left-done (units .operate h) (answers (units .keep h) K) s′ (gets units h W′) (s .register h) (call n g es)
+        let z = left-done (units .result h) (keptAnswers (units .keep h) K) s′ (gets units h W′) (s .register h) (call n g es)
         (st .becomes .0) ρ o k y in
         inr (inr (st .holds .0, inr (st .holds .1, z .1 ∙ ap val (st .becomes .2 ∙ ap (units .keep h) (sym W₁-n)), omega (arith, z .2))))
 
@@ -89,7 +89,7 @@ module _ (units : Arithmetic) {F : ℕ} {body : ℕ → Expr} (K : Readings) (s 
           val got,
           0,
           0,
-          over-left (units .operate g) (answers (units .keep g) K) s (gets units g W₁) (s .register g) (body g) nowhere (val got) 0
+          over-left (units .result g) (keptAnswers (units .keep g) K) s (gets units g W₁) (s .register g) (body g) nowhere (val got) 0
               (st .over, refl, refl),
           (ap W₁ (Leave.mine x st) ∙ W₁-n, refl),
           refl,
@@ -109,12 +109,12 @@ module _ (units : Arithmetic) {F : ℕ} {body : ℕ → Expr} (K : Readings) (s 
   -- K has what is left of a body that is new
   module _ (reads : Closes units F body K) where
     new-reads : (f : ℕ) → Fn F body f → s′ .status (id (body f)) ≡ 1 → (vs : List ℕ)
-        → s′ .register f ≡ (λ i. getD (handed units f vs) i 0) → (v : ℕ)
+        → s′ .register f ≡ (λ i. getD (keepAll units f vs) i 0) → (v : ℕ)
         → Rest units body K s′ W′ f v (R′ f) → K f vs v (R′ f)
     new-reads f q o vs e v y =
         subst (K f vs v) (sym (y .5)) (reads f v vs (y .0) (y .1) (y .2) q
-        (subst (λ r. Reads (units .operate f) (answers (units .keep f) K) r (body f) nowhere (y .0) (y .1)) e
-        (left-reads (units .operate f) (answers (units .keep f) K) s′ (gets units f W′) (s′ .register f) (body f) (inr o) nowhere (y .0)
+        (subst (λ r. Reads (units .result f) (keptAnswers (units .keep f) K) r (body f) nowhere (y .0) (y .1)) e
+        (left-reads (units .result f) (keptAnswers (units .keep f) K) s′ (gets units f W′) (s′ .register f) (body f) (inr o) nowhere (y .0)
         (y .1) (y .3))) (y .4))
 
     module _ {h n g : ℕ} {es : Exprs} (x : Acting F body s h (call n g es)) (st : EnterStep units body s s′ h n g es) where
@@ -139,13 +139,13 @@ module _ (units : Arithmetic) {F : ℕ} {body : ℕ → Expr} (K : Readings) (s 
                 units .keep h (W′ n),
                 0,
                 R′ g,
-                over-left* (units .operate h) (answers (units .keep h) K) s (gets units h W′) (s .register h) es ρ (st .ready),
+                over-left* (units .result h) (keptAnswers (units .keep h) K) s (gets units h W′) (s .register h) es ρ (st .ready),
                 (W′ n, called, refl),
                 z .1,
                 omega (arith, z .2),
               ),
             ),
-          ))) (left-going (units .operate h) (answers (units .keep h) K) (Enter.t x st) (gets units h W′) (s .register h) (call n g es)
+          ))) (left-going (units .result h) (keptAnswers (units .keep h) K) (Enter.t x st) (gets units h W′) (s .register h) (call n g es)
           (at-t .0 ∙ st .enters .0) ρ o k y)
 
       R₁ : ℕ → ℕ
@@ -185,7 +185,7 @@ module _ (units : Arithmetic) {F : ℕ} {body : ℕ → Expr} (K : Readings) (s 
         Reading.again (values (s .value) es),
         1,
         R′ h,
-        self-left s n es (st .waits) (st .ready) (units .operate h) (answers (units .keep h) K) (gets units h W′) (s .register h)
+        self-left s n es (st .waits) (st .ready) (units .result h) (keptAnswers (units .keep h) K) (gets units h W′) (s .register h)
             (body h) (x .well .tail h (x .fn)) (st .place) (live x)
             nowhere,
         new-reads h (x .fn) (st .new .0 .0) (values (s .value) es) (fun-ext (st .arguments)) (W′ (s .occupant h))

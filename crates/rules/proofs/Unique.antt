@@ -7,7 +7,8 @@ use native.Mathlib.Decide.{ℕ-discrete}
 use lib.ListN.{getD}
 use Rattle.table.specs.Syntax.{Expr, Exprs, const, param, prim, call, self, cond, bind, bound, none, some}
 use Rattle.rules.proofs.Branches.{chosen-case, chosen-both}
-use Rattle.rules.specs.Reading.{Outcome, val, again, last, Readings, Reads, Reads*, answers, BodyReads, Round, stops, goes, Rounds}
+use Rattle.rules.specs.Reading.{Outcome, val, again, last, Readings, Reads, Reads*, keptAnswers, BodyReads, Round, stops, goes}
+use Rattle.rules.specs.Reading.{Rounds}
 use Rattle.rules.specs.Arithmetic.{Arithmetic}
 use Rattle.table.specs.Environment.{extend}
 use Rattle.table.specs.Pick.{mixed}
@@ -67,14 +68,14 @@ module _ (apply : ℕ → List ℕ → ℕ) (K : Readings) (unique : Unique K) (
         let b = reads-unique* es ρ (x .1) (y .1) (x .3) (y .3) (x .5) (y .5) in
         (x .6 ∙ (λ z. val-inj (x .0) (y .0) (a .0) z ∷ b .0 z) ∙ sym (y .6), omega (arith, x .7, y .7, a .1, b .1))
 
-answers-unique : (keep : ℕ → ℕ) (K : Readings) → Unique K → Unique (answers keep K)
-answers-unique keep K unique g vs v w k l x y =
+kept-unique : (keep : ℕ → ℕ) (K : Readings) → Unique K → Unique (keptAnswers keep K)
+kept-unique keep K unique g vs v w k l x y =
     let a = unique g vs (x .0) (y .0) k l (x .1) (y .1) in (x .2 ∙ ap keep (a .0) ∙ sym (y .2), a .1)
 
 module _ (apply : ℕ → List ℕ → ℕ) (keep : ℕ → ℕ) (K : Readings) (unique : Unique K) (e : Expr) where
   same : (vs : List ℕ) (o q : Outcome) (k l : ℕ) → BodyReads apply keep K e vs o k → BodyReads apply keep K e vs q l → (o ≡ q) × (k ≡ l)
   same vs o q k l x y =
-      reads-unique apply (answers keep K) (answers-unique keep K unique) (λ z. getD (map keep vs) z 0) e (λ d. 0) o q k l x y
+      reads-unique apply (keptAnswers keep K) (kept-unique keep K unique) (λ z. getD (map keep vs) z 0) e (λ d. 0) o q k l x y
 
   pub round-unique : (vs : List ℕ) (v w k l : ℕ) → Round apply keep K e vs v k → Round apply keep K e vs w l → (v ≡ w) × (k ≡ l)
   round-unique vs v w k l (stops x) (stops y) = let a = same vs (val v) (val w) k l x y in (val-inj v w (a .0), a .1)
@@ -95,5 +96,5 @@ module _ (units : Arithmetic) (body : ℕ → Expr) where
     where
       go : (d : Dec (g ≡ suc t)) → Unique (readings t) → mixed d (Rounds units body (readings t) g vs v k) (readings t g vs v k)
           → mixed d (Rounds units body (readings t) g vs w l) (readings t g vs w l) → (v ≡ w) × (k ≡ l)
-      go (yes e) f x y = round-unique (units .operate g) (units .keep g) (readings t) f (body g) vs v w k l x y
+      go (yes e) f x y = round-unique (units .result g) (units .keep g) (readings t) f (body g) vs v w k l x y
       go (no e) f x y = f g vs v w k l x y

@@ -6,7 +6,7 @@ use lib.ListN.{length}
 use Rattle.rules.specs.State.{State512, view, circuitStart}
 use Rattle.rules.specs.Step.{Act, act, Stepped, refusal, circuitStep}
 use Rattle.rules.specs.Play.{Ask, asks, Log, IsTaken, played, entries, leavings}
-use Rattle.rules.specs.Arithmetic.{handed, arithmetic}
+use Rattle.rules.specs.Arithmetic.{keepAll, arithmetic}
 use Rattle.table.specs.Bytes.{functions, nodes, params}
 use Rattle.table.specs.Naming.{owner}
 use Rattle.table.specs.Check.{Verdict, accepted, refused, stage}
@@ -28,9 +28,9 @@ unfoldable pub startAfter : Verdict → State512 → Started
 startAfter (accepted F N) s = started s
 startAfter (refused number place) s = turned number place
 
--- the state that a start makes, main keeping of its arguments what its width holds
+-- the state that a start makes: in main's registers the arguments as main keeps them
 abbrev pub opening : (t args : List ℕ) → State512
-opening t args = circuitStart (functions t) (bodyOf t) (handed (arithmetic t) (functions t) args)
+opening t args = circuitStart (functions t) (bodyOf t) (keepAll (arithmetic t) (functions t) args)
 
 unfoldable pub startOf : (t tags args : List ℕ) → Started
 startOf t tags args = startAfter (checkStart t tags args) (opening t args)

@@ -131,7 +131,7 @@ pub record ReadingFixed (t : List ℕ) : Type 1 where
   pub only : (K : Readings) → ByBodies t K → (f : ℕ) → Range (functions t) f → (vs : List ℕ) (v k : ℕ)
       → K f vs v k ↔ readingsOf t f vs v k
 
--- the reading's value is a word, where table and arguments are
+-- the reading's value is a word, where table and arguments are (by the widths, `ReadingBelow`, it is one in any case)
 abbrev pub ReadingWord : Type 0
 ReadingWord = (t args : List ℕ) (F N : ℕ) → checkOf t ≡ accepted F N → Bytes t → Words args → (v k : ℕ) → ReadsTo t args v k → Word v
 

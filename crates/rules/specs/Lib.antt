@@ -10,4 +10,4 @@ pub mod Met
 pub mod Demand
 pub mod Companions
 pub mod Widths
-pub mod NarrowDesigns
+pub mod WidthDesigns

@@ -1,4 +1,5 @@
--- the values that a reading meets, over its whole derivation: what passes P in the function, and what is said of its callees' readings
+-- the values that a reading meets (document 02, Q-2), over its whole derivation: what passes P in the function, and what is said of its
+-- callees' readings
 use Prim.Native.Nat.{ℕ, zero, suc}
 use mathlib.Core.List.{List, map}
 use native.Mathlib.Decide.{ℕ-discrete}
@@ -8,7 +9,8 @@ use Rattle.table.specs.Environment.{extend}
 use Rattle.table.specs.Pick.{mixed}
 use Rattle.table.specs.Well.{Below}
 use Rattle.rules.specs.Arithmetic.{Arithmetic}
-use Rattle.rules.specs.Reading.{Outcome, val, again, Chosen, Readings, Reads, Reads*, answers, BodyReads, Round, stops, goes, Rounds}
+use Rattle.rules.specs.Reading.{Outcome, val, again, Chosen, Readings, Reads, Reads*, keptAnswers, BodyReads, Round, stops, goes}
+use Rattle.rules.specs.Reading.{Rounds}
 use Rattle.rules.specs.Reading.{readings}
 
 -- what is said of the branch that was taken
@@ -25,7 +27,7 @@ abbrev pub Comes : (ℕ → Type 0) → Outcome → Type 0
 Comes P (val v) = P v
 Comes P (again vs) = Unit {0}
 
--- every value met passes P, and Q is said of each callee's reading
+-- every value met passes P, each expression's own among them, and Q is said of each callee's reading
 module _ (P : ℕ → Type 0) (apply : ℕ → List ℕ → ℕ) (K : Readings) (Q : Sayings K) (args : ℕ → ℕ) where
   abbrev mutual
     pub Met : (e : Expr) (ρ : ℕ → ℕ) (o : Outcome) (k : ℕ) → Reads apply K args e ρ o k → Type 0
@@ -46,17 +48,17 @@ module _ (P : ℕ → Type 0) (apply : ℕ → List ℕ → ℕ) (K : Readings) 
 
     pub Met* : (es : Exprs) (ρ : ℕ → ℕ) (vs : List ℕ) (j : ℕ) → Reads* apply K args es ρ vs j → Type 0
     Met* none ρ vs j h = Unit {0}
-    Met* (some e es) ρ vs j h = Met e ρ (val (h .0)) (h .2) (h .4) × P (h .0) × Met* es ρ (h .1) (h .3) (h .5)
+    Met* (some e es) ρ vs j h = Met e ρ (val (h .0)) (h .2) (h .4) × Met* es ρ (h .1) (h .3) (h .5)
 
 module _ (P : ℕ → Type 0) (apply : ℕ → List ℕ → ℕ) (keep : ℕ → ℕ) (K : Readings) (Q : Sayings K) where
   -- what is said of a callee's reading, whatever the caller keeps of its answer
-  abbrev pub Heard : Sayings (answers keep K)
+  abbrev pub Heard : Sayings (keptAnswers keep K)
   Heard g vs v k h = Q g vs (h .0) k (h .1)
 
   -- the arguments as they are kept, and a body read with them
   abbrev pub MetBody : (e : Expr) (vs : List ℕ) (o : Outcome) (k : ℕ) → BodyReads apply keep K e vs o k → Type 0
   MetBody e vs o k h = ((i : ℕ) → P (getD (map keep vs) i 0))
-      × Met P apply (answers keep K) Heard (λ x. getD (map keep vs) x 0) e (λ d. 0) o k h
+      × Met P apply (keptAnswers keep K) Heard (λ x. getD (map keep vs) x 0) e (λ d. 0) o k h
 
   -- a body read again and again, up to its value
   abbrev pub MetRound : (e : Expr) (vs : List ℕ) (v k : ℕ) → Round apply keep K e vs v k → Type 0
@@ -67,12 +69,12 @@ abbrev pub of-mixed {ℓ} : {A : Type 0} (X Y : Type 0) (d : Dec A) → (X → T
 of-mixed X Y (yes e) p q h = p h
 of-mixed X Y (no e) p q h = q h
 
-module _ (width : ℕ → ℕ) (units : Arithmetic) (body : ℕ → Expr) where
-  -- what is met in function f is below 2^w, w being the width of f
+module _ (bitsOf : ℕ → ℕ) (units : Arithmetic) (body : ℕ → Expr) where
+  -- what is met in function f is below 2^w, w being its bits
   abbrev pub MetIn : (K : Readings) → Sayings K → Sayings (Rounds units body K)
-  MetIn K Q f vs v k r = MetRound (Below (width f)) (units .operate f) (units .keep f) K Q (body f) vs v k r
+  MetIn K Q f vs v k r = MetRound (Below (bitsOf f)) (units .result f) (units .keep f) K Q (body f) vs v k r
 
-  -- and so in every function that a whole reading comes to, by that function's own width
+  -- and so in every function that a whole reading comes to, by that function's own bits
   abbrev pub MetBelow : (t : ℕ) → Sayings (readings units body t)
   MetBelow zero g vs v k h = Unit {0}
   MetBelow (suc t) g vs v k h = of-mixed (Rounds units body (readings units body t) g vs v k) (readings units body t g vs v k)

@@ -1,4 +1,5 @@
--- the plain reading with its count (document 01, "The plain reading and its count"): "a definition and no entry"
+-- the plain reading with its count (document 01, "The plain reading and its count"; what is kept of a value: document 02, Q-2): "a
+-- definition and no entry"
 use Prim.Native.Nat.{ℕ, zero, suc, _+_}
 use mathlib.Core.Path.{_≡_}
 use mathlib.Core.List.{List, [], _∷_, map}
@@ -30,7 +31,7 @@ Chosen X Y (suc v) = X
 abbrev pub Readings : Type 1
 Readings = (g : ℕ) → List ℕ → (value count : ℕ) → Type 0
 
--- K reads the callees, `args` are the arguments of this function, ρ the values of the definientia in scope
+-- K tells the callees' answers and `args` the arguments, both as this function keeps them; ρ has the values of the definientia in scope
 module _ (apply : ℕ → List ℕ → ℕ) (K : Readings) (args : ℕ → ℕ) where
   abbrev mutual
     pub Reads : Expr → (ℕ → ℕ) → Outcome → (count : ℕ) → Type 0
@@ -54,13 +55,13 @@ module _ (apply : ℕ → List ℕ → ℕ) (K : Readings) (args : ℕ → ℕ) 
     Reads* (some e es) ρ vs j = (v : ℕ) × (ws : List ℕ) × (i i′ : ℕ) × Reads e ρ (val v) i × Reads* es ρ ws i′ × (vs ≡ v ∷ ws)
         × (j ≡ i + i′)
 
--- what a caller gets of its callees: of the answer u it keeps v
-abbrev pub answers : (keep : ℕ → ℕ) → Readings → Readings
-answers keep K g vs v k = (u : ℕ) × K g vs u k × (v ≡ keep u)
+-- the callees as a caller gets them: of the answer u it keeps v
+abbrev pub keptAnswers : (keep : ℕ → ℕ) → Readings → Readings
+keptAnswers keep K g vs v k = (u : ℕ) × K g vs u k × (v ≡ keep u)
 
--- body e read with these arguments: it keeps what they come to, and what its callees answer
+-- body e read with the arguments vs: each of them is kept first, and so is each callee's answer
 abbrev pub BodyReads : (apply : ℕ → List ℕ → ℕ) (keep : ℕ → ℕ) → Readings → Expr → List ℕ → Outcome → (count : ℕ) → Type 0
-BodyReads apply keep K e vs o k = Reads apply (answers keep K) (λ x. getD (map keep vs) x 0) e (λ d. 0) o k
+BodyReads apply keep K e vs o k = Reads apply (keptAnswers keep K) (λ x. getD (map keep vs) x 0) e (λ d. 0) o k
 
 -- body e, read again with the arguments of each self call until it comes to a value
 pub data Round (apply : ℕ → List ℕ → ℕ) (keep : ℕ → ℕ) (K : Readings) (e : Expr) : List ℕ → ℕ → ℕ → Type 0 where
@@ -70,7 +71,7 @@ pub data Round (apply : ℕ → List ℕ → ℕ) (keep : ℕ → ℕ) (K : Read
 
 -- function f by its body, with what K says of its callees
 abbrev pub Rounds : (units : Arithmetic) (body : ℕ → Expr) → Readings → Readings
-Rounds units body K f vs v k = Round (units .operate f) (units .keep f) K (body f) vs v k
+Rounds units body K f vs v k = Round (units .result f) (units .keep f) K (body f) vs v k
 
 module _ (units : Arithmetic) (body : ℕ → Expr) where
   -- the readings of the functions 1 to t, each by its body and those of its callees, which are lower
@@ -82,6 +83,6 @@ module _ (units : Arithmetic) (body : ℕ → Expr) where
 abbrev pub readingsOf : (t : List ℕ) → Readings
 readingsOf t = readings (arithmetic t) (bodyOf t) (functions t)
 
--- main, read with the arguments of a start and without the circuit, ends with value v, counting k
+-- main, read with the arguments of a start, as they were given, and without the circuit, ends with value v, counting k
 abbrev pub ReadsTo : (t args : List ℕ) → (v k : ℕ) → Type 0
 ReadsTo t args v k = readingsOf t (functions t) args v k

@@ -1,4 +1,5 @@
--- the circuit's step (document 01, "The circuit"): which step a node has, what it changes, and what is answered
+-- the circuit's step (document 01, "The circuit"; what is kept of a value: document 02, Q-2): which step a node has, what it changes, and
+-- what is answered
 use Prim.Native.Nat.{ℕ, zero, suc}
 use mathlib.Core.Bool.{Bool, true, false, _&&_}
 use mathlib.Core.List.{List, [], _∷_}
@@ -6,7 +7,7 @@ use lib.Dec.{eqb, ltb}
 use Rattle.table.specs.Syntax.{Expr, Exprs, const, param, prim, call, self, cond, bind, bound, none, some, id, roots}
 use Rattle.table.specs.Environment.{values}
 use Rattle.table.specs.Pick.{pick}
-use Rattle.rules.specs.Arithmetic.{Arithmetic, handed}
+use Rattle.rules.specs.Arithmetic.{Arithmetic, keepAll}
 use Rattle.rules.specs.State.{State512, View, entry, write, view, fill, clear, opened}
 
 -- what a step answers: taken, taken with main's value, or refused by number and place
@@ -59,20 +60,20 @@ module _ (units : Arithmetic) (body : ℕ → Expr) where
   act h s (param n i) = by-status (s .status n) (does (finishes (s .register h i))) stuck
   act h s (bound n d) = by-status (s .status n) (does (finishes (s .value d))) stuck
   -- any other open node becomes busy and opens what it needs first
-  -- "Busy primitive, children done: done"
+  -- a busy primitive, its children done: done with the operation's result in its function
   act h s (prim n op es) =
       by-status (s .status n) (does (begins (roots es)))
-      (pick (all-done s es) (does (finishes (units .operate h op (values (s .value) es)))) stuck)
-  -- a busy call, its arguments done: it enters, or waits (22, 23) while the callee has an occupant; the callee keeps the arguments
-  -- in second phase, the callee's root done: it leaves with that value, as the caller keeps it
+      (pick (all-done s es) (does (finishes (units .result h op (values (s .value) es)))) stuck)
+  -- a busy call, its arguments done: it enters with them as the callee keeps them, or waits (22, 23) while the callee has an occupant
+  -- in second phase, the callee's root done: it leaves with that value as its own function keeps it
   act h s (call n g es) =
       by-status (s .status n) (does (begins (roots es))) (pick (s .second n)
       (pick (done s (id (body g))) (does (leaves g (units .keep h (s .value (id (body g)))))) stuck)
-      (pick (all-done s es) (pick (eqb (s .occupant g) 0) (does (enters g (handed units g (values (s .value) es)))) blocked) stuck))
-  -- a busy self call, its arguments done: its own function starts again with them, as it keeps them
+      (pick (all-done s es) (pick (eqb (s .occupant g) 0) (does (enters g (keepAll units g (values (s .value) es)))) blocked) stuck))
+  -- a busy self call, its arguments done: its own function starts again with them as it keeps them
   act h s (self n es) =
       by-status (s .status n) (does (begins (roots es)))
-      (pick (all-done s es) (does (restarts h (handed units h (values (s .value) es)))) stuck)
+      (pick (all-done s es) (does (restarts h (keepAll units h (values (s .value) es)))) stuck)
   -- a busy if or let: its condition or definientia done, the branch or body opens; that done, its value goes on
   act h s (cond n a b c) =
       let r : Expr = branch (s .value (id a)) b c in

@@ -1,5 +1,5 @@
--- what is claimed of widths, once for any w: the order of reducing makes no difference to six operations, and no value that the reading
--- meets in a function, or that a started circuit holds for it, is 2^w or more
+-- what is claimed of widths (document 02, Q-2), once for any w: the order of reducing makes no difference to six operations, and no value
+-- that the reading meets in a function, or that a started circuit holds for it, is 2^w or more
 use Prim.Native.Nat.{ℕ, _≤_}
 use mathlib.Core.Path.{_≡_}
 use mathlib.Core.List.{List, map}
@@ -20,16 +20,16 @@ use Rattle.rules.specs.Demand.{Answers}
 use Rattle.rules.specs.Companions.{Words}
 use Rattle.rules.specs.Met.{MetIn, MetBelow}
 
--- operations 0 to 5, add to double: "reduced, are the same whether their operands were reduced first or not"
+-- operations 0 to 5, add to double: reducing the operands before makes no difference to the reduced result
 abbrev pub NarrowFirst : Type 0
 NarrowFirst = (w : ℕ) → w ≤ 32 → (op : ℕ) → op ≤ 5 → (vs : List ℕ) → Words vs
     → narrow w (operate op (map (narrow w) vs)) ≡ narrow w (operate op vs)
 
 -- one function, its constants below 2^w: so is what any reading of its body meets, whatever its callees read to, and its value
 abbrev pub FunctionBelow : Type 1
-FunctionBelow = (width : ℕ → ℕ) (body : ℕ → Expr) (K : Readings) (f : ℕ) → ((m v : ℕ) → Sub (const m v) (body f) → Below (width f) v)
-    → (vs : List ℕ) (v k : ℕ) (r : Rounds (narrowed width) body K f vs v k)
-    → MetIn width (narrowed width) body K (λ g us u j h. Unit {0}) f vs v k r × Below (width f) v
+FunctionBelow = (bitsOf : ℕ → ℕ) (body : ℕ → Expr) (K : Readings) (f : ℕ) → ((m v : ℕ) → Sub (const m v) (body f) → Below (bitsOf f) v)
+    → (vs : List ℕ) (v k : ℕ) (r : Rounds (narrowed bitsOf) body K f vs v k)
+    → MetIn bitsOf (narrowed bitsOf) body K (λ g us u j h. Unit {0}) f vs v k r × Below (bitsOf f) v
 
 -- a table: main's whole reading, its callees' too, each function by its own width; and main's value by main's
 abbrev pub ReadingBelow : Type 0

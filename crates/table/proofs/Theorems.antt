@@ -8,7 +8,7 @@ use Rattle.table.specs.Naming.{owner}
 use Rattle.table.specs.Check.{checkOf, accepted}
 use Rattle.table.specs.Decoded.{cellAt, nodeSlot, functionSlot, nodeField, functionField, decodedInto}
 use Rattle.table.specs.Expressions.{bodyOf, exprAt}
-use Rattle.table.specs.Well.{Laid, Wide}
+use Rattle.table.specs.Well.{Laid, WidthsHold}
 use Rattle.table.proofs.LaidOut as LaidOut
 use Rattle.table.proofs.Widths as Widths
 use Rattle.table.proofs.SurveyLaws.{taken-by, taken-small}
@@ -21,8 +21,8 @@ pub laid : (t : List ℕ) (F N : ℕ) → checkOf t ≡ accepted F N → Laid (f
 laid = LaidOut.laid
 
 -- every function has 1 to 32 bits, which hold its constants
-pub wide : (t : List ℕ) (F N : ℕ) → checkOf t ≡ accepted F N → Wide (functions t) (bodyOf t) (width t)
-wide = Widths.wide
+pub widths-hold : (t : List ℕ) (F N : ℕ) → checkOf t ≡ accepted F N → WidthsHold (functions t) (bodyOf t) (width t)
+widths-hold = Widths.widths-hold
 
 -- what the survey puts into cells is read back, field by field
 pub nodes-decoded : (t cells : List ℕ) (F N : ℕ) → checkOf t ≡ accepted F N → length cells ≡ 3270 → (n k : ℕ) → 1 ≤ n → n ≤ nodes t → k < 8

@@ -9,7 +9,7 @@ use Rattle.table.specs.Bytes.{functions, nodes, params, widthByte, width
 use Rattle.table.specs.Naming.{owner}
 use Rattle.table.specs.Syntax.{const, Sub}
 use Rattle.table.specs.Expressions.{exprAt, bodyOf}
-use Rattle.table.specs.Well.{Below, Wide}
+use Rattle.table.specs.Well.{Below, WidthsHold}
 use Rattle.table.specs.Check.{accepted, checkOf, recordFits, constFits}
 use Rattle.table.specs.Working.{IsNode, IsFunction, Taken}
 use Rattle.table.proofs.FindLaws.{both}
@@ -48,8 +48,8 @@ module _ (t : List ℕ) (ok : Passed t) where
       let p = part-is t ok f i (const m v) s in
       subst (λ g. Below (width t g) v) (p .2) (const-in m v (p .1) (p .0))
 
-pub wide : (t : List ℕ) (F N : ℕ) → checkOf t ≡ accepted F N → Wide (functions t) (bodyOf t) (width t)
-wide t F N e = let ok = passed t F N e .0 in record { bits = width-in t ok; consts = consts-in t ok }
+pub widths-hold : (t : List ℕ) (F N : ℕ) → checkOf t ≡ accepted F N → WidthsHold (functions t) (bodyOf t) (width t)
+widths-hold t F N e = let ok = passed t F N e .0 in record { bits = width-in t ok; consts = consts-in t ok }
 
 -- the same of a function of a table that was taken
 pub width-range : (t : List ℕ) → Taken t → (f : ℕ) → IsFunction t f → Range 32 (width t f)

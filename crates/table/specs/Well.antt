@@ -121,6 +121,6 @@ abbrev pub Below : (w v : ℕ) → Type 0
 Below w v = v < 2 ^ w
 
 -- what the check ensures of the widths: 1 to 32 bits, which hold every constant of the function
-pub record Wide (F : ℕ) (body : ℕ → Expr) (width : ℕ → ℕ) : Type 0 where
+pub record WidthsHold (F : ℕ) (body : ℕ → Expr) (width : ℕ → ℕ) : Type 0 where
   pub bits : (f : ℕ) → Fn F body f → Range 32 (width f)
   pub consts : (f m v : ℕ) → Fn F body f → Sub (const m v) (body f) → Below (width f) v

@@ -168,7 +168,7 @@ fn const_fits(kind: u16, word: u32, width: u16) -> bool
     word < 1u32 << width
 }
 
-// The first number that a node meets.
+// The first number that a node meets, or NONE.
 fn fault_at(table: &[u8], cells: &Cells, n: Node, own: Function, tail: bool) -> u8
     requires { ⌜ Within (now table) (now cells) (n .0) ⌝ }
     requires { ⌜ (own .0 ≡ owner (now table) (n .0)) × (tail ≡ tailOf (now table) (n .0)) ⌝ }

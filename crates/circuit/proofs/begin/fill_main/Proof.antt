@@ -3,16 +3,16 @@ use native.Mathlib.Omega.{arith}
 use borrow.Author.Needs.{needs}
 use mathlib.Core.Path.{refl, sym, ap, _∙_}
 use Prim.Native.Nat.{_-_, _≤_}
-use Rattle.rules.specs.Arithmetic.{handed, arithmetic}
+use Rattle.rules.specs.Arithmetic.{keepAll, arithmetic}
 use Rattle.circuit.proofs.ChainLaws.{ok}
-use Rattle.circuit.proofs.BeginLaws.{handed-at}
+use Rattle.circuit.proofs.BeginLaws.{kept-at}
 use Rattle.circuit.proofs.GiveLaws.{FilledTo, filled-start, filled-next, filled-end}
 use Rattle.circuit.proofs.begin.fill_main.Statement.{statement}
 use Rattle.circuit.proofs.begin.fill_main.Tie as tie
 
 abbrev Inv-loop : tie.InvT-loop
 Inv-loop table cells registers₀ main args f base i₀ registers i =
-    (i ≤ 8) × FilledTo (handed (arithmetic table) (main .0) args) registers₀ registers f i
+    (i ≤ 8) × FilledTo (keepAll (arithmetic table) (main .0) args) registers₀ registers f i
 
 abbrev μ-loop : tie.MeasureT-loop
 μ-loop table cells registers₀ main args f base i₀ registers i = 8 - i
@@ -70,7 +70,7 @@ loop-again c =
       omega arith,
       filled-next _ _ _ _ _ (l .loop .inv .1) (t .loop-test .taken) (s .pre .1 .0) _ _ refl
           (c .keep .ensures ∙ ap (arithmetic (s .args .table .now) .keep (s .args .main .0)) (v .argument .ensures)
-          ∙ sym (handed-at (s .args .table .now) (s .args .main .0) (s .args .args .now) (l .loop .i))),
+          ∙ sym (kept-at (s .args .table .now) (s .args .main .0) (s .args .args .now) (l .loop .i))),
     )
 
 returns : tie.Need-returns Inv-loop μ-loop

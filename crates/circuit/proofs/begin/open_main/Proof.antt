@@ -5,7 +5,7 @@ use lib.ListN.{replicate}
 use Rattle.table.specs.Bytes.{functions, root}
 use Rattle.table.specs.Working.{IsFunction}
 use Rattle.table.proofs.Reading.{told-main, told-root}
-use Rattle.rules.specs.Arithmetic.{handed, arithmetic}
+use Rattle.rules.specs.Arithmetic.{keepAll, arithmetic}
 use Rattle.rules.specs.State.{fill}
 use Rattle.circuit.proofs.ChainLaws.{ok}
 use Rattle.circuit.proofs.BeginLaws.{start-is}
@@ -55,7 +55,7 @@ returns c =
     let m = main-read r in
     let s = begin m in
     start-is _ (s .args .args .now) (s .pre .taken) _ _ _ (top r) (status .set-status .ensures)
-    (c .fill-main .ensures ∙ ap (λ f. fill f (handed (arithmetic (s .args .table .now)) f (s .args .args .now)) (replicate 256 0))
+    (c .fill-main .ensures ∙ ap (λ f. fill f (keepAll (arithmetic (s .args .table .now)) f (s .args .args .now)) (replicate 256 0))
     (main-is m))
 
 pub open-main-spec : {M : Type 1} → statement M

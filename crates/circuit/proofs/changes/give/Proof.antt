@@ -8,7 +8,7 @@ use mathlib.Core.Path.{refl, ap, _∙_}
 use Prim.Native.Nat.{_-_, _≤_}
 use Rattle.table.proofs.Reading.{told}
 use Rattle.table.specs.Naming.{chain}
-use Rattle.rules.specs.Arithmetic.{handed, arithmetic}
+use Rattle.rules.specs.Arithmetic.{keepAll, arithmetic}
 use Rattle.rules.specs.State.{entry}
 use Rattle.circuit.proofs.ChainLaws.{ok}
 use Rattle.circuit.proofs.GiveLaws.{GivenTo, given-start, given-next, given-end}
@@ -18,7 +18,7 @@ use Rattle.circuit.proofs.changes.give.Tie as tie
 abbrev Inv-loop : tie.InvT-loop
 Inv-loop table cells value registers₀ g f base at₀ i₀ registers at i =
     (i ≤ 8) × GivenTo (arithmetic table .keep (g .0)) table value
-    (handed (arithmetic table) (g .0) (map (entry value 0) (chain table (at₀ .0)))) registers₀ registers f i (at .0)
+    (keepAll (arithmetic table) (g .0) (map (entry value 0) (chain table (at₀ .0)))) registers₀ registers f i (at .0)
 
 abbrev μ-loop : tie.MeasureT-loop
 μ-loop table cells value registers₀ g f base at₀ i₀ registers at i = 8 - i

@@ -4,7 +4,7 @@ use mathlib.Core.Path.{_≡_, ap, _∙_}
 use Rattle.table.specs.Bytes.{first}
 use Rattle.table.proofs.Reading.{told}
 use Rattle.rules.specs.Step.{does, restarts}
-use Rattle.circuit.specs.Working.{handedTo}
+use Rattle.circuit.specs.Working.{keptBy}
 use Rattle.circuit.proofs.ChainLaws.{first-in}
 use Rattle.circuit.proofs.PlanLaws.{acts-self, self-yes, self-no}
 use borrow.Author.Needs.{needs}
@@ -38,7 +38,7 @@ returns c =
     let p = start f .pre in
     let own = told _ _ (p .0) _ (p .1) 6 _ (omega arith) (c .owner .ensures) in
     let a₀ = start f .args in
-    λ b v d e. ap (λ g. does (restarts g (handedTo (a₀ .table .now) v g (a₀ .n .0)))) own
+    λ b v d e. ap (λ g. does (restarts g (keptBy (a₀ .table .now) v g (a₀ .n .0)))) own
     ∙ acts-self _ (p .0 .taken) _ (p .1) _ b v d e _ (p .2) (p .3) (p .4)
     (self-yes _ _ _ _ (read f) _ (a .all-done .ensures) v (done .if1 .taken))
 
