@@ -1,5 +1,5 @@
 -- from a start on, a function's values and registers are below 2^w: a move writes nothing else, and a start holds nothing else
-use Prim.Native.Nat.{ℕ, zero, suc, _^_, _≤_}
+use Prim.Native.Nat.{ℕ, zero, suc, _≤_}
 use mathlib.Core.Bool.{Bool, true, false}
 use mathlib.Core.Path.{_≡_, refl, subst, sym, _∙_}
 use mathlib.Core.Logic.{_⊎_, inl, inr, ⊎-elim}
@@ -16,7 +16,7 @@ use Rattle.table.specs.Bytes.{functions, nodes, width}
 use Rattle.table.specs.Naming.{owner}
 use Rattle.table.specs.Check.{accepted, checkOf}
 use Rattle.table.specs.Expressions.{bodyOf, exprAt}
-use Rattle.table.specs.Well.{Defines, Scoped, Scoped*, Fn, Laid, Below, WidthsHold}
+use Rattle.table.specs.Well.{Defines, Scoped, Scoped*, Laid, Below}
 use Rattle.table.proofs.SyntaxLaws.{node-id, sub-node}
 use Rattle.table.proofs.Theorems.{laid, widths-hold}
 use Rattle.list.specs.Tags.{tagged}

@@ -3,7 +3,7 @@ use mathlib.Core.Path.{_≡_, refl}
 use mathlib.Core.List.{List, [], _∷_, _++_}
 use Prim.Native.Nat.{ℕ}
 use Rattle.rules.specs.State.{State512, entry, register, write, fill}
-use Rattle.rules.specs.Step.{taken, answered}
+use Rattle.rules.specs.Step.{taken}
 use Rattle.rules.specs.Circuit.{stepOf}
 use Rattle.rules.specs.Reading.{ReadsTo}
 use Rattle.rules.specs.WidthDesigns.{binary, passing, halving, doubling, counting}

@@ -1,6 +1,6 @@
 -- small designs with widths, as tables, each by the width bytes of its functions (0 means 32 bits)
 use Prim.Native.Nat.{ℕ}
-use mathlib.Core.List.{List, [], _∷_, _++_}
+use mathlib.Core.List.{List, _++_}
 use Rattle.table.specs.Designs.{header, node}
 use Rattle.table.specs.WidthDesigns.{sized}
 
