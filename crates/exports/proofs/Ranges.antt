@@ -24,10 +24,10 @@ use Rattle.exports.specs.Codes.{item, past, itemAfter, itemOf, extentAft
 use Rattle.exports.specs.Numbers.{Refusable, FitsVerdict, FitsItem, FitsExtent}
 
 -- a number of the rules, at a place that is a node's or none
-pub refusable : (k p : ℕ) → 1 ≤ k → k ≤ 24 → p ≤ 512 → Refusable k p
+pub refusable : (k p : ℕ) → 1 ≤ k → k ≤ 255 → p ≤ 512 → Refusable k p
 refusable k p a b c = (a, omega (arith, b), omega (arith, c))
 
-pub stage-fits : (k : ℕ) (b : Bool) (p : ℕ) (rest : Unit {0} → Verdict) → 1 ≤ k → k ≤ 24 → p ≤ 512 → (T b → FitsVerdict (rest tt))
+pub stage-fits : (k : ℕ) (b : Bool) (p : ℕ) (rest : Unit {0} → Verdict) → 1 ≤ k → k ≤ 255 → p ≤ 512 → (T b → FitsVerdict (rest tt))
     → FitsVerdict (stage k b p rest)
 unfolding stage
 stage-fits k false p rest l h q f = refusable k 0 l h (omega arith)
