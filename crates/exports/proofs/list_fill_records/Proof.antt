@@ -97,7 +97,7 @@ module _ {M : Type 1} (𝓤 : URA M) (H : Heap 𝓤) (A : Atoms 𝓤) (W : Given
   abbrev at : List Val × (List Val × Unit {0})
   at = (sv ∷ [], (sliceVal (b, o) len ∷ [], tt))
 
-  abbrev keepAll : Bound 𝓤 H A own.signature × Unit {0}
+  abbrev handed : Bound 𝓤 H A own.signature × Unit {0}
   handed = (((κ₀, (κ, tt)), (q₀, (q, tt)), tt, x, at), tt)
 
   abbrev Post : Val → SProp 𝓤
