@@ -21,7 +21,7 @@ use Rattle.table.specs.Designs.{twice, pair, layered, mult, nested, fir}
 use Rattle.table.proofs.CheckedDesigns.{syntax-open, check-open}
 use Rattle.rules.proofs.Demands.{under-any-tags}
 
--- the state that a start makes, from one in which noCalls is open
+-- the state that a start makes, from one in which nothing is open
 abbrev pub from : (t tags args : List ℕ) → State512
 from t tags args = stateOf (startOf t tags args) zeros
 
@@ -197,7 +197,7 @@ starts-refused : (startOf nested (0 ∷ []) (9 ∷ []) ≡ turned 9 2) × (start
 unfolding circuit-open
 starts-refused = (refl, refl, refl, refl, refl, refl)
 
--- a step under tags that are not taken is refused, and changes noCalls
+-- a step under tags that are not taken is refused, and changes nothing
 steps-refused : playsOf pair (from pair (0 ∷ []) (9 ∷ []))
     (record { tags = []; node = 2 } ∷ record { tags = 0 ∷ []; node = 2 } ∷ record { tags = 0b0000_0010 ∷ []; node = 3 }
     ∷ record { tags = 0b0000_0100 ∷ []; node = 3 } ∷ []) .answers

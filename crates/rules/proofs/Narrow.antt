@@ -4,9 +4,10 @@ use mathlib.Core.Path.{_≡_, subst, sym, ap, _∙_}
 use mathlib.Core.List.{List, map}
 use native.Mathlib.Nat.{mod-le, mod-lt, mod-eq-of-lt, mod-mod, zero-mod, add-mod, add-mul-mod-self-right, div-add-mod'}
 use native.Mathlib.Omega.{arith}
+use native.Mathlib.Decide.{decLe}
 use lib.Bits.{bitAnd, bitOr, bitXor, and-mod, or-mod, xor-mod}
 use lib.ListN.{getD, List·getD-map}
-use lib.Pow.{pow-pos, mod-mod-pow}
+use lib.Pow.{pow-pos, pow-mono, mod-mod-pow}
 use Rattle.rules.specs.Operations.{wrap, operate}
 use Rattle.rules.specs.Arithmetic.{narrow}
 use Rattle.rules.specs.Companions.{Word, Words}
@@ -71,21 +72,29 @@ module _ (w : ℕ) where
   narrow-at : (vs : List ℕ) (i : ℕ) → getD (map (narrow w) vs) i 0 ≡ narrow w (getD vs i 0)
   narrow-at vs i = ap (getD (map (narrow w) vs) i) (sym (narrow-zero w)) ∙ List·getD-map (narrow w) vs i 0
 
-  -- an operation of two operands, and what its value means on the reduced ones
-  operands : (f : ℕ → ℕ → ℕ) (vs : List ℕ) → ((x y : ℕ) → Word y → narrow w (f (narrow w x) (narrow w y)) ≡ narrow w (f x y)) → Words vs
-      → narrow w (f (getD (map (narrow w) vs) 0 0) (getD (map (narrow w) vs) 1 0)) ≡ narrow w (f (getD vs 0 0) (getD vs 1 0))
-  operands f vs law words = (λ i. narrow w (f (narrow-at vs 0 i) (narrow-at vs 1 i))) ∙ law (getD vs 0 0) (getD vs 1 0) (words 1)
+  -- an operation of two operands, on the reduced ones: from 32 bits on these are the operands themselves
+  operands : (f : ℕ → ℕ → ℕ) (vs : List ℕ) → (w ≤ 32 → (x y : ℕ) → Word y → narrow w (f (narrow w x) (narrow w y)) ≡ narrow w (f x y))
+      → Words vs → narrow w (f (getD (map (narrow w) vs) 0 0) (getD (map (narrow w) vs) 1 0)) ≡ narrow w (f (getD vs 0 0) (getD vs 1 0))
+  operands f vs law words = (λ i. narrow w (f (narrow-at vs 0 i) (narrow-at vs 1 i))) ∙ go (decLe w 32)
+    where
+      whole : (w ≤ 32 → ⊥) → (i : ℕ) → narrow w (getD vs i 0) ≡ getD vs i 0
+      whole n i =
+          let m : 2 ^ 32 ≤ 2 ^ w = pow-mono {i = 32} (omega (arith, n)) in
+          narrow-same w (getD vs i 0) (omega (arith, words i, m))
 
-  pub narrow-first : w ≤ 32 → (op : ℕ) → op ≤ 5 → (vs : List ℕ) → Words vs
-      → narrow w (operate op (map (narrow w) vs)) ≡ narrow w (operate op vs)
+      go : Dec (w ≤ 32) → narrow w (f (narrow w (getD vs 0 0)) (narrow w (getD vs 1 0))) ≡ narrow w (f (getD vs 0 0) (getD vs 1 0))
+      go (yes h) = law h (getD vs 0 0) (getD vs 1 0) (words 1)
+      go (no n) = (λ i. narrow w (f (whole n 0 i) (whole n 1 i)))
+
+  pub narrow-first : (op : ℕ) → op ≤ 5 → (vs : List ℕ) → Words vs → narrow w (operate op (map (narrow w) vs)) ≡ narrow w (operate op vs)
   unfolding operate
-  narrow-first h zero l vs words = operands (λ x y. wrap (x + y)) vs
-      (λ x y q. wrapped h (narrow w x + narrow w y) ∙ first-add x y ∙ sym (wrapped h (x + y))) words
-  narrow-first h (suc zero) l vs words = operands (λ x y. wrap (x + 2 ^ 32 - y)) vs
-      (λ x y q. wrapped h (narrow w x + 2 ^ 32 - narrow w y) ∙ first-subtract x y q ∙ sym (wrapped h (x + 2 ^ 32 - y))) words
-  narrow-first h (suc (suc zero)) l vs words = operands bitAnd vs (λ x y q. first-bits bitAnd and-mod x y) words
-  narrow-first h (suc (suc (suc zero))) l vs words = operands bitOr vs (λ x y q. first-bits bitOr or-mod x y) words
-  narrow-first h (suc (suc (suc (suc zero)))) l vs words = operands bitXor vs (λ x y q. first-bits bitXor xor-mod x y) words
-  narrow-first h (suc (suc (suc (suc (suc zero))))) l vs words = operands (λ x y. wrap (2 * x)) vs
-      (λ x y q. wrapped h (2 * narrow w x) ∙ first-double x ∙ sym (wrapped h (2 * x))) words
-  narrow-first h (suc (suc (suc (suc (suc (suc op)))))) l vs words = absurd (omega (arith, l))
+  narrow-first zero l vs words = operands (λ x y. wrap (x + y)) vs
+      (λ h x y q. wrapped h (narrow w x + narrow w y) ∙ first-add x y ∙ sym (wrapped h (x + y))) words
+  narrow-first (suc zero) l vs words = operands (λ x y. wrap (x + 2 ^ 32 - y)) vs
+      (λ h x y q. wrapped h (narrow w x + 2 ^ 32 - narrow w y) ∙ first-subtract x y q ∙ sym (wrapped h (x + 2 ^ 32 - y))) words
+  narrow-first (suc (suc zero)) l vs words = operands bitAnd vs (λ h x y q. first-bits bitAnd and-mod x y) words
+  narrow-first (suc (suc (suc zero))) l vs words = operands bitOr vs (λ h x y q. first-bits bitOr or-mod x y) words
+  narrow-first (suc (suc (suc (suc zero)))) l vs words = operands bitXor vs (λ h x y q. first-bits bitXor xor-mod x y) words
+  narrow-first (suc (suc (suc (suc (suc zero))))) l vs words = operands (λ x y. wrap (2 * x)) vs
+      (λ h x y q. wrapped h (2 * narrow w x) ∙ first-double x ∙ sym (wrapped h (2 * x))) words
+  narrow-first (suc (suc (suc (suc (suc (suc op)))))) l vs words = absurd (omega (arith, l))

@@ -22,7 +22,7 @@ use Rattle.rules.specs.Met.{MetIn, MetBelow}
 
 -- operations 0 to 5, add to double: reducing the operands before makes no difference to the reduced result
 abbrev pub NarrowFirst : Type 0
-NarrowFirst = (w : ℕ) → w ≤ 32 → (op : ℕ) → op ≤ 5 → (vs : List ℕ) → Words vs
+NarrowFirst = (w op : ℕ) → op ≤ 5 → (vs : List ℕ) → Words vs
     → narrow w (operate op (map (narrow w) vs)) ≡ narrow w (operate op vs)
 
 -- one function, its constants below 2^w: so is what any reading of its body meets, whatever its callees read to, and its value
