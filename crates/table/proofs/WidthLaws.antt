@@ -1,17 +1,14 @@
 -- widths as numbers: what a width byte gives, and what so many bits hold
 use Prim.Native.Nat.{ℕ, _+_, _-_, _*_, _/_, _%_, _^_, _≤_, _<_}
-use mathlib.Core.Bool.{Bool}
-use mathlib.Core.Path.{_≡_, subst, ap, _∙_}
+use mathlib.Core.Path.{_≡_, sym, ap, _∙_}
 use native.Mathlib.Omega.{arith}
 use native.Mathlib.Decide.{ℕ-discrete}
 use native.Mathlib.Nat.{one-mul, mod-eq-of-lt}
-use lib.Dec.{eqb, leb, eqb→eq}
-use lib.Pow.{pow-lt, pow-mono}
+use lib.Dec.{leb}
+use lib.Pow.{pow-pos, pow-lt, pow-mono, high, ones-lt, ones-split}
 use borrow.Author.Tests.{ne-eqb}
 use Rattle.table.specs.Pick.{Range}
 use Rattle.table.specs.Bytes.{bits}
-use Rattle.table.specs.Find.{all}
-use Rattle.table.proofs.FindLaws.{all-passes}
 
 -- 0 is 32, anything else is itself
 pub bits-none : (b : ℕ) → b ≡ 0 → bits b ≡ 32
@@ -46,13 +43,17 @@ one-shifted w h = ap (λ (x : ℕ). x % 2 ^ 32) (one-mul (2 ^ w)) ∙ mod-eq-of-
 pub any-word : (w x : ℕ) → 32 ≤ w → x < 2 ^ 32 → x < 2 ^ w
 any-word w x h l = let m = pow-mono h in omega (arith, l, m)
 
--- the highest number of so many bits, as a shift of all ones; 33 bytes, tried one by one
-top-shifted : ℕ → Bool
-top-shifted b = eqb (4294967295 / 2 ^ ((32 - (b - 1)) % 32) + 1) (2 ^ bits (b - 1))
-
+-- the highest number of so many bits, as a shift of all ones
 pub highest-told : (b : ℕ) → b ≤ 32 → 4294967295 / 2 ^ ((32 - b) % 32) + 1 ≡ 2 ^ bits b
-unfolding top-shifted all bits
-highest-told b l =
-    let back : b + 1 - 1 ≡ b = omega arith in
-    subst (λ b. 4294967295 / 2 ^ ((32 - b) % 32) + 1 ≡ 2 ^ bits b) back
-    (eqb→eq _ _ (all-passes top-shifted 33 tt (b + 1) (omega arith) (omega arith)))
+highest-told b l = go (ℕ-discrete b 0)
+  where
+    go : Dec (b ≡ 0) → 4294967295 / 2 ^ ((32 - b) % 32) + 1 ≡ 2 ^ bits b
+    go (yes z) = rw (bits-none b z, z)
+    go (no z) =
+        let k = 32 - b in
+        let shift : (32 - b) % 32 ≡ k = omega (arith, z, l) in
+        let whole : b + k ≡ 32 = omega (arith, l) in
+        let ones : 4294967295 ≡ 2 ^ (b + k) - 1 = ap (λ j. 2 ^ j - 1) (sym whole) in
+        let back : 2 ^ b - 1 + 1 ≡ 2 ^ b = omega (arith, pow-pos b) in
+        ap (λ j. 4294967295 / 2 ^ j + 1) shift ∙ ap (λ x. x / 2 ^ k + 1) (ones ∙ ones-split b k)
+        ∙ ap (λ x. x + 1) (high (2 ^ b - 1) k (ones-lt k)) ∙ back ∙ ap (λ j. 2 ^ j) (sym (bits-some b z))

@@ -6,12 +6,11 @@ use borrow.Author.Tests.{not-true, not-false}
 use Rattle.table.specs.Bytes.{first, root}
 use Rattle.table.proofs.Reading.{told, told-root}
 use Prim.Native.Nat.{_≤_}
-use Rattle.table.specs.Naming.{owner}
 use Rattle.table.specs.Working.{IsFunction}
-use Rattle.table.proofs.Family.{owner-in}
 use Rattle.circuit.proofs.ActBy.{callee-in}
 use Rattle.circuit.proofs.ChainLaws.{ok, first-in}
 use Rattle.circuit.proofs.PlanLaws.{acts-call, leave-yes, leave-no, enter-not, enter-held, enter-yes}
+use Rattle.circuit.proofs.WidthLaws.{own-read}
 use borrow.Author.Needs.{needs}
 use Rattle.circuit.proofs.plan.across.Statement.{statement}
 use Rattle.circuit.proofs.plan.across.Tie as tie
@@ -76,18 +75,11 @@ value-at-requires c κs = root-in (search)
 owner-requires : tie.Need-owner-requires
 owner-requires c κs = search needs
 
--- the caller's function
-abbrev caller : tie.After-owner → tie.Start
-caller c = search
-
-own : (c : tie.After-owner) → c .owner .result .0 ≡ owner (caller c .args .table .now) (caller c .args .n .0)
-own c = told _ _ (caller c .pre .0) _ (caller c .pre .1) 6 _ (omega arith) (c .owner .ensures)
-
 keep-requires : tie.Need-keep-requires
 keep-requires c κs =
     let o : tie.After-owner = search in
-    let p = caller o .pre in
-    (p .0, subst (IsFunction _) (sym (own o)) (owner-in _ (ok _ (p .0 .taken) .linking) _ (p .1)))
+    let s : tie.Start = search in
+    (s .pre .0, own-read _ _ (s .pre .0) _ (s .pre .1) _ (o .owner .ensures) .1)
 
 returns-2 : tie.Need-returns-2
 returns-2 c =
@@ -100,7 +92,8 @@ returns-2 c =
     let second : tie.After-second-at = search in
     let p = begin second .pre in
     λ d. acts-call _ (p .0 .taken) _ (p .1) _ _ _ d _ _ (p .2) (p .3) (p .5) (leave-yes _ _ _ _ _ _ _ (p .4) _ (second .second-at .ensures)
-    (then .if1 .taken) _ (roots r) _ (at .status-at .ensures) (done .if2 .left) _ _ _ (v .value-at .ensures) (own o)
+    (then .if1 .taken) _ (roots r) _ (at .status-at .ensures) (done .if2 .left) _ _ _ (v .value-at .ensures)
+    (own-read _ _ (p .0) _ (p .1) _ (o .owner .ensures) .0)
     (c .keep .ensures))
 
 first-requires : tie.Need-first-requires

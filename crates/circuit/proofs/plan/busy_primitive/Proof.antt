@@ -1,14 +1,12 @@
 -- `plan::busy_primitive` meets its contract: a primitive waits for its children.
 use native.Mathlib.Omega.{arith}
-use mathlib.Core.Path.{_≡_, subst, sym}
+use mathlib.Core.Path.{_≡_}
 use borrow.Author.Tests.{not-true, not-false}
 use Rattle.table.specs.Bytes.{first}
-use Rattle.table.specs.Naming.{owner}
-use Rattle.table.specs.Working.{IsFunction}
-use Rattle.table.proofs.Family.{owner-in}
 use Rattle.table.proofs.Reading.{told}
-use Rattle.circuit.proofs.ChainLaws.{ok, first-in}
+use Rattle.circuit.proofs.ChainLaws.{first-in}
 use Rattle.circuit.proofs.PlanLaws.{acts-prim, prim-yes, prim-no}
+use Rattle.circuit.proofs.WidthLaws.{own-read}
 use borrow.Author.Needs.{needs}
 use Rattle.circuit.proofs.plan.busy_primitive.Statement.{statement}
 use Rattle.circuit.proofs.plan.busy_primitive.Tie as tie
@@ -49,18 +47,11 @@ operation-requires c κs =
 owner-requires : tie.Need-owner-requires
 owner-requires c κs = search needs
 
--- its function
-abbrev begin : tie.After-owner → tie.Start
-begin c = search
-
-own : (c : tie.After-owner) → c .owner .result .0 ≡ owner (begin c .args .table .now) (begin c .args .n .0)
-own c = told _ _ (begin c .pre .0) _ (begin c .pre .1) 6 _ (omega arith) (c .owner .ensures)
-
 keep-requires : tie.Need-keep-requires
 keep-requires c κs =
     let o : tie.After-owner = search in
-    let p = begin o .pre in
-    (p .0, subst (IsFunction _) (sym (own o)) (owner-in _ (ok _ (p .0 .taken) .linking) _ (p .1)))
+    let s : tie.Start = search in
+    (s .pre .0, own-read _ _ (s .pre .0) _ (s .pre .1) _ (o .owner .ensures) .1)
 
 returns-2 : tie.Need-returns-2
 returns-2 c =
@@ -72,7 +63,8 @@ returns-2 c =
     let f : tie.After-first = search in
     let p = start f .pre in
     λ b d e. acts-prim _ (p .0 .taken) _ (p .1) _ b _ d e _ (p .2) (p .3) (prim-yes _ _ _ _ (read f) _ (a .all-done .ensures) _ _ _ _ _
-    (not-false _ (ready .if1 .left)) (told _ _ (p .0) _ (p .1) 1 _ (omega arith) (op .extra .ensures)) (v .operation .ensures) (own o)
+    (not-false _ (ready .if1 .left)) (told _ _ (p .0) _ (p .1) 1 _ (omega arith) (op .extra .ensures)) (v .operation .ensures)
+    (own-read _ _ (p .0) _ (p .1) _ (o .owner .ensures) .0)
     (c .keep .ensures))
 
 pub busy-primitive-spec : {M : Type 1} → statement M
