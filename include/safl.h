@@ -106,7 +106,7 @@ struct safl_state {
 /* The five arrays of a struct safl_state, as the functions below take them. */
 #define SAFL_LENT(state) (state)->status, (state)->second, (state)->value, (state)->registers, (state)->occupant
 
-/* Starts main with these arguments. SAFL_PLAIN: started; SAFL_REFUSED, the state as it was. */
+/* Starts main with these arguments, each reduced to main's width. SAFL_PLAIN: started; SAFL_REFUSED, the state as it was. */
 uint64_t circuit_start(const uint8_t *table, size_t table_len, const uint8_t *tags, size_t tags_len, uint8_t status[SAFL_NODES],
                        bool second[SAFL_NODES], uint32_t value[SAFL_NODES], uint32_t registers[SAFL_REGISTERS],
                        uint16_t occupant[SAFL_FUNCTIONS], const uint32_t *args, size_t args_len);

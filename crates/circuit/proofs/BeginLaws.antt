@@ -3,7 +3,7 @@ use Prim.Native.Nat.{ℕ}
 use mathlib.Core.Bool.{false}
 use mathlib.Core.Path.{_≡_, refl, sym, ap, _∙_}
 use mathlib.Core.List.{List}
-use lib.ListN.{length, getD, replicate, List·getD-map}
+use lib.ListN.{length, getD, replicate}
 use borrow.Author.Tests.{eq-eqb, ne-eqb}
 use Rattle.table.specs.Syntax.{id}
 use Rattle.table.specs.Bytes.{functions, width, root, params}
@@ -13,7 +13,7 @@ use Rattle.list.specs.Tags.{after, checkWith}
 use Rattle.rules.specs.State.{write, fill, blank, circuitStart}
 use Rattle.rules.specs.Arithmetic.{keepAll, arithmetic}
 use Rattle.rules.specs.Circuit.{started, opening, turned, startOf, checkStart, startAfter}
-use Rattle.rules.proofs.Narrow.{narrow-zero}
+use Rattle.rules.proofs.Narrow.{narrow-at}
 use Rattle.circuit.specs.Meaning.{stateAs}
 use Rattle.table.specs.Working.{Taken}
 use Rattle.circuit.specs.Working.{Agreed}
@@ -22,7 +22,7 @@ use Rattle.table.specs.Check as TableCheck
 
 -- an argument, as a function keeps it; past the last it is 0
 pub kept-at : (t : List ℕ) (f : ℕ) (vs : List ℕ) (i : ℕ) → getD (keepAll (arithmetic t) f vs) i 0 ≡ arithmetic t .keep f (getD vs i 0)
-kept-at t f vs i = ap (getD (keepAll (arithmetic t) f vs) i) (sym (narrow-zero (width t f))) ∙ List·getD-map (arithmetic t .keep f) vs i 0
+kept-at t f vs i = narrow-at (width t f) vs i
 
 pub start-is : (t args : List ℕ) → Taken t → (a d : List ℕ) (r : ℕ) → r ≡ root t (functions t) → a ≡ write (replicate 512 0) r 1
     → d ≡ fill (functions t) (keepAll (arithmetic t) (functions t) args) (replicate 256 0)

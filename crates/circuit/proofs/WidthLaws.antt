@@ -11,7 +11,7 @@ use Rattle.table.specs.Working.{IsNode, IsFunction, Read}
 use Rattle.table.proofs.Family.{owner-in}
 use Rattle.table.proofs.Reading.{told, told-width}
 use Rattle.table.proofs.Widths.{width-range}
-use Rattle.list.proofs.BitLaws.{bit-is}
+use Rattle.table.proofs.WidthLaws.{one-shifted}
 use Rattle.rules.specs.Arithmetic.{narrow}
 use Rattle.circuit.proofs.ChainLaws.{ok}
 
@@ -24,7 +24,7 @@ module _ (t cells : List ℕ) (rd : Read t cells) (f : ℕ) (i : IsFunction t f)
 
   -- 2^w, as the shift gives it
   over-is : 1 * 2 ^ w % 2 ^ 64 ≡ 2 ^ w
-  over-is = bit-is w 64 (omega (arith, few))
+  over-is = one-shifted w 64 (omega (arith, few))
 
   pub over-some : 0 < 1 * 2 ^ w % 2 ^ 64
   over-some = subst (λ x. 0 < x) (sym over-is) (pow-pos w)

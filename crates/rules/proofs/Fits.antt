@@ -67,9 +67,9 @@ operate-word op vs h =
     (last-word vs h))))))))))
 
 -- of words the primitives of every function make words, and it keeps words
-pub record WordUnits (units : Arithmetic) : Type 0 where
-  pub operated : (f op : ℕ) (vs : List ℕ) → Words vs → Word (units .result f op vs)
-  pub kept : (f v : ℕ) → Word v → Word (units .keep f v)
+record WordUnits (units : Arithmetic) : Type 0 where
+  operated : (f op : ℕ) (vs : List ℕ) → Words vs → Word (units .result f op vs)
+  kept : (f v : ℕ) → Word v → Word (units .keep f v)
 
 -- the arithmetic of a table does: what is reduced is no greater
 table-words : (t : List ℕ) → WordUnits (arithmetic t)

@@ -12,7 +12,7 @@ pub mod RunFacts
 pub mod TakenSteps
 pub mod Fits
 pub mod EveryState
--- widths: reduced operands, and the values that a reading meets
+-- widths: reduced operands, the values that a reading meets, and those that a circuit holds
 pub mod Narrow
 pub mod MetFacts
 pub mod MetBelow

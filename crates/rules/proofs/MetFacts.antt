@@ -1,4 +1,4 @@
--- what a reading meets, where primitives, arguments and answers pass: every value of the function does
+-- if all that primitives, kept arguments and kept answers bring passes P, so does every value that a reading meets
 use Prim.Native.Nat.{ℕ, zero, suc}
 use mathlib.Core.Bool.{Bool, true, false}
 use mathlib.Core.Path.{_≡_, refl, subst, sym}

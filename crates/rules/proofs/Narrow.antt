@@ -20,12 +20,12 @@ pub narrow-less : (w v : ℕ) → narrow w v ≤ v
 unfolding narrow
 narrow-less w v = mod-le v (2 ^ w)
 
-pub narrow-zero : (w : ℕ) → narrow w 0 ≡ 0
+narrow-zero : (w : ℕ) → narrow w 0 ≡ 0
 unfolding narrow
 narrow-zero w = zero-mod (2 ^ w)
 
 -- what is below is kept whole
-pub narrow-same : (w v : ℕ) → v < 2 ^ w → narrow w v ≡ v
+narrow-same : (w v : ℕ) → v < 2 ^ w → narrow w v ≡ v
 unfolding narrow
 narrow-same w v h = mod-eq-of-lt h
 
@@ -69,7 +69,7 @@ module _ (w : ℕ) where
     first-bits x y =
         law (x % 2 ^ w) (y % 2 ^ w) w ∙ (λ i. op (mod-mod x (2 ^ w) i) (mod-mod y (2 ^ w) i)) ∙ sym (law x y w)
 
-  narrow-at : (vs : List ℕ) (i : ℕ) → getD (map (narrow w) vs) i 0 ≡ narrow w (getD vs i 0)
+  pub narrow-at : (vs : List ℕ) (i : ℕ) → getD (map (narrow w) vs) i 0 ≡ narrow w (getD vs i 0)
   narrow-at vs i = ap (getD (map (narrow w) vs) i) (sym (narrow-zero w)) ∙ List·getD-map (narrow w) vs i 0
 
   -- an operation of two operands, on the reduced ones: from 32 bits on these are the operands themselves

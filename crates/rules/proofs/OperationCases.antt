@@ -1,4 +1,4 @@
--- the eleven operations on closed values, each with what tells it from its neighbours: order of operands, wrapping, rounding
+-- the eleven operations on closed values, each with what tells it from its neighbours: order of operands, wrapping, rounding; and reduced
 use mathlib.Core.Path.{_≡_, refl}
 use mathlib.Core.List.{[], _∷_}
 use Rattle.rules.specs.Operations.{lastValue, wrap, operate}

@@ -1,7 +1,7 @@
 -- from a start on, a function's values and registers are below 2^w: a move writes nothing else, and a start holds nothing else
 use Prim.Native.Nat.{ℕ, zero, suc, _≤_}
 use mathlib.Core.Bool.{Bool, true, false}
-use mathlib.Core.Path.{_≡_, refl, subst, sym, _∙_}
+use mathlib.Core.Path.{_≡_, refl, subst, sym}
 use mathlib.Core.Logic.{_⊎_, inl, inr, ⊎-elim}
 use mathlib.Core.List.{List, [], _∷_}
 use native.Mathlib.Omega.{arith}
@@ -144,7 +144,18 @@ module _ (t : List ℕ) where
         (λ e. by-pick P (all-done (view s) ds) _ _ (λ e. tt) (λ e. tt)))
         tt
 
-  -- the state after it
+  -- registers after a function is started with arguments that fit
+  filled : (l : List ℕ) → length l ≡ 256 → functions t ≤ 32 → ((f i : ℕ) → Range (functions t) f → Below (width t f) (register l f i))
+      → (g : ℕ) (vs : List ℕ) → 1 ≤ g → g ≤ functions t → length vs ≤ 8 → ((i : ℕ) → Below (width t g) (getD vs i 0))
+      → (f i : ℕ) → Range (functions t) f → Below (width t f) (register (fill g vs l) f i)
+  filled l size few old g vs a b short x f i q = go (ℕ-discrete f g)
+    where
+      go : Dec (f ≡ g) → Below (width t f) (register (fill g vs l) f i)
+      go (yes e) = subst (λ k. Below (width t k) (register (fill g vs l) k i)) (sym e)
+          (subst (Below (width t g)) (sym (fill-mine g vs l i a (omega (arith, b, few)) size short)) (x i))
+      go (no e) = subst (Below (width t f)) (sym (fill-other g vs l f i e)) (old f i q)
+
+  -- the state after a move
   module _ (s : State512) (sized : Sized s) (fits : FitsWidths t s) (few : nodes t ≤ 512) (functions-few : functions t ≤ 32)
       (n : ℕ) (r : Range (nodes t) n) where
     written : (v : ℕ) → Below (width t (owner t n)) v → (m : ℕ) → Range (nodes t) m
@@ -168,24 +179,18 @@ module _ (t : List ℕ) where
         go false e = subst (Below (width t (owner t m))) (sym (clear-other (mine (nodes t) (owner t) g) 0 (s .value) m (λ q. e)))
             (fits .value m i)
 
-    filled : (g : ℕ) (vs : List ℕ) → 1 ≤ g → g ≤ functions t → length vs ≤ 8 → ((i : ℕ) → Below (width t g) (getD vs i 0))
+    started-with : (g : ℕ) (vs : List ℕ) → 1 ≤ g → g ≤ functions t → length vs ≤ 8 → ((i : ℕ) → Below (width t g) (getD vs i 0))
         → (f i : ℕ) → Range (functions t) f → Below (width t f) (register (fill g vs (s .registers)) f i)
-    filled g vs a b l x f i q = go (ℕ-discrete f g)
-      where
-        go : Dec (f ≡ g) → Below (width t f) (register (fill g vs (s .registers)) f i)
-        go (yes e) = subst (λ k. Below (width t k) (register (fill g vs (s .registers)) k i)) (sym e)
-            (subst (Below (width t g)) (sym (fill-mine g vs (s .registers) i a (omega (arith, b, functions-few)) (sized .registered) l))
-            (x i))
-        go (no e) = subst (Below (width t f)) (sym (fill-other g vs (s .registers) f i e)) (fits .registers f i q)
+    started-with = filled (s .registers) (sized .registered) functions-few (fits .registers)
 
     perform-below : (m : Move) → Fair (functions t) (nodes t) (owner t) (bodyOf t) n m → MoveBelow (owner t n) m
         → FitsWidths t (perform (nodes t) (owner t) (bodyOf t) s n m)
     perform-below (begins ns) f x = record { value = fits .value; registers = fits .registers }
     perform-below (turns k) f x = record { value = fits .value; registers = fits .registers }
     perform-below (finishes v) f x = record { value = written v x; registers = fits .registers }
-    perform-below (enters g vs) f x = record { value = cleared g; registers = filled g vs (f .0) (f .1) (f .2) x }
+    perform-below (enters g vs) f x = record { value = cleared g; registers = started-with g vs (f .0) (f .1) (f .2) x }
     perform-below (leaves g v) f x = record { value = written v x; registers = fits .registers }
-    perform-below (restarts g vs) f x = record { value = cleared g; registers = filled g vs (f .0) (f .1) (f .2) x }
+    perform-below (restarts g vs) f x = record { value = cleared g; registers = started-with g vs (f .0) (f .1) (f .2) x }
 
 pub step-narrow : StepNarrow
 step-narrow t tags s sized fits n = by-check t tags (λ f. FitsWidths t (f s n .state)) (λ k p. fits)
@@ -210,27 +215,19 @@ plays-below t s sized fits (a ∷ rest) = plays-below t (stepOf t (a .tags) s (a
 -- zeros, and main's registers
 start-below : (t args : List ℕ) (F N : ℕ) → checkOf t ≡ accepted F N → length args ≤ 8 → FitsWidths t (opening t args)
 unfolding circuitStart
-start-below t args F N check few = record {
+start-below t args F N check short = record {
   value = λ n i. none (width t (owner t n)) (entry-blank 512 0 n);
-  registers = λ f i r. go f i
-      (ℕ-discrete f (functions t));
+  registers = filled t (blank 256 0) (length-blank 256 0) (lay .functions) (λ f i r. none (width t f) (register-blank 256 f i))
+      (functions t)
+      (keepAll (arithmetic t) (functions t) args) (lay .some-function) (omega arith)
+      (omega (arith, short, length-map args (arithmetic t .keep (functions t)))) (kept-below t (functions t) args);
 }
   where
     none : (w : ℕ) {v : ℕ} → v ≡ 0 → Below w v
     none w e = subst (Below w) (sym e) (pow-pos w)
 
-    kept : List ℕ
-    kept = keepAll (arithmetic t) (functions t) args
-
     lay : Laid (functions t) (nodes t) (bodyOf t) (exprAt t) (owner t)
     lay = laid t F N check
-
-    go : (f i : ℕ) → Dec (f ≡ functions t) → Below (width t f) (register (fill (functions t) kept (blank 256 0)) f i)
-    go f i (yes e) = subst (λ k. Below (width t k) (register (fill (functions t) kept (blank 256 0)) k i)) (sym e)
-        (subst (Below (width t (functions t)))
-        (sym (fill-mine (functions t) kept (blank 256 0) i (lay .some-function) (lay .functions) (length-blank 256 0)
-        (omega (arith, few, length-map args (arithmetic t .keep (functions t)))))) (kept-below t (functions t) args i))
-    go f i (no e) = none (width t f) (fill-other (functions t) kept (blank 256 0) f i e ∙ register-blank 256 f i)
 
 pub states-below : StatesBelow
 unfolding playsOf

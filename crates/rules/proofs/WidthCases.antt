@@ -112,7 +112,7 @@ again-kept : (stepOf (counting 4) (0 ∷ []) waiting 3 .answer ≡ taken)
 unfolding circuit-open
 again-kept = (refl, refl)
 
--- .. and a register that holds 25 passes through a parameter as it is, also to the answer
+-- .. and a register that holds 25 passes through a parameter as it is
 abbrev wide-register : State512
 wide-register =
     let s : State512 = from (counting 4) (0 ∷ []) (14 ∷ []) in

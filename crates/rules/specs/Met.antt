@@ -10,8 +10,7 @@ use Rattle.table.specs.Pick.{mixed}
 use Rattle.table.specs.Well.{Below}
 use Rattle.rules.specs.Arithmetic.{Arithmetic}
 use Rattle.rules.specs.Reading.{Outcome, val, again, Chosen, Readings, Reads, Reads*, keptAnswers, BodyReads, Round, stops, goes}
-use Rattle.rules.specs.Reading.{Rounds}
-use Rattle.rules.specs.Reading.{readings}
+use Rattle.rules.specs.Reading.{Rounds, readings}
 
 -- what is said of the branch that was taken
 abbrev pub of-chosen {ℓ} : (X Y : Type 0) (v : ℕ) → (X → Type ℓ) → (Y → Type ℓ) → Chosen X Y v → Type ℓ

@@ -35,9 +35,9 @@ bits-few b = go (ℕ-discrete b 0)
     go (yes z) = rw (bits-none b z, z)
     go (no z) = rw (bits-some b z)
 
--- `1 << w` in 32 bits
-pub one-shifted : (w : ℕ) → w < 32 → 1 * 2 ^ w % 2 ^ 32 ≡ 2 ^ w
-one-shifted w h = ap (λ (x : ℕ). x % 2 ^ 32) (one-mul (2 ^ w)) ∙ mod-eq-of-lt (pow-lt h)
+-- `1 << w` in more bits than w
+pub one-shifted : (w k : ℕ) → w < k → 1 * 2 ^ w % 2 ^ k ≡ 2 ^ w
+one-shifted w k h = ap (λ (x : ℕ). x % 2 ^ k) (one-mul (2 ^ w)) ∙ mod-eq-of-lt (pow-lt h)
 
 -- from 32 bits on, every word fits
 pub any-word : (w x : ℕ) → 32 ≤ w → x < 2 ^ 32 → x < 2 ^ w

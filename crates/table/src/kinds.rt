@@ -66,7 +66,8 @@ pub struct Rule {
     pub reach: u16,
     pub bound: u16,
     pub primitive: u16,
-    // The word is at most so many times the highest constant of its function, which is 1 or more: 512 lets every node's number pass.
+    // The word is at most so many times its function's highest constant, which is 1 or more; a call's is a callee. 512 lets every node's
+    // number pass.
     pub words: u16,
 }
 

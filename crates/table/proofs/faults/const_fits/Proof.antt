@@ -23,7 +23,7 @@ returns-3 : tie.Need-returns-3
 returns-3 c =
     let s : tie.Start = search in
     let constant : tie.Else1 = search in
-    simp (eq-eqb _ _ (constant .if1 .left), one-shifted (s .args .width) (c .if2 .left))
+    simp (eq-eqb _ _ (constant .if1 .left), one-shifted (s .args .width) 32 (c .if2 .left))
 
 pub const-fits-spec : {M : Type 1} → statement M
 const-fits-spec = tie.close (tie.spec returns returns-2 shl-result returns-3)
