@@ -61,7 +61,8 @@ fn plan(work: impl Fn()) -> Plan {
     }
 }
 
-/// Nanoseconds for one piece of work. One goes before the clock: else a way pays for what the one before it left behind.
+/// Nanoseconds for one piece of work. One goes before the clock: else a way pays for what the one before it left
+/// behind.
 fn time(work: impl Fn(), repeats: usize) -> f64 {
     work();
     let begin = Instant::now();

@@ -268,7 +268,8 @@ pub fn query(bytes: &[u8], tags: &[u8], state: &State) -> Result<Option<Node>, R
 /// Steps that were taken, and the refusal that ended them.
 pub type Steps = (usize, Option<Refusal>);
 
-/// Asks for the listed steps up to the first refusal; tells the steps taken and that refusal, or why none was asked for.
+/// Asks for the listed steps up to the first refusal; tells the steps taken and that refusal, or why none was asked
+/// for.
 pub fn run_list(bytes: &[u8], tags: &[u8], state: &mut State, nodes: &[u16]) -> Result<Steps, Refusal> {
     let tree = checked(bytes, tags, state)?;
     for (taken, node) in nodes.iter().enumerate() {

@@ -80,8 +80,8 @@ fn links(parts: &Parts) -> u32 {
 /// child to the next.
 #[derive(Clone, Copy)]
 pub(crate) struct Above {
-    /// From the lowest bit: the function (6 bits), which of the siblings are in tail position (3), whether the holder is
-    /// a let (1), and two numbers that grow with each sibling (11 each): the first has its high bit once there are
+    /// From the lowest bit: the function (6 bits), which of the siblings are in tail position (3), whether the holder
+    /// is a let (1), and two numbers that grow with each sibling (11 each): the first has its high bit once there are
     /// enough, the second if there are too many.
     place: u32,
     /// The holder, 0 for a root, and, in the upper half, the innermost let in whose body the node is.
@@ -164,9 +164,9 @@ impl Survey {
         Survey { above: [Above::NONE; MOST_NODES + 1] }
     }
 
-    /// Whether one of the refusals 5 to 9 or 25 applies, or none where 4 does. A name is a root, a first or a next; they come
-    /// before the node that they name, and every node is named once if each is named and the names come to the sum of
-    /// all nodes.
+    /// Whether one of the refusals 5 to 9 or 25 applies, or none where 4 does. A name is a root, a first or a next; they
+    /// come before the node that they name, and every node is named once if each is named and the names come to the sum
+    /// of all nodes.
     fn look(&mut self, parts: &Parts) -> Option<bool> {
         let nodes = parts.nodes();
         let above = self.above.get_mut(..=nodes)?;

@@ -1,6 +1,7 @@
-//! The arbiter list from sets of functions alone, which fit a word: from the leaves up, what each part may call and what
-//! the parts held against each other share; then, from the roots down, which callees have to be listed in each part. A
-//! call is listed if its callee is among those of its own part, or has to be listed wherever its function is called.
+//! The arbiter list from sets of functions alone, which fit a word: from the leaves up, what each part may call and
+//! what the parts held against each other share; then, from the roots down, which callees have to be listed in each
+//! part. A call is listed if its callee is among those of its own part, or has to be listed wherever its function is
+//! called.
 
 use std::hint::select_unpredictable as select;
 

@@ -196,8 +196,8 @@ impl<'a> Runner<'a> {
         }
     }
 
-    /// Takes the step at the node on top of the stack, if it has one. A node that goes on stays where it is, below those
-    /// that it opens; a call that has to wait is put where it will be woken.
+    /// Takes the step at the node on top of the stack, if it has one. A node that goes on stays where it is, below
+    /// those that it opens; a call that has to wait is put where it will be woken.
     #[inline(always)]
     fn take(&mut self, top: &mut usize, at: usize) -> bool {
         let Cell { word, first, operation, owner, .. } = self.net.cells[at];

@@ -23,9 +23,9 @@ pub fn check_packed(table: &[u8]) -> u32 {
     }
 }
 
-/// Whether none of the refusals 4 to 9 and 25 applies; false too where that takes long to tell. A name is a root, a first or
-/// a next. If every node was named before it is looked at and the names come to the sum of all nodes, each is named
-/// once, and by a lower one.
+/// Whether none of the refusals 4 to 9 and 25 applies; false too where that takes long to tell. A name is a root, a
+/// first or a next. If every node was named before it is looked at and the names come to the sum of all nodes, each is
+/// named once, and by a lower one.
 fn is_clean(parts: &Parts) -> bool {
     let nodes = parts.nodes();
     let mut above = [Above::NONE; MOST_NODES + 1];
