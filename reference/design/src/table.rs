@@ -64,6 +64,14 @@ pub fn compute(operation: u8, values: &[u32]) -> u32 {
     }
 }
 
+/// The bits that a width byte stands for; it is known to be no more than 32.
+pub fn bits(byte: u8) -> u8 {
+    match byte {
+        0 => MOST_WIDTH,
+        _ => byte,
+    }
+}
+
 /// A value modulo 2^width.
 pub fn narrow(width: u8, value: u32) -> u32 {
     (u64::from(value) % (1 << width)) as u32
@@ -135,12 +143,9 @@ impl<'a> Table<'a> {
         self.function_field(function, 1, 1) as u8
     }
 
-    /// The bits of a function; its byte is known to be no more than 32.
+    /// The bits of a function, as `bits` tells them.
     pub fn width(&self, function: Function) -> u8 {
-        match self.width_byte(function) {
-            0 => MOST_WIDTH,
-            byte => byte,
-        }
+        bits(self.width_byte(function))
     }
 
     pub fn root(&self, function: Function) -> Node {

@@ -4,7 +4,7 @@ use numbers::{CONSTANT, MOST_WIDTH};
 
 use crate::draft::Draft;
 use crate::random::Random;
-use crate::table::narrow;
+use crate::table::{bits, narrow};
 
 /// The width bytes of a design's functions: none of them set in some designs, all alike in others.
 pub fn widths(random: &mut Random, functions: usize) -> Vec<u8> {
@@ -43,14 +43,6 @@ pub fn give(random: &mut Random, draft: &mut Draft) {
         let largest = largest(draft, draft.functions[index].root);
         let needed = (u32::BITS - largest.leading_zeros()) as u8;
         draft.functions[index].width = if bits(byte) < needed { needed } else { byte };
-    }
-}
-
-fn bits(byte: u8) -> u8 {
-    if byte == 0 {
-        MOST_WIDTH
-    } else {
-        byte
     }
 }
 
