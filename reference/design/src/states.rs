@@ -49,8 +49,8 @@ pub fn damaged_tags(random: &mut Random, tree: &Tree) -> Vec<u8> {
 pub fn any_state(random: &mut Random, tree: &Tree) -> State {
     let mut state = State::zero();
     let node_count = tree.node_count();
-    // Done nodes and busy calls are frequent: else hardly a call comes to enter or to wait. Other nodes that hold some
-    // are busy too: else few of them go on with wide values.
+    // Done nodes and busy calls are frequent: else hardly a call comes to enter or to wait. Other nodes with children
+    // are often busy too: else few of them go on with wide values.
     let done_share = random.within(1, 9);
     let free_share = random.within(0, 3);
     // In half of the states there are values that a narrow function would not come to.

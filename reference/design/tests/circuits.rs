@@ -91,7 +91,7 @@ fn every_schedule_answers_alike() {
 #[test]
 fn any_state_is_settled() {
     let mut random = Random::new(8);
-    let mut seen = [0; 26];
+    let mut seen = [0; 25];
     for _ in 0..300 {
         let bytes = accepted(&mut random);
         let tree = Tree::read(&bytes).expect("an accepted table");
