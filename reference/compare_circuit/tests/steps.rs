@@ -9,14 +9,21 @@ use design::random::Random;
 use design::reading::{read, Reading};
 use design::states::{any_state, arguments, damage_state};
 use design::towers::{any_comb, any_deep, any_tower};
-use design::width_kinds::{is_narrow, WidthKinds, ASTRAY, STARTED};
+use design::width_kinds::{is_narrow, WidthKinds, ASTRAY, LOSSES, STARTED};
 use design::Node;
 
-/// Schedules from a start, and rounds from any state; of each so many in a hundred have a narrow function, which makes
-/// more than 20000 such designs.
-const SCHEDULES: usize = 20_000;
+/// Schedules from a start. So many of them at least step a design with a narrow function, and so many lose bits on the
+/// way.
+const SCHEDULES: usize = 26_000;
+const NARROW_SCHEDULES: usize = 20_000;
+const LOST_SCHEDULES: usize = 4_000;
+
+/// Rounds from any state, and how many of them at least have a design with a narrow function.
 const STANDINGS: usize = 9_000;
-const NARROW_SHARE: usize = 75;
+const NARROW_STANDINGS: usize = 6_750;
+
+/// A schedule with a step in which a result, an argument or an answer was cut.
+const LOST: &str = "a step lost bits";
 
 /// Steps up to which a reading is followed.
 const LIMIT: u64 = 400;
@@ -88,7 +95,8 @@ fn schedule(random: &mut Random, seen: &mut Seen, bytes: Vec<u8>, mut asks: usiz
         answered && schedule.out_of_order && schedule.refused > 4,
     );
     seen.note_if("goes on past the limit", schedule.reading.is_none());
-    seen.note_if(NARROW, is_narrow(&schedule.round.tree));
+    seen.note_if(NARROW, is_narrow(&schedule.round.tree) && schedule.taken > 0);
+    seen.note_if(LOST, schedule.round.widths.any(&LOSSES));
     Ok(schedule.round.widths)
 }
 
@@ -100,21 +108,22 @@ fn schedules_from_a_start() -> Outcome {
         let asks = if bytes.len() > 1000 { 60 } else { random.within(20, 400) };
         widths.add(schedule(&mut random, &mut seen, bytes, asks)?);
     }
-    widths.often(&STARTED, 500)?;
+    widths.often(&STARTED, 1500)?;
     widths.never(&ASTRAY)?;
     let wanted = [
-        (NARROW, SCHEDULES * NARROW_SHARE / 100),
-        ("taken", 300_000),
-        (EMPTY_LIST, SCHEDULES / 10),
+        (NARROW, NARROW_SCHEDULES),
+        (LOST, LOST_SCHEDULES),
+        ("taken", 800_000),
+        (EMPTY_LIST, SCHEDULES / 3),
         (LIST_HELD, SCHEDULES / 5),
         (LIST_MISSED, SCHEDULES / 12),
         ("answered as the reading says", SCHEDULES / 3),
         ("answered so where the tags miss some of the list", SCHEDULES / 50),
         ("answered so out of order, with refused steps", SCHEDULES / 6),
-        ("goes on past the limit", SCHEDULES / 20),
+        ("goes on past the limit", SCHEDULES / 5),
     ];
     seen.often("schedules", &wanted)?;
-    seen.refused_often("schedules", [12, 20, 21, 22, 23], 1000)
+    seen.refused_often("schedules", [12, 20, 21, 22, 23], 5000)
 }
 
 #[test]
@@ -125,7 +134,7 @@ fn towers_and_deep_chains() -> Outcome {
             schedule(&mut random, &mut seen, bytes, 150)?;
         }
     }
-    seen.often("towers", &[("taken", 5000), (LIST_HELD, 40), (LIST_MISSED, 10), (NARROW, 80)])
+    seen.often("towers", &[("taken", 5000), (LIST_HELD, 40), (LIST_MISSED, 10), (NARROW, 80), (LOST, 5)])
 }
 
 /// States that no start leads to: asked at many nodes each, and some steps on from there.
@@ -160,8 +169,7 @@ fn steps_from_any_state() -> Outcome {
         widths.add(round.widths);
     }
     widths.often(&[&STARTED[..], &ASTRAY].concat(), 50)?;
-    let narrow = STANDINGS * NARROW_SHARE / 100;
-    seen.often("any state", &[("taken", 50_000), ("answered", 1000), (NARROW, narrow)])?;
+    seen.often("any state", &[("taken", 50_000), ("answered", 1000), (NARROW, NARROW_STANDINGS)])?;
     seen.refused_often("any state", [12, 20, 21, 22, 23, 24], 1000)
 }
 

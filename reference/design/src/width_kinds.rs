@@ -22,6 +22,10 @@ pub const STARTED: [&str; 9] = [
     "a self call with a result that lost bits",
 ];
 
+/// Those of them in which a value is cut.
+pub const LOSSES: [&str; 3] =
+    ["a result loses bits", "an argument loses bits in a narrower callee", "an answer loses bits in a narrower caller"];
+
 /// What only states come to that no start leads to.
 pub const ASTRAY: [&str; 7] = [
     "an argument of a self call loses bits",
@@ -55,6 +59,11 @@ impl WidthKinds {
 
     fn count(&self, kind: &str) -> usize {
         self.counts.get(kind).copied().unwrap_or(0)
+    }
+
+    /// Whether one of these kinds occurred.
+    pub fn any(&self, kinds: &[&str]) -> bool {
+        kinds.iter().any(|kind| self.count(kind) > 0)
     }
 
     /// Prints all counts; fails if one of these kinds occurred less often than wanted.
