@@ -20,8 +20,8 @@ use running::{binary, folder, printed};
 const PROGRAM: &str = "sheet";
 const LIST_PROGRAM: &str = "arbiters";
 
-/// Tables per seed and seeds: 10400 tables in all, and two processes at a time.
-const TABLES: usize = 5_200;
+/// Tables per seed and seeds: 12000 tables in all, and two processes at a time.
+const TABLES: usize = 6_000;
 const SEEDS: [u64; 2] = [421, 422];
 
 /// Bad tables of each seed that the list program is run on too.
@@ -78,7 +78,7 @@ fn all_kinds_of_tables() -> Outcome {
         seen.refused += other.refused;
     }
     println!("{} refused", seen.refused);
-    seen.kinds.often(30)?;
+    seen.kinds.often(40)?;
     ensure(seen.refused >= 2_000, || format!("{} refused", seen.refused))
 }
 

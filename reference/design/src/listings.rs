@@ -130,12 +130,18 @@ pub fn longest(random: &mut Random, resources: usize) -> Vec<u8> {
     made.main(random, (CALL, 0, resources as u32))
 }
 
-/// Counts for `listing`: each number of calls up to some pages, and two resources that change anywhere on two pages.
+/// Counts for `listing`: each number of calls up to some pages, two resources that change anywhere on two pages, and
+/// ends and changes about the first and the last line of page ten, whose number is the first of two digits.
 pub fn page_ends() -> Vec<Vec<usize>> {
     let mut all = vec![vec![], vec![0]];
     all.extend((2..=3 * CALLS_OF_A_PAGE + 2).map(|count| vec![count]));
     for first in 1..=2 * CALLS_OF_A_PAGE + 1 {
         all.extend([2, 3, 20, 21, 22, 23, 24].map(|second| vec![first, second]));
+    }
+    for full in [9 * CALLS_OF_A_PAGE, 10 * CALLS_OF_A_PAGE] {
+        for first in full - 1..=full + 1 {
+            all.extend([vec![first], vec![first, 2]]);
+        }
     }
     all
 }
