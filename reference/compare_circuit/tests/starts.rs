@@ -9,7 +9,7 @@ use design::difference::{ensure, shown, Outcome};
 use design::generator::accepted;
 use design::list::tag_length;
 use design::random::Random;
-use design::states::{any_state, arguments, damage_state, damaged_tags, tags};
+use design::states::{any_state, damage_state, damaged_tags, tags};
 use design::table::narrow;
 use design::{Function, Node, Refusal, Table, Tree};
 use numbers::MOST_NODES;
@@ -58,11 +58,21 @@ fn some_table(random: &mut Random) -> Vec<u8> {
     }
 }
 
+/// Mostly as many as main has parameters, for a refused table in half of the cases.
 fn some_arguments(random: &mut Random, bytes: &[u8]) -> Vec<u32> {
-    match Tree::read(bytes) {
-        Ok(tree) if !random.once_in(4) => arguments(random, &tree),
-        _ => (0..random.below(11)).map(|_| random.word()).collect(),
-    }
+    let count = match Tree::read(bytes) {
+        Ok(_) if !random.once_in(4) => parameters_of(bytes),
+        // Such as would do if the table did.
+        Err(_) if random.once_in(2) => parameters_of(bytes),
+        _ => random.below(11),
+    };
+    (0..count).map(|_| random.word()).collect()
+}
+
+/// What main's record says of its parameters, whether the table is in order or not.
+fn parameters_of(bytes: &[u8]) -> usize {
+    let table = Table::new(bytes);
+    table.parameter_count(Function(table.function_count())).into()
 }
 
 /// Which of the causes of 10 it is, and whether 4 and 5 name a node.
@@ -91,7 +101,7 @@ fn note_start(seen: &mut Seen, told: Result<(), Refusal>, bytes: &[u8], tags: &[
             seen.note_if("an argument cut by the start", arguments.iter().any(cut));
         }
         Err(refusal) if refusal.number == 25 => {
-            let (other_tags, count) = (tags.len() != nodes.div_ceil(8), usize::from(table.parameter_count(main)));
+            let (other_tags, count) = (tags.len() != nodes.div_ceil(8), parameters_of(bytes));
             let no_tags = !other_tags && tags.iter().all(|byte| *byte == 0);
             seen.note_if("25 beside 10", other_tags);
             seen.note_if("25 beside 11", no_tags && arguments.len() != count);
@@ -103,13 +113,13 @@ fn note_start(seen: &mut Seen, told: Result<(), Refusal>, bytes: &[u8], tags: &[
 
 /// What `note_refusal` tells apart, each of it wanted this often.
 const CAUSES: [(&str, usize); 7] = [
-    ("4 at a root out of range", 20),
-    ("4 at a node", 50),
-    ("5 at a function record", 20),
-    ("5 at a node", 50),
-    ("10 for a tag past N", 50),
-    ("10 for the length", 50),
-    ("10 at a node", 50),
+    ("4 at a root out of range", 45),
+    ("4 at a node", 200),
+    ("5 at a function record", 45),
+    ("5 at a node", 110),
+    ("10 for a tag past N", 260),
+    ("10 for the length", 450),
+    ("10 at a node", 340),
 ];
 
 /// A start makes the whole state anew; a refused one keeps all of it.
@@ -137,8 +147,8 @@ fn starts() -> Outcome {
         lent.same_as(&own).map_err(|difference| format!("after {wanted:?} {difference}: {}", with()))?;
     }
     seen.often("starts", &CAUSES)?;
-    seen.at_least("starts", &[("started", 2000), ("refused 11", 500), ("an argument cut by the start", 500)])?;
-    seen.at_least("starts", &[("25 beside 10", 100), ("25 beside 11", 50), ("25 alone", 5)])?;
+    seen.at_least("starts", &[("started", 2000), ("refused 11", 500), ("an argument cut by the start", 650)])?;
+    seen.at_least("starts", &[("25 beside 10", 210), ("25 beside 11", 40), ("25 alone", 55)])?;
     seen.refused_often("starts", (1..=11).chain([25]), 50)
 }
 
