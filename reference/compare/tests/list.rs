@@ -13,7 +13,8 @@ use design::list::{check_tags, records, tag_bytes, tag_length, total};
 use design::random::Random;
 use design::states::{damaged_tags, tags};
 use design::towers::{any_comb, any_deep, any_tower, deep_beside, deep_calls, tower_beside, tower_of_arguments};
-use design::{Kind, Node, Tree};
+use design::{Kind, Node, Table, Tree};
+use numbers::MOST_NODES;
 
 /// Tables per seed and seeds: 52000 accepted tables in all, and beside them damaged ones.
 const TABLES: usize = 13000;
@@ -144,7 +145,7 @@ fn agree_on_any(seen: &mut Seen, random: &mut Random, bytes: &[u8]) -> Outcome {
         Ok(_) => agree(seen, random, bytes),
         Err(refusal) => {
             seen.refused += 1;
-            let nodes = usize::from(u16::from_le_bytes([bytes.get(2).copied().unwrap_or(8), 0]));
+            let nodes = usize::from(Table::new(bytes).node_count()).min(MOST_NODES);
             for length in [nodes.div_ceil(8), random.below(70)] {
                 fill_refused(random, bytes, length, refusal.code())?;
                 let any = random.bytes(length);
