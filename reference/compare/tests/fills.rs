@@ -123,7 +123,7 @@ fn random_tables() -> Outcome {
         agree(&mut seen, &mut random, &bytes)?;
     }
     seen.often(5_000)?;
-    ensure(4 * seen.listed >= TABLES && seen.records >= TABLES, || format!("{}, {}", seen.listed, seen.records))
+    ensure(4 * seen.listed >= TABLES && seen.records >= 6 * TABLES, || format!("{}, {}", seen.listed, seen.records))
 }
 
 #[test]

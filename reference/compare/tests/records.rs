@@ -52,7 +52,7 @@ fn records_in_order() -> Outcome {
         all += count;
     }
     println!("{listed} tables with a list, {all} records");
-    ensure(listed > TABLES / 4 && all > TABLES, || {
+    ensure(listed > TABLES / 4 && all > 6 * TABLES, || {
         format!("{listed} tables with a list, {all} records: too few to tell")
     })
 }

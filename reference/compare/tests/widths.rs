@@ -162,5 +162,5 @@ fn in_the_company_of_others() -> Outcome {
         }
     }
     println!("beside 25: {beside:?}");
-    ensure([6, 7, 8, 9, 25].iter().all(|number| beside[*number] >= 60), || format!("{beside:?}"))
+    ensure([6, 7, 8, 9, 25].iter().all(|number| beside[*number] >= 150), || format!("{beside:?}"))
 }

@@ -49,13 +49,13 @@ fn drives_from_a_start() -> Outcome {
         told.map_err(|difference| format!("{difference}\narguments {arguments:?}"))?;
     }
     let wanted = [
-        (NARROW, DRIVES / 2),
-        (EMPTY_LIST, DRIVES / 10),
+        (NARROW, DRIVES * 3 / 4),
+        (EMPTY_LIST, DRIVES / 3),
         (LIST_HELD, DRIVES / 5),
         (LIST_MISSED, DRIVES / 12),
         ("answered as the reading says", DRIVES / 2),
         ("answered so in several drives", DRIVES / 6),
-        ("goes on past the limit", 100),
+        ("goes on past the limit", DRIVES / 6),
     ];
     seen.often("drives", &wanted)
 }
@@ -123,24 +123,24 @@ fn drives_step_by_step() -> Outcome {
         let _ = round.drive(&mut random, budget)?;
     }
     let wanted = [
-        (NARROW, DRIVES / 2),
+        (NARROW, DRIVES * 3 / 4),
         ("from a start", DRIVES / 3),
         ("from any state", DRIVES / 3),
-        (EMPTY_LIST, DRIVES / 10),
+        (EMPTY_LIST, DRIVES / 3),
         (LIST_HELD, DRIVES / 5),
         (LIST_MISSED, DRIVES / 12),
-        ("at rest", 500),
-        ("at rest on no budget", 100),
-        ("at rest at once on some budget", 100),
-        ("answered", 500),
-        ("answered on no budget", 100),
-        ("answered at once on some budget", 100),
-        ("spent", 10_000),
-        ("spent on no budget", 1000),
-        ("every step found", 10_000),
+        ("at rest", 3000),
+        ("at rest on no budget", 500),
+        ("at rest at once on some budget", 2000),
+        ("answered", 10_000),
+        ("answered on no budget", 2000),
+        ("answered at once on some budget", 10_000),
+        ("spent", 20_000),
+        ("spent on no budget", 4000),
+        ("every step found", 20_000),
     ];
     seen.often("drives step by step", &wanted)?;
-    seen.refused_often("drives step by step", [24], 100)
+    seen.refused_often("drives step by step", [24], 200)
 }
 
 fn note(seen: &mut Seen, budget: u32, told: &Result<(u32, Ending), design::Refusal>) {

@@ -19,10 +19,10 @@ const LIMIT: u64 = 1_000;
 
 /// Both beginnings and each sort of tags have to occur in every test.
 const ROUNDS: [(&str, usize); 6] = [
-    (NARROW, RUNS / 2),
+    (NARROW, RUNS * 3 / 4),
     ("from a start", RUNS / 3),
     ("from any state", RUNS / 3),
-    (EMPTY_LIST, RUNS / 10),
+    (EMPTY_LIST, RUNS / 3),
     (LIST_HELD, RUNS / 5),
     (LIST_MISSED, RUNS / 12),
 ];
@@ -209,6 +209,6 @@ fn queries() -> Outcome {
         }
     }
     seen.often("queries", &ROUNDS)?;
-    seen.at_least("queries", &[("named", 10_000), ("none", 1000)])?;
-    seen.refused_often("queries", [24], 1000)
+    seen.at_least("queries", &[("named", 20_000), ("none", 10_000)])?;
+    seen.refused_often("queries", [24], 2000)
 }
