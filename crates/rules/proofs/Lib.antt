@@ -4,6 +4,7 @@ pub mod Cases
 pub mod OddStates
 pub mod OperationCases
 pub mod WidthCases
+pub mod FirstCases
 -- from bytes to the abstract circuit: the demand over tables, the own list, any state, the runs, 32-bit values
 pub mod Demands
 pub mod OwnList
@@ -17,6 +18,27 @@ pub mod Narrow
 pub mod MetFacts
 pub mod MetBelow
 pub mod StatesBelow
+-- the first possible step: what it is, and the query and run that follow it
+pub mod LowestLaws
+pub mod FirstFacts
+pub mod FirstRuns
+pub mod FirstLoop
+-- the sets that it is read off: what the sort of a step rests on, what each move makes of the sets, and a turn of the loop that keeps them
+pub mod Sorts
+pub mod SortSame
+pub mod Tells
+pub mod SetsSteady
+pub mod BoolLaws
+pub mod SetsOpening
+pub mod SetsEnding
+pub mod SetsRenewing
+pub mod SetsHeld
+pub mod SetsUpdated
+pub mod Parents
+pub mod FirstBySets
+pub mod SetsExact
+pub mod SetsBytes
+pub mod FirstTurn
 -- the step on lists: what a write reads as, what a move changes, the cases of a step, when it is refused, what it keeps
 pub mod StateLaws
 pub mod Performed

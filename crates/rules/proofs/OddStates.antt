@@ -11,10 +11,10 @@ use Rattle.table.specs.Designs.{twice, mult}
 use Rattle.rules.proofs.Cases.{from, circuit-open}
 
 -- a state with another status at node n, another phase, another occupant
-abbrev status-at : ℕ → ℕ → State512 → State512
+abbrev pub status-at : ℕ → ℕ → State512 → State512
 status-at n v s = with-status s (write (s .status) n v)
 
-abbrev second-at : ℕ → State512 → State512
+abbrev pub second-at : ℕ → State512 → State512
 second-at n s = with-second s (write (s .second) n true)
 
 abbrev occupant-at : ℕ → ℕ → State512 → State512

@@ -50,6 +50,7 @@ pub record Enters (s s′ : View) (own : ℕ → Type 0) (r g : ℕ) (vs : List 
   pub new : Resets s s′ own (λ m. m ≡ n) r g vs
   pub status : s′ .status n ≡ s .status n
   pub second : s′ .second n ≡ true
+  pub value : s′ .value n ≡ s .value n
   pub occupies : s′ .occupant g ≡ n
 
 pub record Leaves (s s′ : View) (n g v : ℕ) : Type 0 where
@@ -192,6 +193,7 @@ module _ (F N : ℕ) (home : ℕ → ℕ) (few-functions : F ≤ 32) (few : N �
       status = reset-kept g (id (body g)) vs (f .3) n (f .4) .0;
       second = entry-same (clear (mine N home g) false (s .second)) n true false (r .0)
           (omega (arith, length-clear (mine N home g) false (s .second), in-second n (r .1)));
+      value = reset-kept g (id (body g)) vs (f .3) n (f .4) .2;
       occupies = entry-same (s .occupant) g n 0 (f .0) (in-occupant g (f .1));
     }
       where

@@ -5,6 +5,8 @@ pub mod Step
 pub mod Play
 pub mod Circuit
 pub mod Runs
+pub mod First
+pub mod Sets
 pub mod Reading
 pub mod Met
 pub mod Demand

@@ -1,0 +1,124 @@
+-- the first possible node: it is possible, none below it is, and 0 says that there is none; so the query finds what it must
+use Prim.Native.Nat.{ℕ, zero, suc, _≤_, _<_}
+use mathlib.Core.Bool.{Bool, true, false, not}
+use mathlib.Core.Path.{_≡_, refl, subst, ap, _∙_}
+use mathlib.Core.List.{List}
+use native.Mathlib.Omega.{arith}
+use native.Mathlib.Decide.{decLe}
+use lib.Dec.{T}
+use Rattle.table.specs.Bytes.{functions, nodes}
+use Rattle.table.specs.Naming.{owner}
+use Rattle.table.specs.Check.{Verdict, accepted, refused}
+use Rattle.table.specs.Expressions.{exprAt, bodyOf}
+use Rattle.table.specs.Working.{IsNode}
+use Rattle.list.specs.Tags.{tagged}
+use Rattle.rules.specs.State.{State512}
+use Rattle.rules.specs.Step.{Reply, taken, answered, denied, does, Move, perform}
+use Rattle.rules.specs.Play.{IsTaken}
+use Rattle.rules.specs.Arithmetic.{arithmetic}
+use Rattle.rules.specs.Circuit.{actOf, stepOf, Possible}
+use Rattle.rules.specs.Runs.{standing, MainDone, Finds, FindsAfter}
+use Rattle.rules.specs.First.{isTaken, firstOf, onward, foundAt, queryAfter, queryOf}
+use Rattle.rules.proofs.StepCases.{step-cases}
+use Rattle.rules.proofs.AnyState.{by-check, done-none}
+use Rattle.rules.proofs.LowestLaws.{lowest-fails}
+use Rattle.table.proofs.FindLaws.{lowest-passes, passes-lowest}
+
+-- the test and the statement
+pub taken-test : (r : Reply) → IsTaken r → isTaken r ≡ true
+taken-test taken a = refl
+taken-test (answered v) a = refl
+taken-test (denied k p) a = absurd a
+
+test-taken : (r : Reply) → not (isTaken r) ≡ false → IsTaken r
+test-taken taken e = tt
+test-taken (answered v) e = tt
+test-taken (denied k p) e = let z : _≡_ {A = ℕ} 0 1 = cc in absurd (omega arith)
+
+test-not : (r : Reply) → T (not (isTaken r)) → IsTaken r → ⊥
+test-not taken h a = h
+test-not (answered v) h a = h
+test-not (denied k p) h a = a
+
+not-test : (r : Reply) → (IsTaken r → ⊥) → T (not (isTaken r))
+not-test taken h = h tt
+not-test (answered v) h = h tt
+not-test (denied k p) h = tt
+
+module _ (t tags : List ℕ) (s : State512) where
+  -- what is possible is a node
+  pub possible-node : (n : ℕ) → Possible t tags s n → IsNode t n
+  possible-node n = by-check t tags (λ f. IsTaken (f s n .answer) → IsNode t n) (λ k p. absurd)
+      (λ F N c. step-cases (arithmetic t) (functions t) (nodes t) (bodyOf t) (exprAt t) (owner t) (tagged tags) s n
+      (λ r. IsTaken (r .answer) → IsNode t n) (λ c. absurd) (λ r e m h a. r))
+
+  -- .. and its step is its move
+  pub possible-move : (n : ℕ) → Possible t tags s n → (a : Move) × (actOf t s n ≡ does a)
+      × (stepOf t tags s n .state ≡ perform (nodes t) (owner t) (bodyOf t) s n a)
+  possible-move n = by-check t tags (λ f. IsTaken (f s n .answer) → Moved n (f s n .state)) (λ k p. absurd)
+      (λ F N c. step-cases (arithmetic t) (functions t) (nodes t) (bodyOf t) (exprAt t) (owner t) (tagged tags) s n
+      (λ r. IsTaken (r .answer) → Moved n (r .state)) (λ c. absurd) (λ r e m h a. (m, h, refl)))
+    where
+      Moved : ℕ → State512 → Type 0
+      Moved n s′ = (a : Move) × (actOf t s n ≡ does a) × (s′ ≡ perform (nodes t) (owner t) (bodyOf t) s n a)
+
+  pub record First (r : ℕ) : Type 0 where
+    pub node : IsNode t r
+    pub possible : Possible t tags s r
+    pub lowest : (n : ℕ) → Possible t tags s n → r ≤ n
+
+  abbrev test : ℕ → Bool
+  test n = not (isTaken (stepOf t tags s n .answer))
+
+  pub first-some : (firstOf t tags s ≡ 0 → ⊥) → First (firstOf t tags s)
+  unfolding firstOf
+  first-some h =
+      let l = lowest-fails test (nodes t) h in
+      record {
+        node = l .there;
+        possible = test-taken (stepOf t tags s (firstOf t tags s) .answer) (l .fails);
+        lowest = λ n a. go n a (l .below n (possible-node n a .0)) (decLe (firstOf t tags s) n);
+      }
+    where
+      go : (n : ℕ) → Possible t tags s n → (n < firstOf t tags s → T (test n)) → Dec (firstOf t tags s ≤ n) → firstOf t tags s ≤ n
+      go n a f (yes q) = q
+      go n a f (no q) = absurd (test-not (stepOf t tags s n .answer) (f (omega arith)) a)
+
+  pub first-none : firstOf t tags s ≡ 0 → (n : ℕ) → Possible t tags s n → ⊥
+  unfolding firstOf
+  first-none e n a =
+      let i = possible-node n a in
+      test-not (stepOf t tags s n .answer) (lowest-passes test (nodes t) e n (i .0) (i .1)) a
+
+  pub none-first : ((n : ℕ) → Possible t tags s n → ⊥) → firstOf t tags s ≡ 0
+  unfolding firstOf
+  none-first f = passes-lowest test (nodes t) (λ i a b. not-test (stepOf t tags s i .answer) (f i))
+
+  -- "once main's root is done the query says none"
+  pub done-first : MainDone t s → firstOf t tags s ≡ 0
+  done-first d = none-first (λ n. done-none t tags s n d)
+
+  -- the first possible step is its node's move; where there is none nothing changes
+  pub first-moves : (firstOf t tags s ≡ 0 → ⊥) → (a : Move) × (actOf t s (firstOf t tags s) ≡ does a)
+      × (onward t tags s ≡ perform (nodes t) (owner t) (bodyOf t) s (firstOf t tags s) a)
+  unfolding onward
+  first-moves h = possible-move (firstOf t tags s) (first-some h .possible)
+
+  pub first-rests : firstOf t tags s ≡ 0 → onward t tags s ≡ s
+  unfolding onward
+  first-rests e = ap (λ n. stepOf t tags s n .state) e
+      ∙ by-check t tags (λ f. f s 0 .state ≡ s) (λ k p. refl)
+      (λ F N c. step-cases (arithmetic t) (functions t) (nodes t) (bodyOf t) (exprAt t) (owner t) (tagged tags) s 0 (λ r. r .state ≡ s)
+      (λ c. refl) (λ r e m h. absurd (omega (arith, r .0))))
+
+  pub query-finds : Finds t tags s (queryOf t tags s)
+  unfolding queryOf
+  query-finds = go (standing t tags s)
+    where
+      found : (F N n : ℕ) → firstOf t tags s ≡ n → FindsAfter (accepted F N) t tags s (foundAt n)
+      found F N zero e = first-none e
+      found F N (suc n) e = subst (Possible t tags s) e (first-some (λ z. omega (arith, z, e)) .possible)
+
+      go : (c : Verdict) → FindsAfter c t tags s (queryAfter c (firstOf t tags s))
+      go (accepted F N) = found F N (firstOf t tags s) refl
+      go (refused k p) = refl
