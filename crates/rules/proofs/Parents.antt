@@ -11,12 +11,13 @@ use Rattle.table.specs.Naming.{owner, parent, chain, children}
 use Rattle.table.specs.Check.{accepted, checkOf}
 use Rattle.table.specs.Expressions.{exprsAt, exprAt, bodyOf, defsAt, finalAt, thenAt, elseAt}
 use Rattle.table.specs.Working.{IsNode, Linked}
-use Rattle.table.proofs.Accepted.{id-body}
+use Rattle.table.proofs.Bodies.{id-body}
 use Rattle.table.proofs.Passed.{Passed, passed}
 use Rattle.table.proofs.Links.{link, backwards}
 use Rattle.table.proofs.Family.{parent-root, parent-first, parent-next, owner-in}
 use Rattle.table.proofs.Tree.{chain-none, chain-some}
-use Rattle.table.proofs.View.{View, is-const, is-param, is-prim, is-call, is-self, is-cond, is-bind, is-bound, view, id-at}
+use Rattle.table.proofs.NodeCases.{NodeCase, node-case, id-at}
+use Rattle.table.proofs.NodeCases.{is-const, is-param, is-prim, is-call, is-self, is-cond, is-bind, is-bound}
 use Rattle.table.proofs.Children.{roots-kids, Final, final}
 use Rattle.table.proofs.NodePlaces.{top-root}
 use Rattle.rules.specs.State.{In}
@@ -56,7 +57,7 @@ module _ (t : List ℕ) (ok : Passed t) where
           chain-parent c (first t n) (omega (arith, l .0), l .1) k ∙ parent-first t lk n i z
 
   child-parent : (n c : ℕ) → IsNode t n → Child c (exprAt t n) → parent t c ≡ n
-  child-parent n c i k = go (view t ok n i)
+  child-parent n c i k = go (node-case t ok n i)
     where
       as-kids : In c (roots (exprsAt t (first t n))) → parent t c ≡ n
       as-kids = unfold children in (λ j. kids-parent n c i (subst (In c) (roots-kids t ok n i) j))
@@ -82,7 +83,7 @@ module _ (t : List ℕ) (ok : Passed t) where
       two a f (inl j) = kids-parent n c i (subst (In c) (sym (f .list)) (in-front c (roots (defsAt t (first t n))) (f .at ∷ []) j))
       two a f (inr e) = ap (parent t) (e ∙ ap id (f .is) ∙ id-at t ok (f .at) (f .node)) ∙ f .sibling ∙ at-first a
 
-      go : View t n → parent t c ≡ n
+      go : NodeCase t n → parent t c ≡ n
       go (is-const q z e) = absurd (subst (Child c) e k)
       go (is-param q z l e) = absurd (subst (Child c) e k)
       go (is-prim q l e) = as-kids (subst (Child c) e k)

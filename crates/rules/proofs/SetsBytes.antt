@@ -13,7 +13,8 @@ use Rattle.table.specs.Check.{accepted, checkOf}
 use Rattle.table.specs.Expressions.{exprAt}
 use Rattle.table.specs.Working.{IsNode}
 use Rattle.table.proofs.Passed.{passed}
-use Rattle.table.proofs.View.{View, is-const, is-param, is-prim, is-call, is-self, is-cond, is-bind, is-bound, view as node-view}
+use Rattle.table.proofs.NodeCases.{NodeCase, node-case}
+use Rattle.table.proofs.NodeCases.{is-const, is-param, is-prim, is-call, is-self, is-cond, is-bind, is-bound}
 use Rattle.list.specs.Tags.{isCall}
 use Rattle.rules.specs.State.{State512, entry}
 use Rattle.rules.specs.Play.{calls}
@@ -50,12 +51,12 @@ module _ (t : List ℕ) (F N : ℕ) (check : checkOf t ≡ accepted F N) (n : �
       (λ j. p j && not (q j))
 
   by-bytes : (f : ℕ → ℕ → Bool) → ofCall f (exprAt t n) ≡ (isCall t n && f n (word t n))
-  by-bytes f = go (node-view t (passed t F N check .0) n i)
+  by-bytes f = go (node-case t (passed t F N check .0) n i)
     where
       no : (u : Expr) → exprAt t n ≡ u → ofCall f u ≡ false → isCall t n ≡ false → ofCall f (exprAt t n) ≡ (isCall t n && f n (word t n))
       no u e z c = ap (ofCall f) e ∙ z ∙ sym (ap (λ b. b && f n (word t n)) c)
 
-      go : View t n → ofCall f (exprAt t n) ≡ (isCall t n && f n (word t n))
+      go : NodeCase t n → ofCall f (exprAt t n) ≡ (isCall t n && f n (word t n))
       go (is-const k z e) = no _ e refl (other-kind 1 k refl)
       go (is-param k z l e) = no _ e refl (other-kind 2 k refl)
       go (is-prim k l e) = no _ e refl (other-kind 3 k refl)
