@@ -1,3 +1,4 @@
 pub mod Meaning
 pub mod Working
+pub mod Packed
 pub mod Entries
