@@ -12,10 +12,11 @@ use Rattle.table.specs.Pick.{pick}
 use Rattle.table.specs.Bytes.{functions, root}
 use Rattle.table.specs.Working.{IsNode}
 use Rattle.rules.specs.State.{State512, entry}
+use Rattle.rules.specs.Sets.{goes}
 use Rattle.rules.specs.Circuit.{actOf}
 use Rattle.circuit.specs.declared.changes.Effect.{Effect}
 use Rattle.circuit.specs.declared.changes.Effect.the-variants as Effect
-use Rattle.circuit.specs.Working.{Agreed, goes, Took, Tried, movedOf, DroveTo, Went}
+use Rattle.circuit.specs.Working.{Agreed, Took, Tried, movedOf, DroveTo, Went}
 use Rattle.circuit.proofs.DriveLaws.{both-true, drove-next, drove-same}
 
 pub stops-stuck : (m b : Bool) → m ≡ false → false ≡ (m && b)

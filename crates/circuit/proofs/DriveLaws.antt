@@ -18,11 +18,12 @@ use Rattle.table.specs.Working.{IsNode}
 use Rattle.rules.specs.State.{State512, entry}
 use Rattle.rules.specs.Step.{Reply, taken, answered, denied}
 use Rattle.rules.specs.Play.{IsTaken, noted}
+use Rattle.rules.specs.Sets.{goes}
 use Rattle.rules.specs.Circuit.{actOf, circuitOf, stepOf, playOf, Possible}
 use Rattle.rules.specs.Runs.{standing, MainDone, Ended, gave, atRest, spent, barred, Driven, Says, Picks, DrivesAfter, Drives, Found}
 use Rattle.rules.specs.Runs.{names, nothing, unasked, FindsAfter, Finds}
 use Rattle.circuit.specs.declared.changes.Effect.{Effect}
-use Rattle.circuit.specs.Working.{Agreed, Stands, goes, FoundAt, Tried, FindsIn, EndsIn, movedOf, DroveTo}
+use Rattle.circuit.specs.Working.{Agreed, Stands, FoundAt, Tried, FindsIn, EndsIn, movedOf, DroveTo}
 use Rattle.rules.proofs.AnyState.{done-none}
 use Rattle.rules.proofs.RunFacts.{play-state, play-nodes}
 use Rattle.circuit.proofs.StandsLaws.{kept}

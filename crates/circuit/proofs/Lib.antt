@@ -5,6 +5,7 @@ pub mod OperationLaws
 pub mod WidthLaws
 pub mod ActBy
 pub mod PlanLaws
+pub mod SortLaws
 pub mod GroupLaws
 pub mod SweepLaws
 pub mod GiveLaws

@@ -20,10 +20,11 @@ use Rattle.table.specs.Check.{formed}
 use Rattle.table.specs.Working.{Taken, IsNode}
 use Rattle.table.proofs.FindLaws.{both}
 use Rattle.table.proofs.KindLaws.{leaf, parameter}
+use Rattle.rules.specs.Sets.{goes}
 use Rattle.rules.specs.Circuit.{actOf}
 use Rattle.circuit.specs.Meaning.{stateAs}
 use Rattle.circuit.proofs.OperationLaws.{operateBy}
-use Rattle.circuit.specs.Working.{allDone, leading, lastFrom, keptBy, opens, passed, goes}
+use Rattle.circuit.specs.Working.{allDone, leading, lastFrom, keptBy, opens, passed}
 use Rattle.circuit.proofs.ActBy.{open-is, busy-is, openBy, primBy, selfBy, callBy, branchBy, condBy, bindBy, busyBy}
 use Rattle.circuit.proofs.ChainLaws.{ok, chain-end, chain-here, next-in, operate-by}
 

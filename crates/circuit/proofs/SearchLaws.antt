@@ -9,8 +9,9 @@ use Rattle.table.specs.Bytes.{nodes}
 use Rattle.table.specs.Working.{IsNode}
 use Rattle.rules.specs.State.{State512}
 use Rattle.rules.specs.Step.{Act, stuck, blocked, does}
+use Rattle.rules.specs.Sets.{goes}
 use Rattle.rules.specs.Circuit.{actOf}
-use Rattle.circuit.specs.Working.{goes, Took, FoundAt, Tried, Went, movedOf}
+use Rattle.circuit.specs.Working.{Took, FoundAt, Tried, Went, movedOf}
 use Rattle.circuit.specs.declared.changes.Effect.{Effect}
 use Rattle.circuit.specs.declared.changes.Effect.the-variants as Effect
 

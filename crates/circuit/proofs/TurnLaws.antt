@@ -24,11 +24,12 @@ use Rattle.rules.specs.Step.{Act, stuck, blocked, does, Reply, taken, answered,
 use Rattle.rules.specs.Step.{circuitStep, over}
 use Rattle.rules.specs.Arithmetic.{arithmetic}
 use Rattle.rules.specs.Play.{IsTaken}
+use Rattle.rules.specs.Sets.{goes}
 use Rattle.rules.specs.Circuit.{actOf, circuitOf, stepAfter, stepOf}
 use Rattle.table.specs.Working.{Taken}
 use Rattle.circuit.specs.declared.changes.Effect.{Effect}
 use Rattle.circuit.specs.declared.changes.Effect.the-variants as Effect
-use Rattle.circuit.specs.Working.{Took, Stands, goes, movedOf}
+use Rattle.circuit.specs.Working.{Took, Stands, movedOf}
 use Rattle.rules.proofs.Demands.{after-both}
 use Rattle.circuit.proofs.StandsLaws.{kept, stands-parts}
 use Rattle.circuit.proofs.ChainLaws.{ok}

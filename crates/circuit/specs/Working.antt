@@ -16,6 +16,7 @@ use Rattle.rules.specs.Arithmetic.{keepAll, arithmetic}
 use Rattle.rules.specs.State.{State512, entry}
 use Rattle.rules.specs.Step.{Act, stuck, blocked, does, Move, turns, finishes, enters, leaves, restarts, over, perform}
 use Rattle.rules.specs.Circuit.{actOf, playOf}
+use Rattle.rules.specs.Sets.{goes}
 use Rattle.rules.specs.Runs.{standing, Ended, Found, FindsAfter, Says, Ran, Driven}
 use Rattle.table.specs.Working.{IsNode, Taken, Read}
 use Rattle.table.specs.Survey.{verdictOf}
@@ -96,12 +97,6 @@ abbrev pub movedOf : Effect → Bool
 movedOf Effect.Stuck = false
 movedOf Effect.Blocked = false
 movedOf Effect.Moved = true
-
--- the node has a move
-abbrev pub goes : Act → Bool
-goes stuck = false
-goes blocked = false
-goes (does m) = true
 
 -- 24 is met: some status up to N is over 3, or some occupant up to F over N
 abbrev pub strayIn : (t status occupant : List ℕ) → Bool

@@ -7,13 +7,14 @@ use table::decoded::Cells;
 ghost use mathlib.Core.Path.{_≡_};
 ghost use mathlib.Core.List.{map};
 ghost use Prim.Native.Nat.{_≤_};
-ghost use Rattle.table.specs.Bytes.{nodes};
+ghost use Rattle.table.specs.Pick.{pick};
+ghost use Rattle.table.specs.Bytes.{nodes, next};
 ghost use Rattle.table.specs.Naming.{chain};
 ghost use Rattle.rules.specs.State.{entry, opened};
 ghost use Rattle.rules.specs.Operations.{operate};
 ghost use mathlib.Core.Bool.{_&&_};
 ghost use lib.Dec.{eqb};
-ghost use Rattle.table.specs.Working.{Read};
+ghost use Rattle.table.specs.Working.{IsNode, Read};
 ghost use Rattle.circuit.specs.Working.{allDone, leading, lastFrom};
 
 // Whether the node at c and all that follow it are done; of a let (defs) all but the last.
@@ -88,4 +89,17 @@ pub(crate) fn open_all(table: &[u8], cells: &Cells, status: &mut [u8; 512], c: N
         store::set_status(status, at, 1);
         at = on;
     }
+}
+
+// The branch of an if that the condition's value takes.
+pub(crate) fn branch(table: &[u8], cells: &Cells, value: &[u32; 512], a: Node) -> Node
+    requires { ⌜ Read (now table) (now cells) × IsNode (now table) (a .0) × IsNode (now table) (next (now table) (a .0)) ⌝ }
+    ensures { λ r. ⌜ r .0 ≡ pick (eqb (entry (now (value .entry)) 0 (a .0)) 0)
+        (next (now (table .entry)) (next (now (table .entry)) (a .0))) (next (now (table .entry)) (a .0)) ⌝ }
+{
+    let b = decoded::next(cells, a);
+    if store::value_at(value, a) == 0 {
+        return decoded::next(cells, b);
+    }
+    b
 }

@@ -153,19 +153,6 @@ fn across(
     Plan::Enters(g, true)
 }
 
-// The branch of an if that the condition's value takes.
-fn branch(table: &[u8], cells: &Cells, value: &[u32; 512], a: Node) -> Node
-    requires { ⌜ Read (now table) (now cells) × IsNode (now table) (a .0) × IsNode (now table) (next (now table) (a .0)) ⌝ }
-    ensures { λ r. ⌜ r .0 ≡ pick (eqb (entry (now (value .entry)) 0 (a .0)) 0)
-        (next (now (table .entry)) (next (now (table .entry)) (a .0))) (next (now (table .entry)) (a .0)) ⌝ }
-{
-    let b = decoded::next(cells, a);
-    if store::value_at(value, a) == 0 {
-        return decoded::next(cells, b);
-    }
-    b
-}
-
 // Once a condition is done the branch opens; once that is done, so is the if.
 fn busy_if(
     table: &[u8],
@@ -181,7 +168,7 @@ fn busy_if(
         ≡ actOf (now (table .entry)) (stateAs (now (status .entry)) (now (second .entry)) (now (value .entry)) d e) (n .0)) ⌝ }
 {
     let a = decoded::first(cells, n);
-    let r = branch(table, cells, value, a);
+    let r = chain::branch(table, cells, value, a);
     if store::second_at(second, n) {
         return pass(status, value, r);
     }

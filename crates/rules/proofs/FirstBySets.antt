@@ -22,34 +22,28 @@ use Rattle.rules.specs.Arithmetic.{arithmetic}
 use Rattle.rules.specs.Circuit.{actOf, stepOf}
 use Rattle.rules.specs.Runs.{standing, MainDone}
 use Rattle.rules.specs.First.{isTaken, firstOf}
-use Rattle.rules.specs.Sets.{sort, barredBy, setsOf, ready, firstIn}
+use Rattle.rules.specs.Sets.{goes, sort, barredBy, setsOf, ready, firstIn}
 use Rattle.rules.proofs.ActCases.{by-pick, by-state}
 use Rattle.rules.proofs.StepCases.{Cause, no-node, bad-status, bad-occupant, main-done, no-move, occupied, step-cases}
 use Rattle.rules.proofs.Demands.{after-both, step-same}
 use Rattle.rules.proofs.LowestLaws.{lowest-same}
 
--- a node has a move
-abbrev moves : Act → Bool
-moves stuck = false
-moves blocked = false
-moves (does m) = true
-
 module _ (units : Arithmetic) (body : ℕ → Expr) (h : ℕ) (s : View) where
   -- its sort and whether its callee is occupied say so
   abbrev Told : Bool → Act → Type 0
-  Told b a = moves a ≡ (eqb (sort a) 2 || (eqb (sort a) 1 && not b))
+  Told b a = goes a ≡ (eqb (sort a) 2 || (eqb (sort a) 1 && not b))
 
   test : (b c : Bool) (m : Move) → sort (does m) ≡ 2 → Told b (pick c (does m) stuck)
   test b true m e = ap (λ k. eqb k 2 || (eqb k 1 && not b)) (sym e)
   test b false m e = refl
 
-  sort-moves : (u : Expr) → Told (barredBy s u) (act units body h s u)
-  sort-moves (const n v) = by-state (Told false) (s .status n) _ _ (λ o. refl) (λ b. refl) refl
-  sort-moves (param n i) = by-state (Told false) (s .status n) _ _ (λ o. refl) (λ b. refl) refl
-  sort-moves (bound n d) = by-state (Told false) (s .status n) _ _ (λ o. refl) (λ b. refl) refl
-  sort-moves (prim n op es) = by-state (Told false) (s .status n) _ _ (λ o. refl) (λ b. test false (all-done s es) _ refl) refl
-  sort-moves (self n es) = by-state (Told false) (s .status n) _ _ (λ o. refl) (λ b. test false (all-done s es) _ refl) refl
-  sort-moves (call n g es) = by-state (Told (not (eqb (s .occupant g) 0))) (s .status n) _ _ (λ o. refl)
+  pub sort-goes : (u : Expr) → Told (barredBy s u) (act units body h s u)
+  sort-goes (const n v) = by-state (Told false) (s .status n) _ _ (λ o. refl) (λ b. refl) refl
+  sort-goes (param n i) = by-state (Told false) (s .status n) _ _ (λ o. refl) (λ b. refl) refl
+  sort-goes (bound n d) = by-state (Told false) (s .status n) _ _ (λ o. refl) (λ b. refl) refl
+  sort-goes (prim n op es) = by-state (Told false) (s .status n) _ _ (λ o. refl) (λ b. test false (all-done s es) _ refl) refl
+  sort-goes (self n es) = by-state (Told false) (s .status n) _ _ (λ o. refl) (λ b. test false (all-done s es) _ refl) refl
+  sort-goes (call n g es) = by-state (Told (not (eqb (s .occupant g) 0))) (s .status n) _ _ (λ o. refl)
       (λ b. by-pick (Told (not (eqb (s .occupant g) 0))) (s .second n) _ _
       (λ w. test (not (eqb (s .occupant g) 0)) (done s (id (body g))) _ refl)
       (λ w. by-pick (Told (not (eqb (s .occupant g) 0))) (all-done s es) _ _ (λ f. at-door (eqb (s .occupant g) 0) _) (λ e. refl)))
@@ -58,11 +52,11 @@ module _ (units : Arithmetic) (body : ℕ → Expr) (h : ℕ) (s : View) where
       at-door : (b : Bool) (vs : List ℕ) → Told (not b) (pick b (does (enters g vs)) blocked)
       at-door true vs = refl
       at-door false vs = refl
-  sort-moves (cond n a b c) = by-state (Told false) (s .status n) _ _ (λ o. refl)
+  sort-goes (cond n a b c) = by-state (Told false) (s .status n) _ _ (λ o. refl)
       (λ t. by-pick (Told false) (s .second n) _ _
       (λ w. test false (done s (id (branch (s .value (id a)) b c))) _ refl) (λ w. test false (done s (id a)) _ refl))
       refl
-  sort-moves (bind n ds b) = by-state (Told false) (s .status n) _ _ (λ o. refl)
+  sort-goes (bind n ds b) = by-state (Told false) (s .status n) _ _ (λ o. refl)
       (λ t. by-pick (Told false) (s .second n) _ _ (λ w. test false (done s (id b)) _ refl) (λ w. test false (all-done s ds) _ refl))
       refl
 
@@ -97,24 +91,24 @@ module _ (t tags : List ℕ) (s : State512) (F N : ℕ) (tagging : checkWith t t
 
   -- what refuses a step here: there is no move
   refused-sort : (n : ℕ) → IsNode t n
-      → (c : Cause (arithmetic t) (functions t) (nodes t) (bodyOf t) (exprAt t) (owner t) (tagged tags) s n) → false ≡ moves (actOf t s n)
+      → (c : Cause (arithmetic t) (functions t) (nodes t) (bodyOf t) (exprAt t) (owner t) (tagged tags) s n) → false ≡ goes (actOf t s n)
   refused-sort n i (no-node e) = absurd (e i)
   refused-sort n i (bad-status r e) = not-so (over 3 (nodes t) (s .status)) statuses e
   refused-sort n i (bad-occupant r e) = not-so (over (nodes t) (functions t) (s .occupant)) occupants e
   refused-sort n i (main-done r e) =
       not-so (done (view s) (id (bodyOf t (functions t)))) (ne-eqb (view s .status (id (bodyOf t (functions t)))) 3 undone) e
-  refused-sort n i (no-move r e h) = ap moves (sym h)
-  refused-sort n i (occupied r e h) = ap moves (sym h)
+  refused-sort n i (no-move r e h) = ap goes (sym h)
+  refused-sort n i (occupied r e h) = ap goes (sym h)
 
   -- a step isn't refused exactly where the sets say so
   ready-is : (n : ℕ) → IsNode t n → isTaken (stepOf t tags s n .answer) ≡ ready (setsOf t s) n
   ready-is n i =
       ap (λ r. isTaken (r .answer)) (step-same t (check .0) (check .1) (check .2) tags F N tagging s n)
       ∙ step-cases (arithmetic t) (functions t) (nodes t) (bodyOf t) (exprAt t) (owner t) (tagged tags) s n
-      (λ r. isTaken (r .answer) ≡ moves (actOf t s n)) (refused-sort n i)
+      (λ r. isTaken (r .answer) ≡ goes (actOf t s n)) (refused-sort n i)
       (λ r e m h. told-taken (done (view (perform (nodes t) (owner t) (bodyOf t) s n m)) (id (bodyOf t (functions t)))) _
-      ∙ ap moves (sym h))
-      ∙ sort-moves (arithmetic t) (bodyOf t) (owner t n) (view s) (exprAt t n)
+      ∙ ap goes (sym h))
+      ∙ sort-goes (arithmetic t) (bodyOf t) (owner t n) (view s) (exprAt t n)
 
   pub first-by-sets : firstOf t tags s ≡ firstIn (setsOf t s) (nodes t)
   unfolding firstOf firstIn

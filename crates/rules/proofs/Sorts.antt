@@ -32,7 +32,7 @@ busySort body s (bound n d) = 0
 abbrev pub sortBy : (body : ℕ → Expr) → View → Expr → ℕ
 sortBy body s u = rank (s .status (id u)) (busySort body s u)
 
-sort-pick : (b : Bool) (x y : Act) (i j : ℕ) → sort x ≡ i → sort y ≡ j → sort (pick b x y) ≡ pick b i j
+pub sort-pick : (b : Bool) (x y : Act) (i j : ℕ) → sort x ≡ i → sort y ≡ j → sort (pick b x y) ≡ pick b i j
 sort-pick true x y i j p q = p
 sort-pick false x y i j p q = q
 

@@ -16,6 +16,12 @@ use Rattle.rules.specs.Step.{Act, stuck, blocked, does, Move, begins, tu
 use Rattle.rules.specs.Play.{calls}
 use Rattle.rules.specs.Arithmetic.{Arithmetic, arithmetic}
 
+-- a node has a move
+abbrev pub goes : Act → Bool
+goes stuck = false
+goes blocked = false
+goes (does m) = true
+
 -- the sort of a step: 0 none, 1 a call that would enter if its callee is free, 2 any other move
 abbrev pub sort : Act → ℕ
 sort stuck = 0

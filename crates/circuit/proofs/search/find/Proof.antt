@@ -7,9 +7,10 @@ use Rattle.table.specs.Bytes.{nodes}
 use Rattle.table.specs.Working.{IsNode}
 use Rattle.table.proofs.Reading.{told-last}
 use Rattle.rules.specs.State.{State512, entry}
+use Rattle.rules.specs.Sets.{goes}
 use Rattle.rules.specs.Circuit.{actOf}
 use Rattle.circuit.specs.Meaning.{stateAs}
-use Rattle.circuit.specs.Working.{goes}
+use Rattle.rules.specs.Sets.{goes}
 use Rattle.circuit.proofs.ChainLaws.{ok}
 use Rattle.circuit.proofs.SearchLaws.{NoneTo, none-start, none-more, found-none, found-here, went-goes, went-same}
 use Rattle.circuit.proofs.search.find.Statement.{statement}

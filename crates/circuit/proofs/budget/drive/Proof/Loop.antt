@@ -6,9 +6,10 @@ use mathlib.Core.Bool.{true}
 use Rattle.table.specs.Pick.{pick}
 use Rattle.table.specs.Working.{IsNode}
 use Rattle.rules.specs.State.{State512, entry}
+use Rattle.rules.specs.Sets.{goes}
 use Rattle.rules.specs.Circuit.{actOf}
 use Rattle.circuit.specs.Meaning.{stateAs}
-use Rattle.circuit.specs.Working.{goes, DroveTo}
+use Rattle.circuit.specs.Working.{DroveTo}
 use Rattle.circuit.proofs.DriveLaws.{drove-start, Going, goes-on}
 use Rattle.circuit.proofs.budget.drive.Tie as tie
 

@@ -1,4 +1,4 @@
--- `plan::branch` meets its contract: else where the condition is 0.
+-- `chain::branch` meets its contract: else where the condition is 0.
 use native.Mathlib.Omega.{arith}
 use mathlib.Core.Path.{_≡_, sym, subst}
 use Rattle.table.specs.Bytes.{next}
@@ -7,8 +7,8 @@ use Rattle.table.proofs.Reading.{told}
 use Rattle.circuit.proofs.ChainLaws.{ok}
 use Rattle.circuit.proofs.PlanLaws.{branch-else, branch-then}
 use borrow.Author.Needs.{needs}
-use Rattle.circuit.proofs.plan.branch.Statement.{statement}
-use Rattle.circuit.proofs.plan.branch.Tie as tie
+use Rattle.circuit.proofs.chain.branch.Statement.{statement}
+use Rattle.circuit.proofs.chain.branch.Tie as tie
 
 abbrev start : tie.After-next → tie.Start
 start c = search
