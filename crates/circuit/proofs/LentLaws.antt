@@ -1,12 +1,12 @@
 -- runs on lent arrays and a lent count: where table, tags or 24 refuse all of it is kept, else the count has the steps taken; and by value,
 -- where the count lent is 0
 use Prim.Native.Nat.{ℕ}
-use mathlib.Core.Path.{_≡_, refl, sym, ap, subst, _∙_}
+use mathlib.Core.Path.{_≡_, refl, sym, ap, _∙_}
 use mathlib.Core.List.{List}
-use Rattle.table.specs.Bytes.{functions, nodes}
 use Rattle.table.specs.Check.{Verdict, accepted, refused, ifAccepted}
 use Rattle.rules.specs.State.{State512}
-use Rattle.rules.specs.Runs.{standing, stopped, Ran, runFrom, runOf, barred, Driven, Picks, Drives, DrivesAfter}
+use Rattle.rules.specs.Runs.{standing, stopped, Ran, runFrom, runOf, barred, Driven, Found, unasked}
+use Rattle.rules.specs.First.{firstOf, foundAt, queryOf, stays, driveFrom, driveOf}
 use Rattle.circuit.specs.declared.types.Halt.{Halt}
 use Rattle.circuit.specs.declared.types.Ended.{Ended}
 use Rattle.circuit.specs.declared.entries.RunEnd.{RunEnd}
@@ -14,7 +14,6 @@ use Rattle.circuit.specs.declared.budget.DriveEnd.{DriveEnd}
 use Rattle.circuit.specs.Meaning.{haltOf, endedOf, RanLent, DrivenLent}
 use Rattle.circuit.specs.Working.{ranAs, drivenAs}
 use Rattle.circuit.proofs.EntryLaws.{run-turned, run-goes}
-use Rattle.circuit.proofs.DriveLaws.{drives-refused, drives-on}
 
 module _ (t tags : List ℕ) (s : State512) where
   -- a choice by what is checked first
@@ -45,30 +44,44 @@ module _ (t tags : List ℕ) (s : State512) where
       whole (accepted F N) e = refl
       whole (refused n p) e = ap (λ x. x .steps) (run-turned t tags s ns n p e)
 
+  -- a query and a run with a budget, by what is checked first
+  pub query-turned : (k p : ℕ) → standing t tags s ≡ refused k p → unasked k p ≡ queryOf t tags s
+  unfolding queryOf
+  query-turned k p e = sym (rw e refl)
+
+  pub query-goes : (F N : ℕ) → standing t tags s ≡ accepted F N → (r : Found) → r ≡ foundAt (firstOf t tags s) → r ≡ queryOf t tags s
+  unfolding queryOf
+  query-goes F N e r q = q ∙ sym (rw e refl)
+
+  drive-turned : (budget k p : ℕ) → standing t tags s ≡ refused k p → stays s (barred k p) ≡ driveOf t tags s budget
+  unfolding driveOf
+  drive-turned budget k p e = sym (rw e refl)
+
+  drive-goes : (budget F N : ℕ) → standing t tags s ≡ accepted F N → driveFrom t tags s budget ≡ driveOf t tags s budget
+  unfolding driveOf
+  drive-goes budget F N e = sym (rw e refl)
+
   pub driven-kept : (budget old k p : ℕ) (h : Ended) → standing t tags s ≡ refused k p → endedOf h ≡ barred k p
       → DrivenLent t tags s budget old h s old
-  driven-kept budget old k p h e q = record {
-    steps = 0;
-    drives = drives-refused t tags s budget k p _ e (λ i. record { steps = 0; ended = q i; state = s });
-    count = chosen _ e 0 old;
-  }
+  driven-kept budget old k p h e q =
+      let w = drive-turned budget k p e in
+      record { ended = q ∙ ap (λ x. x .ended) w; state = ap (λ x. x .state) w; count = chosen _ e (driveOf t tags s budget .steps) old }
 
-  pub driven-counted : (budget old : ℕ) (y : DriveEnd) (s′ : State512) → standing t tags s ≡ accepted (functions t) (nodes t)
-      → Picks t tags s budget (drivenAs y s′) → DrivenLent t tags s budget old (y .ended) s′ (y .steps)
-  driven-counted budget old y s′ e p = record {
-    steps = y .steps;
-    drives = drives-on t tags s budget _ e p;
-    count = chosen _ e (y .steps) old;
-  }
+  pub driven-counted : (budget old F N : ℕ) (y : DriveEnd) (s′ : State512) → standing t tags s ≡ accepted F N
+      → drivenAs y s′ ≡ driveFrom t tags s budget → DrivenLent t tags s budget old (y .ended) s′ (y .steps)
+  driven-counted budget old F N y s′ e q =
+      let w = q ∙ drive-goes budget F N e in
+      record {
+        ended = ap (λ x. x .ended) w;
+        state = ap (λ x. x .state) w;
+        count = ap (λ x. x .steps) w ∙ chosen _ e (driveOf t tags s budget .steps) old;
+      }
 
   pub driven-by-value : (budget : ℕ) (h : Ended) (s′ : State512) (k : ℕ) → DrivenLent t tags s budget 0 h s′ k
-      → Drives t tags s budget (record { steps = k; ended = endedOf h; state = s′ })
+      → _≡_ {A = Driven} (record { steps = k; ended = endedOf h; state = s′ }) (driveOf t tags s budget)
   driven-by-value budget h s′ k r =
-      subst (λ n. Drives t tags s budget (ran n)) (sym (r .count ∙ whole (standing t tags s) refl)) (r .drives)
+      λ i. record { steps = (r .count ∙ whole (standing t tags s) refl) i; ended = r .ended i; state = r .state i }
     where
-      ran : ℕ → Driven
-      ran n = record { steps = n; ended = endedOf h; state = s′ }
-
-      whole : (v : Verdict) → standing t tags s ≡ v → ifAccepted v (r .steps) 0 ≡ r .steps
+      whole : (v : Verdict) → standing t tags s ≡ v → ifAccepted v (driveOf t tags s budget .steps) 0 ≡ driveOf t tags s budget .steps
       whole (accepted F N) e = refl
-      whole (refused n p) e = sym (ap (λ x. x .steps) (subst (λ c. DrivesAfter c t tags s budget (ran (r .steps))) e (r .drives)))
+      whole (refused n p) e = ap (λ x. x .steps) (drive-turned budget n p e)

@@ -138,7 +138,7 @@ module _ (t status : List ℕ) (second : List Bool) (value : List ℕ) (n a : �
 -- a let
 module _ (t status : List ℕ) (second : List Bool) (value : List ℕ) (n c : ℕ) (ec : c ≡ first t n) (r : ℕ) (er : r ≡ lastFrom 0 (chain t c))
     (b : Bool) (eb : b ≡ entry second false n) where
-  body-is : r ≡ lastFrom 0 (children t n)
+  pub body-is : r ≡ lastFrom 0 (children t n)
   unfolding children
   body-is = er ∙ ap (λ m. lastFrom 0 (chain t m)) ec
 

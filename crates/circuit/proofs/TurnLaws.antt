@@ -7,7 +7,6 @@ use native.Mathlib.Omega.{arith}
 use native.Mathlib.Decide.{ℕ-discrete, decLe}
 use lib.Dec.{eqb}
 use borrow.Author.Tests.{eq-eqb, ne-eqb, lt-ltb}
-use Rattle.rules.proofs.StepFacts.{told-taken}
 use Rattle.table.proofs.Tests.{ltb-no}
 use Rattle.table.specs.Pick.{pick}
 use Rattle.table.specs.Syntax.{id}
@@ -20,16 +19,13 @@ use Rattle.table.proofs.Bodies.{id-body}
 use Rattle.table.proofs.Passed.{passed}
 use Rattle.list.specs.Tags.{tagged, checkWith}
 use Rattle.rules.specs.State.{State512, view, entry}
-use Rattle.rules.specs.Step.{Act, stuck, blocked, does, Reply, taken, answered, denied, Stepped, refusal, done, told, outcome, perform}
+use Rattle.rules.specs.Step.{Act, stuck, blocked, does, Reply, taken, answered, denied, Stepped, refusal, done, told, outcome}
 use Rattle.rules.specs.Step.{circuitStep, over}
 use Rattle.rules.specs.Arithmetic.{arithmetic}
-use Rattle.rules.specs.Play.{IsTaken}
-use Rattle.rules.specs.Sets.{goes}
 use Rattle.rules.specs.Circuit.{actOf, circuitOf, stepAfter, stepOf}
 use Rattle.table.specs.Working.{Taken}
-use Rattle.circuit.specs.declared.changes.Effect.{Effect}
-use Rattle.circuit.specs.declared.changes.Effect.the-variants as Effect
-use Rattle.circuit.specs.Working.{Took, Stands, movedOf}
+use Rattle.circuit.specs.declared.plan.Plan.{Plan}
+use Rattle.circuit.specs.Working.{Planned, performed, Stands, whyNot}
 use Rattle.rules.proofs.Demands.{after-both}
 use Rattle.circuit.proofs.StandsLaws.{kept, stands-parts}
 use Rattle.circuit.proofs.ChainLaws.{ok}
@@ -101,46 +97,23 @@ module _ (t tags : List ℕ) (fair : Taken t) (s : State512) (n : ℕ) where
   abbrev pub Out : Act → Stepped
   Out a = outcome (arithmetic t) (functions t) (nodes t) (bodyOf t) (exprAt t) (owner t) (tagged tags) s n a
 
-  module _ (s′ : State512) (f : Effect) where
-    -- two effects at once
-    clash : (x y : Effect) → f ≡ x → f ≡ y → movedOf x ≡ true → movedOf y ≡ false → ⊥
-    clash x y p q u v = let e : x ≡ y = sym p ∙ q in let w = ap movedOf e in let z : _≡_ {A = ℕ} 0 1 = cc in omega arith
+  pub out-refused : (a : Act) (k : ℕ) → k ≡ whyNot (tagged tags n) a → (k ≡ 0 → ⊥)
+      → _≡_ {A = Stepped} (record { answer = denied k n; state = s }) (Out a)
+  out-refused stuck k e z = λ i. record { answer = denied (e i) n; state = s }
+  out-refused blocked k e z = λ i. record { answer = denied (e i) n; state = s }
+  out-refused (does m) k e z = absurd (z e)
 
-    pub out-stuck : (a : Act) → Took t s n a f s′ → f ≡ Effect.Stuck → _≡_ {A = Stepped} (record { answer = denied 21 n; state = s′ })
-        (Out a)
-    out-stuck stuck h e = λ i. record { answer = denied 21 n; state = h .1 i }
-    out-stuck blocked h e = absurd (let q = sym e ∙ h .0 in let z : _≡_ {A = ℕ} 0 1 = cc in omega arith)
-    out-stuck (does m) h e = absurd (clash Effect.Moved Effect.Stuck (h .0) e refl refl)
-
-    pub out-held : (a : Act) → Took t s n a f s′ → f ≡ Effect.Blocked → (k : ℕ) → k ≡ pick (tagged tags n) 22 23
-        → _≡_ {A = Stepped} (record { answer = denied k n; state = s′ }) (Out a)
-    out-held stuck h e k ek = absurd (let q = sym e ∙ h .0 in let z : _≡_ {A = ℕ} 0 1 = cc in omega arith)
-    out-held blocked h e k ek = λ i. record { answer = denied (ek i) n; state = h .1 i }
-    out-held (does m) h e k ek = absurd (clash Effect.Moved Effect.Blocked (h .0) e refl refl)
-
-    pub out-moved : (a : Act) → Took t s n a f s′ → f ≡ Effect.Moved → (top : ℕ) → top ≡ root t (functions t)
-        → (r : Reply) → r ≡ pick (eqb (entry (s′ .status) 0 top) 3) (answered (entry (s′ .value) 0 top)) taken
-        → _≡_ {A = Stepped} (record { answer = r; state = s′ }) (Out a)
-    out-moved stuck h p top et r er = absurd (clash Effect.Moved Effect.Stuck p (h .0) refl refl)
-    out-moved blocked h p top et r er = absurd (clash Effect.Moved Effect.Blocked p (h .0) refl refl)
-    out-moved (does m) h p top et r er =
-        let e : top ≡ id (bodyOf t (functions t)) = et ∙ sym (main-root t fair) in
-        let f : r ≡ told (id (bodyOf t (functions t))) (view s′) =
-        er ∙ ap (λ x. pick (eqb (entry (s′ .status) 0 x) 3) (answered (entry (s′ .value) 0 x)) taken) e in
-        (λ i. record { answer = f i; state = s′ }) ∙ ap (λ u. record {
-          answer = told (id (bodyOf t (functions t))) (view u);
-          state = u;
-        }) (h .1)
-
-  pub out-goes : (a : Act) → IsTaken (Out a .answer) → goes a ≡ true
-  out-goes stuck h = absurd h
-  out-goes blocked h = absurd h
-  out-goes (does m) h = refl
-
-  pub goes-out : (a : Act) → goes a ≡ true → IsTaken (Out a .answer)
-  goes-out stuck e = let z : _≡_ {A = ℕ} 0 1 = cc in absurd (omega arith)
-  goes-out blocked e = let z : _≡_ {A = ℕ} 0 1 = cc in absurd (omega arith)
-  goes-out (does m) e = told-taken (done (view (perform (nodes t) (owner t) (bodyOf t) s n m)) (id (bodyOf t (functions t)))) _
+  pub out-moved : (p : Plan) → Planned t s n p → (s′ : State512) → s′ ≡ performed t s n p → (top : ℕ) → top ≡ root t (functions t)
+      → (r : Reply) → r ≡ pick (eqb (entry (s′ .status) 0 top) 3) (answered (entry (s′ .value) 0 top)) taken
+      → _≡_ {A = Stepped} (record { answer = r; state = s′ }) (Out (actOf t s n))
+  out-moved p q s′ h top et r er =
+      let e : top ≡ id (bodyOf t (functions t)) = et ∙ sym (main-root t fair) in
+      let f : r ≡ told (id (bodyOf t (functions t))) (view s′) =
+      er ∙ ap (λ x. pick (eqb (entry (s′ .status) 0 x) 3) (answered (entry (s′ .value) 0 x)) taken) e in
+      (λ i. record { answer = f i; state = s′ }) ∙ ap (λ u. record {
+        answer = told (id (bodyOf t (functions t))) (view u);
+        state = u;
+      }) h ∙ ap Out q
 
   out-stands : n ≤ nodes t → Stands t s → (a : Act) → Stands t (Out a .state)
   out-stands h st stuck = st

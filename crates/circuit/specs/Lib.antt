@@ -1,4 +1,5 @@
 pub mod Meaning
 pub mod Working
 pub mod Packed
+pub mod Following
 pub mod Entries

@@ -9,7 +9,8 @@ use Rattle.rules.specs.State.{State512}
 use Rattle.rules.specs.Step.{Reply, taken, answered, denied, Stepped}
 use Rattle.rules.specs.Circuit.{Started, started, turned, stateOf}
 use Rattle.rules.specs.Runs.{Halt, whole, stopped, Ran, Ended, gave, atRest, spent, barred, Driven, Found, names, nothing, unasked}
-use Rattle.rules.specs.Runs.{standing, runOf, Drives}
+use Rattle.rules.specs.Runs.{standing, runOf}
+use Rattle.rules.specs.First.{driveOf}
 use Rattle.circuit.specs.declared.types.State.{State}
 use Rattle.circuit.specs.declared.types.Answer.{Answer}
 use Rattle.circuit.specs.declared.types.Answer.the-variants as Answer
@@ -100,11 +101,11 @@ endedOf (EndedCode.Refused k p) = barred k (p .0)
 abbrev pub drivenOf : DrivenCode → Driven
 drivenOf r = record { steps = r .steps; ended = endedOf (r .ended); state = listsOf (r .state) }
 
--- the same of a run with a budget, which takes so many `steps`
+-- the same of a run with a budget
 pub record DrivenLent (t tags : List ℕ) (s : State512) (budget old : ℕ) (e : EndedCode) (s′ : State512) (k : ℕ) : Type 0 where
-  pub steps : ℕ
-  pub drives : Drives t tags s budget (record { steps = steps; ended = endedOf e; state = s′ })
-  pub count : k ≡ ifAccepted (standing t tags s) steps old
+  pub ended : endedOf e ≡ driveOf t tags s budget .ended
+  pub state : s′ ≡ driveOf t tags s budget .state
+  pub count : k ≡ ifAccepted (standing t tags s) (driveOf t tags s budget .steps) old
 
 -- what a query found, case by case
 abbrev pub foundOf : FoundCode → Found

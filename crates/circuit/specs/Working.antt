@@ -14,17 +14,15 @@ use Rattle.table.specs.declared.Checked.{Checked}
 use Rattle.list.specs.Tags.{checkWith}
 use Rattle.rules.specs.Arithmetic.{keepAll, arithmetic}
 use Rattle.rules.specs.State.{State512, entry}
-use Rattle.rules.specs.Step.{Act, stuck, blocked, does, Move, turns, finishes, enters, leaves, restarts, over, perform}
-use Rattle.rules.specs.Circuit.{actOf, playOf}
+use Rattle.rules.specs.Step.{Act, stuck, blocked, does, Move, begins, turns, finishes, enters, leaves, restarts, over, perform}
+use Rattle.rules.specs.Circuit.{actOf}
 use Rattle.rules.specs.Sets.{goes}
-use Rattle.rules.specs.Runs.{standing, Ended, Found, FindsAfter, Says, Ran, Driven}
-use Rattle.table.specs.Working.{IsNode, Taken, Read}
+use Rattle.rules.specs.Runs.{standing, Ran, Driven}
+use Rattle.table.specs.Working.{IsNode, IsFunction, Taken, Read}
 use Rattle.table.specs.Survey.{verdictOf}
 use Rattle.circuit.specs.Meaning.{stateAs, haltOf, endedOf}
 use Rattle.circuit.specs.declared.entries.RunEnd.{RunEnd}
 use Rattle.circuit.specs.declared.budget.DriveEnd.{DriveEnd}
-use Rattle.circuit.specs.declared.changes.Effect.{Effect}
-use Rattle.circuit.specs.declared.changes.Effect.the-variants as Effect
 use Rattle.circuit.specs.declared.plan.Plan.{Plan}
 use Rattle.circuit.specs.declared.plan.Plan.the-variants as Plan
 
@@ -70,33 +68,47 @@ unfoldable pub opens : List ℕ → ℕ → List ℕ
 opens t n = pick (eqb (kind t n) 5) (first t n ∷ []) (pick (eqb (kind t n) 6) (initial (children t n)) (children t n))
 
 -- what a plan says, of node n
-abbrev pub planned : List ℕ → List ℕ → ℕ → Plan → Act
-planned t value n Plan.Stuck = stuck
-planned t value n Plan.Blocked = blocked
-planned t value n (Plan.Turns m) = does (turns (m .0))
-planned t value n (Plan.Finishes v) = does (finishes v)
-planned t value n (Plan.Enters g true) = does (enters (g .0) (keptBy t value (g .0) n))
-planned t value n (Plan.Enters g false) = does (restarts (g .0) (keptBy t value (g .0) n))
-planned t value n (Plan.Leaves g v) = does (leaves (g .0) v)
+abbrev pub planned : List ℕ → List ℕ → ℕ → Plan → Move
+planned t value n Plan.Begins = begins (opens t n)
+planned t value n (Plan.Turns m) = turns (m .0)
+planned t value n (Plan.Finishes v) = finishes v
+planned t value n (Plan.Enters g true) = enters (g .0) (keptBy t value (g .0) n)
+planned t value n (Plan.Enters g false) = restarts (g .0) (keptBy t value (g .0) n)
+planned t value n (Plan.Leaves g v) = leaves (g .0) v
+
+-- the plan is the move that node n has
+abbrev pub Planned : (t : List ℕ) → State512 → ℕ → Plan → Type 0
+Planned t s n p = does (planned t (s .value) n p) ≡ actOf t s n
+
+-- .. if it has one
+abbrev pub Plans : (t : List ℕ) → State512 → ℕ → Plan → Type 0
+Plans t s n p = goes (actOf t s n) ≡ true → Planned t s n p
+
+-- the state that it makes
+abbrev pub performed : (t : List ℕ) → State512 → ℕ → Plan → State512
+performed t s n p = perform (nodes t) (owner t) (bodyOf t) s n (planned t (s .value) n p)
+
+-- node n has a move, and it is made
+abbrev pub Made : (t : List ℕ) → State512 → ℕ → State512 → Type 0
+Made t s n s′ = (p : Plan) × Planned t s n p × (s′ ≡ performed t s n p)
+
+-- what it names is there
+abbrev pub Sound : List ℕ → Plan → Type 0
+Sound t Plan.Begins = Unit {0}
+Sound t (Plan.Turns m) = IsNode t (m .0)
+Sound t (Plan.Finishes v) = Unit {0}
+Sound t (Plan.Enters g anew) = IsFunction t (g .0)
+Sound t (Plan.Leaves g v) = IsFunction t (g .0)
 
 -- node r once it is done: the value goes on
 abbrev pub passed : (status value : List ℕ) → ℕ → Act
 passed status value r = pick (eqb (entry status 0 r) 3) (does (finishes (entry value 0 r))) stuck
 
--- what is done at a node that has this step: the effect says which, and the state after it
-abbrev pub Took : (t : List ℕ) → State512 → ℕ → Act → Effect → State512 → Type 0
-Took t s n stuck e s′ = (e ≡ Effect.Stuck) × (s′ ≡ s)
-Took t s n blocked e s′ = (e ≡ Effect.Blocked) × (s′ ≡ s)
-Took t s n (does m) e s′ = (e ≡ Effect.Moved) × (s′ ≡ perform (nodes t) (owner t) (bodyOf t) s n m)
-
--- a node that has a move, and it is made
-abbrev pub Made : (t : List ℕ) → State512 → ℕ → State512 → Type 0
-Made t s n s′ = Took t s n (actOf t s n) Effect.Moved s′
-
-abbrev pub movedOf : Effect → Bool
-movedOf Effect.Stuck = false
-movedOf Effect.Blocked = false
-movedOf Effect.Moved = true
+-- why a node has no step, 0 where it has one
+abbrev pub whyNot : (tagged : Bool) → Act → ℕ
+whyNot tagged stuck = 21
+whyNot tagged blocked = pick tagged 22 23
+whyNot tagged (does m) = 0
 
 -- 24 is met: some status up to N is over 3, or some occupant up to F over N
 abbrev pub strayIn : (t status occupant : List ℕ) → Bool
@@ -120,41 +132,6 @@ pub record Admitted (t tags status occupant : List ℕ) (r : Checked) (cells : L
 pub record Agreed (t tags : List ℕ) : Type 0 where
   pub fair : Taken t
   pub tagging : checkWith t tags ≡ accepted (functions t) (nodes t)
-
--- a node that has a move, or 0 if there is none
-pub record FoundAt (t : List ℕ) (s : State512) (r : ℕ) : Type 0 where
-  pub none : r ≡ 0 → (n : ℕ) → IsNode t n → goes (actOf t s n) ≡ true → ⊥
-  pub some : (r ≡ 0 → ⊥) → IsNode t r × (goes (actOf t s r) ≡ true)
-
--- a step tried at a number: taken, else nothing is changed
-pub record Tried (t : List ℕ) (s : State512) (n : ℕ) (e : Effect) (s′ : State512) : Type 0 where
-  pub taken : movedOf e ≡ true → IsNode t n × ((m : Move) × (actOf t s n ≡ does m) × (s′ ≡ perform (nodes t) (owner t) (bodyOf t) s n m))
-  pub left : movedOf e ≡ false → (s′ ≡ s) × (IsNode t n → goes (actOf t s n) ≡ false)
-  pub took : IsNode t n → Took t s n (actOf t s n) e s′
-
--- the steps picked so far
-pub record DroveTo (t tags : List ℕ) (s₀ s : State512) (k : ℕ) : Type 0 where
-  pub picked : List ℕ
-  pub possible : playOf t tags s₀ picked .nodes ≡ picked
-  pub number : length picked ≡ k
-  pub state : playOf t tags s₀ picked .state ≡ s
-  pub stands : Stands t s
-
--- k steps from node n on, up to a budget, while the node at `top` isn't done: they add to those picked before, a budget of 1 makes the step
--- of n, and there is one if n has a move
-pub record Went (t : List ℕ) (top n budget : ℕ) (s : State512) (k : ℕ) (e : Effect) (s′ : State512) : Type 0 where
-  pub within : k ≤ budget
-  pub drove : (tags : List ℕ) (s₀ : State512) (j : ℕ) → Agreed t tags → top ≡ root t (functions t) → DroveTo t tags s₀ s j
-      → DroveTo t tags s₀ s′ (j + k)
-  pub once : budget ≡ 1 → Took t s n (actOf t s n) e s′
-  pub moves : goes (actOf t s n) ≡ true → 1 ≤ k
-
--- what is true of a query's answer where table, tags and 24 are passed, and of how a run with a budget stands
-abbrev pub FindsIn : (t tags : List ℕ) → State512 → Found → Type 0
-FindsIn t tags s r = FindsAfter (accepted (functions t) (nodes t)) t tags s r
-
-abbrev pub EndsIn : (t tags : List ℕ) → State512 → Ended → Type 0
-EndsIn t tags = Says t tags 0 0
 
 -- a run's end beside the state that it leaves in the lent arrays
 abbrev pub ranAs : RunEnd → State512 → Ran

@@ -1,7 +1,8 @@
 // Occupants as plain numbers, to be lent, and back.
 use table::Node;
 ghost use mathlib.Core.Path.{_≡_};
-ghost use Rattle.circuit.specs.Meaning.{numbers};
+ghost use Rattle.rules.specs.State.{Sized};
+ghost use Rattle.circuit.specs.Meaning.{numbers, stateAs};
 
 pub fn plain(raw: [Node; 32]) -> [u16; 32]
     ensures { λ r. ⌜ r ≡ numbers raw ⌝ }
@@ -26,4 +27,16 @@ pub fn named(raw: [u16; 32]) -> [Node; 32]
         i += 1;
     }
     r
+}
+
+// The arrays of a state have their lengths: of a lent array that is no fact, of one by value it is. Compiled, nothing is left of this.
+pub(crate) fn whole(
+    status: [u8; 512],
+    second: [bool; 512],
+    value: [u32; 512],
+    registers: [u32; 256],
+    occupant: [u16; 32],
+)
+    ensures { λ _. ⌜ Sized (stateAs status second value registers occupant) ⌝ }
+{
 }

@@ -1,23 +1,26 @@
 // The query and the run with a budget, of a table and tags that were checked and a state that passed 24.
-use crate::course;
+use crate::arrays;
 use crate::groups;
-use crate::search;
+use crate::sets;
+use crate::sets::Set;
+use crate::steps;
 use crate::store;
+use crate::tracking;
 use crate::turn;
 use crate::types::Ended;
 use crate::types::Found;
 use table::Node;
+use table::decoded;
 use table::decoded::Cells;
 ghost use mathlib.Core.Path.{_≡_};
-ghost use mathlib.Core.Bool.{not, _&&_};
-ghost use lib.Dec.{eqb, ltb};
-ghost use Prim.Native.Nat.{_≤_};
-ghost use Rattle.table.specs.Bytes.{functions, root};
-ghost use Rattle.rules.specs.State.{entry};
-ghost use Rattle.rules.specs.Runs.{Picks};
-ghost use Rattle.circuit.specs.Meaning.{foundOf, endedOf, stateAs};
-ghost use Rattle.circuit.specs.Working.{Agreed, Stands, FindsIn, EndsIn, drivenAs};
+ghost use mathlib.Core.List.{List};
+ghost use Prim.Native.Nat.{ℕ, _≤_};
 ghost use Rattle.table.specs.Working.{Read};
+ghost use Rattle.rules.specs.First.{firstOf, foundAt, driveFrom};
+ghost use Rattle.circuit.specs.Meaning.{foundOf, endedOf, stateAs};
+ghost use Rattle.circuit.specs.Working.{Agreed, Stands, drivenAs};
+ghost use Rattle.circuit.specs.Packed.{setsAs};
+ghost use Rattle.circuit.specs.Following.{standsAt};
 
 // How a run with a budget ended, and after how many steps.
 pub struct DriveEnd {
@@ -25,7 +28,7 @@ pub struct DriveEnd {
     pub ended: Ended,
 }
 
-// None once main's root is done, else the first node that has a move.
+// None once main's root is done, else the first node that has a step.
 pub(crate) fn query(
     table: &[u8],
     cells: &Cells,
@@ -38,83 +41,49 @@ pub(crate) fn query(
 ) -> Found
     requires { ⌜ Read (now table) (now cells) × Agreed (now table) (now tags)
         × Stands (now table) (stateAs (now status) (now second) (now value) (now registers) (now occupant)) ⌝ }
-    ensures { λ r. ⌜ FindsIn (now (table .entry)) (now (tags .entry))
-        (stateAs (now (status .entry)) (now (second .entry)) (now (value .entry)) (now (registers .entry)) (now (occupant .entry)))
-        (foundOf r) ⌝ }
+    ensures { λ r. ⌜ foundOf r ≡ foundAt (firstOf (now (table .entry)) (now (tags .entry))
+        (stateAs (now (status .entry)) (now (second .entry)) (now (value .entry)) (now (registers .entry)) (now (occupant .entry)))) ⌝ }
 {
     let top = turn::top(table, cells);
     if store::status_at(status, top) == 3 {
         return Found::Nothing;
     }
-    let n = search::find(
-        table,
-        cells,
-        status,
-        second,
-        value,
-        registers,
-        occupant,
-        top,
-    );
-    if n.0 == 0 {
-        return Found::Nothing;
+    let last = decoded::last(cells);
+    let end = last.0;
+    let mut n: u16 = 0;
+    while n < end {
+        n += 1;
+        if turn::why_not(table, cells, tags, status, second, value, occupant, Node(n)) == 0 {
+            return Found::Possible(Node(n));
+        }
     }
-    Found::Possible(n)
+    Found::Nothing
 }
 
 // How the run stands: answered, then at rest, then spent.
 fn end_of(
-    table: &[u8],
-    cells: &Cells,
-    tags: &[u8],
     status: &[u8; 512],
-    second: &[bool; 512],
     value: &[u32; 512],
-    registers: &[u32; 256],
-    occupant: &[u16; 32],
+    armed: &Set,
+    waiting: &Set,
+    held: &Set,
     top: Node,
 ) -> Ended
-    requires { ⌜ Read (now table) (now cells) × Agreed (now table) (now tags) × (top .0 ≡ root (now table) (functions (now table)))
-        × (1 ≤ top .0) × (top .0 ≤ 512)
-        × Stands (now table) (stateAs (now status) (now second) (now value) (now registers) (now occupant)) ⌝ }
-    ensures { λ r. ⌜ EndsIn (now (table .entry)) (now (tags .entry)) (stateAs (now (status .entry)) (now (second .entry))
-        (now (value .entry))
-        (now (registers .entry)) (now (occupant .entry))) (endedOf r) ⌝ }
+    requires { ⌜ (1 ≤ top .0) × (top .0 ≤ 512) ⌝ }
+    ensures { λ r. ⌜ ((inside : List ℕ) → endedOf r ≡ standsAt (now (status .entry)) (now (value .entry)) (top .0)
+        (setsAs (now (armed .entry)) (now (waiting .entry)) inside (now (held .entry)))) ⌝ }
 {
     if store::status_at(status, top) == 3 {
         return Ended::Answered(store::value_at(value, top));
     }
-    let n = search::find(
-        table,
-        cells,
-        status,
-        second,
-        value,
-        registers,
-        occupant,
-        top,
-    );
+    let n = sets::first(armed, waiting, held);
     if n.0 == 0 {
         return Ended::AtRest;
     }
     Ended::Spent
 }
 
-// Whether the run goes on: main's root isn't done, a step may be possible, and the budget isn't spent.
-fn going(status: &[u8; 512], top: Node, taken: u32, budget: u32, rest: bool) -> bool
-    requires { ⌜ top .0 ≤ 512 ⌝ }
-    ensures { λ r. ⌜ r ≡ (not rest && (ltb taken budget && not (eqb (entry (now (status .entry)) 0 (top .0)) 3))) ⌝ }
-{
-    if rest {
-        return false;
-    }
-    if taken < budget {
-        return store::status_at(status, top) != 3;
-    }
-    false
-}
-
-// Possible steps, as many as the budget at most.
+// First steps, as many as the budget at most.
 pub(crate) fn drive(
     table: &[u8],
     cells: &Cells,
@@ -128,62 +97,58 @@ pub(crate) fn drive(
 ) -> DriveEnd
     requires { ⌜ Read (now table) (now cells) × Agreed (now table) (now tags)
         × Stands (now table) (stateAs (now status) (now second) (now value) (now registers) (now occupant)) ⌝ }
-    ensures { λ r. ⌜ Picks (now (table .entry)) (now (tags .entry))
-        (stateAs (now (status .entry)) (now (second .entry)) (now (value .entry)) (now (registers .entry)) (now (occupant .entry))) budget
-        (drivenAs r
-        (stateAs (now (status .exit)) (now (second .exit)) (now (value .exit)) (now (registers .exit)) (now (occupant .exit)))) ⌝ }
+    ensures { λ r. ⌜ drivenAs r
+        (stateAs (now (status .exit)) (now (second .exit)) (now (value .exit)) (now (registers .exit)) (now (occupant .exit)))
+        ≡ driveFrom (now (table .entry)) (now (tags .entry))
+        (stateAs (now (status .entry)) (now (second .entry)) (now (value .entry)) (now (registers .entry)) (now (occupant .entry)))
+        budget ⌝ }
 {
+    arrays::whole(*status, *second, *value, *registers, *occupant);
     let g = groups::group(table, cells);
     let heads = g.heads;
     let links = g.links;
+    let mut rows = [0u64; 520];
+    let mut armed = [0u64; 8];
+    let mut waiting = [0u64; 8];
+    let mut inside = [0u64; 8];
+    let mut held = [0u64; 8];
+    tracking::fill(
+        table,
+        cells,
+        status,
+        second,
+        value,
+        occupant,
+        &mut rows,
+        &mut armed,
+        &mut waiting,
+        &mut inside,
+        &mut held,
+    );
     let top = turn::top(table, cells);
-    let mut taken: u32 = 0;
-    let mut rest = false;
-    while going(status, top, taken, budget, rest) {
-        let n = search::find(
-            table,
-            cells,
-            status,
-            second,
-            value,
-            registers,
-            occupant,
-            top,
-        );
-        if n.0 == 0 {
-            rest = true;
-        } else {
-            let course = course::go(
-                table,
-                cells,
-                true,
-                &heads,
-                &links,
-                status,
-                second,
-                value,
-                registers,
-                occupant,
-                top,
-                budget - taken,
-                n,
-            );
-            taken += course.steps;
-        }
-    }
-    let ended = end_of(
+    let n = sets::first(&armed, &waiting, &held);
+    let steps = steps::go(
         table,
         cells,
         tags,
+        true,
+        &heads,
+        &links,
+        true,
+        &rows,
+        &mut armed,
+        &mut waiting,
+        &mut inside,
+        &mut held,
         status,
         second,
         value,
         registers,
         occupant,
         top,
+        budget,
+        n,
     );
-    DriveEnd {
-        steps: taken,
-        ended,
-    }
+    let ended = end_of(status, value, &armed, &waiting, &held, top);
+    DriveEnd { steps, ended }
 }

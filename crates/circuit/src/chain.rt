@@ -37,7 +37,7 @@ pub(crate) fn all_done(table: &[u8], cells: &Cells, status: &[u8; 512], c: Node,
 }
 
 // Whether a node of a let, before `on`, is its body.
-fn ends(on: Node, defs: bool) -> bool
+pub(crate) fn ends(on: Node, defs: bool) -> bool
     ensures { λ r. ⌜ r ≡ (defs && eqb (on .0) 0) ⌝ }
 {
     if defs { on.0 == 0 } else { false }

@@ -1,7 +1,6 @@
 // What a step changes.
 use crate::chain;
 use crate::groups;
-use crate::plan;
 use crate::plan::Plan;
 use crate::store;
 use crate::widths;
@@ -11,17 +10,16 @@ use table::decoded;
 use table::decoded::Cells;
 ghost use mathlib.Core.Path.{_≡_};
 ghost use mathlib.Core.Bool.{true, false};
-ghost use mathlib.Core.List.{List, [], map};
-ghost use Prim.Native.Nat.{ℕ, _≤_};
+ghost use mathlib.Core.List.{[], map};
+ghost use Prim.Native.Nat.{_≤_};
 ghost use Rattle.table.specs.Bytes.{nodes, root};
 ghost use Rattle.table.specs.Naming.{owner, chain};
 ghost use Rattle.table.specs.Working.{IsNode, IsFunction, Read};
 ghost use Rattle.rules.specs.Arithmetic.{keepAll, arithmetic};
 ghost use Rattle.rules.specs.State.{entry, write, opened, clear, fill};
 ghost use Rattle.rules.specs.Step.{mine};
-ghost use Rattle.rules.specs.Circuit.{actOf};
 ghost use Rattle.circuit.specs.Meaning.{stateAs};
-ghost use Rattle.circuit.specs.Working.{Grouped, opens, Took, Made};
+ghost use Rattle.circuit.specs.Working.{Grouped, opens, Planned, performed};
 
 // The registers of g, all zero.
 fn blank(registers: &mut [u32; 256], g: Function)
@@ -137,81 +135,8 @@ fn reset(
     store::set_status(status, r, 1);
 }
 
-// Where to look after node n is done: its next sibling if that is open, else its parent; of a root, the call that waits for it.
-fn onward(table: &[u8], cells: &Cells, status: &[u8; 512], occupant: &[u16; 32], n: Node) -> Node
-    requires { ⌜ Read (now table) (now cells) × IsNode (now table) (n .0) ⌝ }
-{
-    let on = decoded::next(cells, n);
-    if store::status_at(status, on) == 1 {
-        return on;
-    }
-    let p = decoded::parent(cells, n);
-    if p.0 != 0 {
-        return p;
-    }
-    store::occupant_at(occupant, decoded::owner(cells, n))
-}
-
-// What came of a step that was tried: none, for a cause of its own or since the resource is occupied, or the move is made.
-pub enum Effect {
-    Stuck,
-    Blocked,
-    Moved,
-}
-
-// Takes the step of an open node: a constant, a parameter or a bound is done, any other opens children. `on` gets where to look next.
-// Who has children has begun, whatever its kind: most open nodes are told by that test alone.
-pub(crate) fn take_open(
-    table: &[u8],
-    cells: &Cells,
-    status: &mut [u8; 512],
-    second: &mut [bool; 512],
-    value: &mut [u32; 512],
-    registers: &[u32; 256],
-    occupant: &[u16; 32],
-    n: Node,
-    on: &mut u16,
-)
-    requires { ⌜ Read (now table) (now cells) × IsNode (now table) (n .0) × (entry (now status) 0 (n .0) ≡ 1) ⌝ }
-    ensures { λ _. ⌜ ((e : List ℕ) → Made (now (table .entry))
-        (stateAs (now (status .entry)) (now (second .entry)) (now (value .entry)) (now (registers .entry)) e) (n .0)
-        (stateAs (now (status .exit)) (now (second .exit)) (now (value .exit)) (now (registers .entry)) e)) ⌝ }
-{
-    let c = decoded::first(cells, n);
-    if c.0 != 0 {
-        begin(table, cells, status, n);
-        *on = c.0;
-        return;
-    }
-    let kind = decoded::kind(cells, n);
-    match kind {
-        1 => {
-            finish(status, second, value, n, decoded::word(cells, n));
-            *on = onward(table, cells, status, occupant, n).0;
-        }
-        2 => {
-            let v = store::register_at(
-                registers,
-                decoded::owner(cells, n),
-                decoded::extra(cells, n),
-            );
-            finish(status, second, value, n, v);
-            *on = onward(table, cells, status, occupant, n).0;
-        }
-        7 => {
-            let v = store::value_at(value, decoded::definiens(cells, n));
-            finish(status, second, value, n, v);
-            *on = onward(table, cells, status, occupant, n).0;
-        }
-        _ => {
-            begin(table, cells, status, n);
-            *on = n.0;
-        }
-    }
-}
-
-// Takes the step of a node that isn't open, if it has one. `on` gets where to look next.
-pub(crate) fn take_busy(
+// Makes the move of node n that is planned.
+pub(crate) fn perform(
     table: &[u8],
     cells: &Cells,
     grouped: bool,
@@ -223,35 +148,23 @@ pub(crate) fn take_busy(
     registers: &mut [u32; 256],
     occupant: &mut [u16; 32],
     n: Node,
-    on: &mut u16,
-) -> Effect
-    requires { ⌜ Read (now table) (now cells) × IsNode (now table) (n .0) × (entry (now status) 0 (n .0) ≡ 1 → ⊥)
-        × (grouped ≡ true → Grouped (now table) (now heads) (now links)) ⌝ }
-    ensures { λ r. ⌜ Took (now (table .entry))
+    plan: Plan,
+)
+    requires { ⌜ Read (now table) (now cells) × IsNode (now table) (n .0)
+        × (grouped ≡ true → Grouped (now table) (now heads) (now links))
+        × Planned (now table) (stateAs (now status) (now second) (now value) (now registers) (now occupant)) (n .0) plan ⌝ }
+    ensures { λ _. ⌜ stateAs (now (status .exit)) (now (second .exit)) (now (value .exit)) (now (registers .exit)) (now (occupant .exit))
+        ≡ performed (now (table .entry))
         (stateAs (now (status .entry)) (now (second .entry)) (now (value .entry)) (now (registers .entry)) (now (occupant .entry)))
-        (n .0)
-        (actOf (now (table .entry)) (stateAs (now (status .entry)) (now (second .entry)) (now (value .entry)) (now (registers .entry))
-        (now (occupant .entry))) (n .0)) r
-        (stateAs (now (status .exit)) (now (second .exit)) (now (value .exit)) (now (registers .exit)) (now (occupant .exit))) ⌝ }
+        (n .0) plan ⌝ }
 {
-    if store::status_at(status, n) != 2 {
-        return Effect::Stuck;
-    }
-    let p = plan::busy(table, cells, status, second, value, occupant, n);
-    match p {
-        Plan::Stuck => Effect::Stuck,
-        Plan::Blocked => Effect::Blocked,
+    match plan {
+        Plan::Begins => begin(table, cells, status, n),
         Plan::Turns(m) => {
             store::set_status(status, m, 1);
             store::set_second(second, n, true);
-            *on = m.0;
-            Effect::Moved
         }
-        Plan::Finishes(v) => {
-            finish(status, second, value, n, v);
-            *on = onward(table, cells, status, occupant, n).0;
-            Effect::Moved
-        }
+        Plan::Finishes(v) => finish(status, second, value, n, v),
         Plan::Enters(g, anew) => {
             let c = decoded::first(cells, n);
             reset(
@@ -267,19 +180,14 @@ pub(crate) fn take_busy(
                 g,
                 c,
             );
-            *on = decoded::root(cells, g).0;
             if anew {
                 store::set_second(second, n, true);
                 store::set_occupant(occupant, g, n);
-                return Effect::Moved;
             }
-            Effect::Moved
         }
         Plan::Leaves(g, v) => {
             finish(status, second, value, n, v);
             store::set_occupant(occupant, g, Node(0));
-            *on = onward(table, cells, status, occupant, n).0;
-            Effect::Moved
         }
     }
 }

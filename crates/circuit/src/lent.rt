@@ -13,7 +13,7 @@ use table::Checked;
 use table::Node;
 ghost use mathlib.Core.Path.{_≡_};
 ghost use Rattle.rules.specs.Circuit.{startOf, stepOf};
-ghost use Rattle.rules.specs.Runs.{Finds};
+ghost use Rattle.rules.specs.First.{queryOf};
 ghost use Rattle.circuit.specs.Meaning.{OpenedAs, stateAs, steppedAs, RanLent, foundOf, DrivenLent};
 
 // The circuit's start: the table, its tags, 11; then main's registers hold the arguments and its root is open, all else is zero.
@@ -125,7 +125,7 @@ pub fn run(
     }
 }
 
-// A possible step, any one, or none: the table, its tags and 24 are checked first.
+// The first possible step, or none: the table, its tags and 24 are checked first.
 pub fn query(
     table: &[u8],
     tags: &[u8],
@@ -135,9 +135,8 @@ pub fn query(
     registers: &[u32; 256],
     occupant: &[u16; 32],
 ) -> Found
-    ensures { λ r. ⌜ Finds (now (table .entry)) (now (tags .entry))
-        (stateAs (now (status .entry)) (now (second .entry)) (now (value .entry)) (now (registers .entry)) (now (occupant .entry)))
-        (foundOf r) ⌝ }
+    ensures { λ r. ⌜ foundOf r ≡ queryOf (now (table .entry)) (now (tags .entry))
+        (stateAs (now (status .entry)) (now (second .entry)) (now (value .entry)) (now (registers .entry)) (now (occupant .entry))) ⌝ }
 {
     let mut cells = [0u16; 3270];
     let checked = admission::admit(table, tags, status, occupant, &mut cells);
@@ -156,7 +155,7 @@ pub fn query(
     }
 }
 
-// Possible steps up to a budget: the table, its tags and 24 are checked before the first of them. `count` as in a run over a list.
+// First steps up to a budget: the table, its tags and 24 are checked before the first of them. `count` as in a run over a list.
 pub fn drive(
     table: &[u8],
     tags: &[u8],

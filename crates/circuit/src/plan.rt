@@ -1,4 +1,4 @@
-// The step that a busy node has, read off its record and the state; nothing is changed here.
+// The move of a node that has one, read off its record and the state; nothing is changed here, and whether there is one is not asked again.
 use crate::chain;
 use crate::store;
 use crate::widths;
@@ -9,208 +9,155 @@ use table::decoded::Cells;
 ghost use mathlib.Core.Path.{_≡_};
 ghost use mathlib.Core.Bool.{Bool};
 ghost use mathlib.Core.List.{List};
-ghost use Prim.Native.Nat.{ℕ, _≤_};
-ghost use lib.Dec.{eqb};
-ghost use Rattle.table.specs.Pick.{pick};
-ghost use Rattle.table.specs.Bytes.{kind, word, next};
-ghost use Rattle.rules.specs.State.{entry};
+ghost use Prim.Native.Nat.{ℕ};
+ghost use Rattle.table.specs.Bytes.{kind, word};
 ghost use Rattle.table.specs.Naming.{owner};
 ghost use Rattle.table.specs.Working.{IsNode, Read};
-ghost use Rattle.rules.specs.Circuit.{actOf};
+ghost use Rattle.rules.specs.State.{entry};
 ghost use Rattle.circuit.specs.Meaning.{stateAs};
-ghost use Rattle.circuit.specs.Working.{planned, passed};
+ghost use Rattle.circuit.specs.Working.{Plans};
 
-// What a busy node would do: no step (21), none while the resource is occupied (22 or 23), or a move. A call enters its callee, anew, or
-// its own function once more; the arguments that it hands over are read off the table when it moves.
+// What a node does: it begins, opens another node, is done, enters its callee, anew, or its own function once more, or leaves its callee.
+// What a call hands over is read off the table when it moves.
 pub enum Plan {
-    Stuck,
-    Blocked,
+    Begins,
     Turns(Node),
     Finishes(u32),
     Enters(Function, bool),
     Leaves(Function, u32),
 }
 
-// By kind.
-pub(crate) fn busy(
+// By status.
+pub(crate) fn plan_at(
     table: &[u8],
     cells: &Cells,
     status: &[u8; 512],
     second: &[bool; 512],
     value: &[u32; 512],
-    occupant: &[u16; 32],
+    registers: &[u32; 256],
     n: Node,
 ) -> Plan
-    requires { ⌜ Read (now table) (now cells) × IsNode (now table) (n .0) × (entry (now status) 0 (n .0) ≡ 2) ⌝ }
-    ensures { λ r. ⌜ ((d : List ℕ) → planned (now (table .entry)) (now (value .entry)) (n .0) r
-        ≡ actOf (now (table .entry)) (stateAs (now (status .entry)) (now (second .entry)) (now (value .entry)) d
-        (now (occupant .entry))) (n .0)) ⌝ }
+    requires { ⌜ Read (now table) (now cells) × IsNode (now table) (n .0) ⌝ }
+    ensures { λ r. ⌜ ((e : List ℕ) → Plans (now (table .entry)) (stateAs (now (status .entry)) (now (second .entry)) (now (value .entry))
+        (now (registers .entry)) e) (n .0) r) ⌝ }
 {
+    if store::status_at(status, n) == 1 {
+        return of_open(table, cells, value, registers, n);
+    }
+    of_busy(table, cells, second, value, n)
+}
+
+// An open constant, parameter or bound is done, any other begins. Who has children begins, whatever its kind: most open nodes are told by
+// that test alone.
+fn of_open(table: &[u8], cells: &Cells, value: &[u32; 512], registers: &[u32; 256], n: Node) -> Plan
+    requires { ⌜ Read (now table) (now cells) × IsNode (now table) (n .0) ⌝ }
+    ensures { λ r. ⌜ ((a : List ℕ) (b : List Bool) (e : List ℕ) → entry a 0 (n .0) ≡ 1
+        → Plans (now (table .entry)) (stateAs a b (now (value .entry)) (now (registers .entry)) e) (n .0) r) ⌝ }
+{
+    let c = decoded::first(cells, n);
+    if c.0 != 0 {
+        return Plan::Begins;
+    }
     let kind = decoded::kind(cells, n);
     match kind {
-        3 => busy_primitive(table, cells, status, value, n),
-        4 => busy_call(table, cells, status, second, value, occupant, n),
-        5 => busy_if(table, cells, status, second, value, n),
-        6 => busy_let(table, cells, status, second, value, n),
-        _ => Plan::Stuck,
+        1 => Plan::Finishes(decoded::word(cells, n)),
+        2 => {
+            let f = decoded::owner(cells, n);
+            let i = decoded::extra(cells, n);
+            Plan::Finishes(store::register_at(registers, f, i))
+        }
+        7 => Plan::Finishes(store::value_at(value, decoded::definiens(cells, n))),
+        _ => Plan::Begins,
     }
 }
 
-// Done once all children are, with what its function keeps of the result.
-fn busy_primitive(
-    table: &[u8],
-    cells: &Cells,
-    status: &[u8; 512],
-    value: &[u32; 512],
-    n: Node,
-) -> Plan
-    requires { ⌜ Read (now table) (now cells) × IsNode (now table) (n .0) × (entry (now status) 0 (n .0) ≡ 2)
-        × (kind (now table) (n .0) ≡ 3) ⌝ }
-    ensures { λ r. ⌜ ((b : List Bool) (d e : List ℕ) → planned (now (table .entry)) (now (value .entry)) (n .0) r
-        ≡ actOf (now (table .entry)) (stateAs (now (status .entry)) b (now (value .entry)) d e) (n .0)) ⌝ }
+// A busy node, by kind; of no other kind is there a move.
+fn of_busy(table: &[u8], cells: &Cells, second: &[bool; 512], value: &[u32; 512], n: Node) -> Plan
+    requires { ⌜ Read (now table) (now cells) × IsNode (now table) (n .0) ⌝ }
+    ensures { λ r. ⌜ ((a d e : List ℕ) → (entry a 0 (n .0) ≡ 1 → ⊥)
+        → Plans (now (table .entry)) (stateAs a (now (second .entry)) (now (value .entry)) d e) (n .0) r) ⌝ }
+{
+    let kind = decoded::kind(cells, n);
+    match kind {
+        3 => of_primitive(table, cells, value, n),
+        4 => of_call(table, cells, second, value, n),
+        5 => of_if(table, cells, second, value, n),
+        6 => of_let(table, cells, second, value, n),
+        _ => Plan::Begins,
+    }
+}
+
+// Done with what its function keeps of the result.
+fn of_primitive(table: &[u8], cells: &Cells, value: &[u32; 512], n: Node) -> Plan
+    requires { ⌜ Read (now table) (now cells) × IsNode (now table) (n .0) × (kind (now table) (n .0) ≡ 3) ⌝ }
+    ensures { λ r. ⌜ ((a : List ℕ) (b : List Bool) (d e : List ℕ) → entry a 0 (n .0) ≡ 2
+        → Plans (now (table .entry)) (stateAs a b (now (value .entry)) d e) (n .0) r) ⌝ }
 {
     let c = decoded::first(cells, n);
-    if !chain::all_done(table, cells, status, c, false) {
-        return Plan::Stuck;
-    }
     let v = chain::operation(table, cells, value, decoded::extra(cells, n), c);
     Plan::Finishes(widths::keep(table, cells, decoded::owner(cells, n), v))
 }
 
-// A self call is one whose callee is its own function.
-fn busy_call(
-    table: &[u8],
-    cells: &Cells,
-    status: &[u8; 512],
-    second: &[bool; 512],
-    value: &[u32; 512],
-    occupant: &[u16; 32],
-    n: Node,
-) -> Plan
-    requires { ⌜ Read (now table) (now cells) × IsNode (now table) (n .0) × (entry (now status) 0 (n .0) ≡ 2)
-        × (kind (now table) (n .0) ≡ 4) ⌝ }
-    ensures { λ r. ⌜ ((d : List ℕ) → planned (now (table .entry)) (now (value .entry)) (n .0) r
-        ≡ actOf (now (table .entry)) (stateAs (now (status .entry)) (now (second .entry)) (now (value .entry)) d
-        (now (occupant .entry))) (n .0)) ⌝ }
+// A self call is one whose callee is its own function, and starts it again.
+fn of_call(table: &[u8], cells: &Cells, second: &[bool; 512], value: &[u32; 512], n: Node) -> Plan
+    requires { ⌜ Read (now table) (now cells) × IsNode (now table) (n .0) × (kind (now table) (n .0) ≡ 4) ⌝ }
+    ensures { λ r. ⌜ ((a d e : List ℕ) → entry a 0 (n .0) ≡ 2
+        → Plans (now (table .entry)) (stateAs a (now (second .entry)) (now (value .entry)) d e) (n .0) r) ⌝ }
 {
     let callee = decoded::callee(cells, n);
-    if callee.0 == decoded::owner(cells, n).0 {
-        return again(table, cells, status, n);
+    let own = decoded::owner(cells, n);
+    if callee.0 == own.0 {
+        return Plan::Enters(own, false);
     }
-    across(table, cells, status, second, value, occupant, callee, n)
+    of_other(table, cells, second, value, callee, n)
 }
 
-// A self call: its function starts again once the arguments are done.
-fn again(table: &[u8], cells: &Cells, status: &[u8; 512], n: Node) -> Plan
-    requires { ⌜ Read (now table) (now cells) × IsNode (now table) (n .0) × (entry (now status) 0 (n .0) ≡ 2)
-        × (kind (now table) (n .0) ≡ 4)
-        × (word (now table) (n .0) ≡ owner (now table) (n .0)) ⌝ }
-    ensures { λ r. ⌜ ((b : List Bool) (value d e : List ℕ) → planned (now (table .entry)) value (n .0) r
-        ≡ actOf (now (table .entry)) (stateAs (now (status .entry)) b value d e) (n .0)) ⌝ }
-{
-    let c = decoded::first(cells, n);
-    if chain::all_done(table, cells, status, c, false) {
-        Plan::Enters(decoded::owner(cells, n), false)
-    } else {
-        Plan::Stuck
-    }
-}
-
-// A call of another function g: it enters once the arguments are done and g is free, and leaves once g's root is done, with what its own
-// function keeps of the answer.
-fn across(
+// A call of another function g enters it, and in its second phase leaves it with what its own function keeps of the answer.
+fn of_other(
     table: &[u8],
     cells: &Cells,
-    status: &[u8; 512],
     second: &[bool; 512],
     value: &[u32; 512],
-    occupant: &[u16; 32],
     g: Function,
     n: Node,
 ) -> Plan
-    requires { ⌜ Read (now table) (now cells) × IsNode (now table) (n .0) × (entry (now status) 0 (n .0) ≡ 2)
-        × (kind (now table) (n .0) ≡ 4)
+    requires { ⌜ Read (now table) (now cells) × IsNode (now table) (n .0) × (kind (now table) (n .0) ≡ 4)
         × (g .0 ≡ word (now table) (n .0)) × (word (now table) (n .0) ≡ owner (now table) (n .0) → ⊥) ⌝ }
-    ensures { λ r. ⌜ ((d : List ℕ) → planned (now (table .entry)) (now (value .entry)) (n .0) r
-        ≡ actOf (now (table .entry)) (stateAs (now (status .entry)) (now (second .entry)) (now (value .entry)) d
-        (now (occupant .entry))) (n .0)) ⌝ }
+    ensures { λ r. ⌜ ((a d e : List ℕ) → entry a 0 (n .0) ≡ 2
+        → Plans (now (table .entry)) (stateAs a (now (second .entry)) (now (value .entry)) d e) (n .0) r) ⌝ }
 {
     if store::second_at(second, n) {
         let r = decoded::root(cells, g);
-        if store::status_at(status, r) != 3 {
-            return Plan::Stuck;
-        }
         let v = store::value_at(value, r);
         return Plan::Leaves(g, widths::keep(table, cells, decoded::owner(cells, n), v));
-    }
-    let c = decoded::first(cells, n);
-    if !chain::all_done(table, cells, status, c, false) {
-        return Plan::Stuck;
-    }
-    if store::occupant_at(occupant, g).0 != 0 {
-        return Plan::Blocked;
     }
     Plan::Enters(g, true)
 }
 
-// Once a condition is done the branch opens; once that is done, so is the if.
-fn busy_if(
-    table: &[u8],
-    cells: &Cells,
-    status: &[u8; 512],
-    second: &[bool; 512],
-    value: &[u32; 512],
-    n: Node,
-) -> Plan
-    requires { ⌜ Read (now table) (now cells) × IsNode (now table) (n .0) × (entry (now status) 0 (n .0) ≡ 2)
-        × (kind (now table) (n .0) ≡ 5) ⌝ }
-    ensures { λ r. ⌜ ((d e : List ℕ) → planned (now (table .entry)) (now (value .entry)) (n .0) r
-        ≡ actOf (now (table .entry)) (stateAs (now (status .entry)) (now (second .entry)) (now (value .entry)) d e) (n .0)) ⌝ }
+// Opens the branch, and is done with its value in the second phase.
+fn of_if(table: &[u8], cells: &Cells, second: &[bool; 512], value: &[u32; 512], n: Node) -> Plan
+    requires { ⌜ Read (now table) (now cells) × IsNode (now table) (n .0) × (kind (now table) (n .0) ≡ 5) ⌝ }
+    ensures { λ r. ⌜ ((a d e : List ℕ) → entry a 0 (n .0) ≡ 2
+        → Plans (now (table .entry)) (stateAs a (now (second .entry)) (now (value .entry)) d e) (n .0) r) ⌝ }
 {
     let a = decoded::first(cells, n);
     let r = chain::branch(table, cells, value, a);
     if store::second_at(second, n) {
-        return pass(status, value, r);
+        return Plan::Finishes(store::value_at(value, r));
     }
-    if store::status_at(status, a) == 3 {
-        return Plan::Turns(r);
-    }
-    Plan::Stuck
+    Plan::Turns(r)
 }
 
-// Once the definientia are done the body opens; once that is done, so is the let.
-fn busy_let(
-    table: &[u8],
-    cells: &Cells,
-    status: &[u8; 512],
-    second: &[bool; 512],
-    value: &[u32; 512],
-    n: Node,
-) -> Plan
-    requires { ⌜ Read (now table) (now cells) × IsNode (now table) (n .0) × (entry (now status) 0 (n .0) ≡ 2)
-        × (kind (now table) (n .0) ≡ 6) ⌝ }
-    ensures { λ r. ⌜ ((d e : List ℕ) → planned (now (table .entry)) (now (value .entry)) (n .0) r
-        ≡ actOf (now (table .entry)) (stateAs (now (status .entry)) (now (second .entry)) (now (value .entry)) d e) (n .0)) ⌝ }
+// Opens the body, and is done with its value in the second phase.
+fn of_let(table: &[u8], cells: &Cells, second: &[bool; 512], value: &[u32; 512], n: Node) -> Plan
+    requires { ⌜ Read (now table) (now cells) × IsNode (now table) (n .0) × (kind (now table) (n .0) ≡ 6) ⌝ }
+    ensures { λ r. ⌜ ((a d e : List ℕ) → entry a 0 (n .0) ≡ 2
+        → Plans (now (table .entry)) (stateAs a (now (second .entry)) (now (value .entry)) d e) (n .0) r) ⌝ }
 {
     let c = decoded::first(cells, n);
     let body = chain::last_of(table, cells, c);
     if store::second_at(second, n) {
-        return pass(status, value, body);
+        return Plan::Finishes(store::value_at(value, body));
     }
-    if chain::all_done(table, cells, status, c, true) {
-        return Plan::Turns(body);
-    }
-    Plan::Stuck
-}
-
-// Done with the value of r, once r is done.
-fn pass(status: &[u8; 512], value: &[u32; 512], r: Node) -> Plan
-    requires { ⌜ r .0 ≤ 512 ⌝ }
-    ensures { λ p. ⌜ ((t : List ℕ) (n : ℕ) → planned t (now (value .entry)) n p
-        ≡ passed (now (status .entry)) (now (value .entry)) (r .0)) ⌝ }
-{
-    if store::status_at(status, r) == 3 {
-        return Plan::Finishes(store::value_at(value, r));
-    }
-    Plan::Stuck
+    Plan::Turns(body)
 }

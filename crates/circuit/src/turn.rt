@@ -1,30 +1,60 @@
 // A step asked at a number, of a table and tags that were checked and a state that passed 24: 12, 20, then 21 to 23.
-use crate::changes::Effect;
-use crate::course;
+use crate::sorts;
+use crate::steps;
 use crate::store;
+use crate::tracking;
 use crate::types::Answer;
 use table::Node;
 use table::decoded;
 use table::decoded::Cells;
 ghost use mathlib.Core.Path.{_≡_};
 ghost use mathlib.Core.Bool.{true};
+ghost use mathlib.Core.List.{List};
 ghost use lib.Dec.{eqb};
-ghost use Prim.Native.Nat.{_≤_};
+ghost use Prim.Native.Nat.{ℕ, _≤_};
 ghost use Rattle.table.specs.Pick.{pick};
 ghost use Rattle.table.specs.Bytes.{functions, root};
-ghost use Rattle.table.specs.Working.{Read};
+ghost use Rattle.table.specs.Working.{IsNode, Read};
 ghost use Rattle.list.specs.Tags.{tagged};
 ghost use Rattle.rules.specs.State.{entry};
 ghost use Rattle.rules.specs.Step.{answered, taken};
-ghost use Rattle.rules.specs.Circuit.{circuitOf};
+ghost use Rattle.rules.specs.Circuit.{actOf, circuitOf};
 ghost use Rattle.circuit.specs.Meaning.{replyOf, steppedAs, stateAs};
-ghost use Rattle.circuit.specs.Working.{Grouped, Stands};
+ghost use Rattle.circuit.specs.Working.{Grouped, Stands, whyNot};
 
 // 22 for a tagged call, 23 for one that isn't.
 fn why_blocked(tags: &[u8], n: Node) -> u8
     ensures { λ r. ⌜ r ≡ pick (tagged (now (tags .entry)) (n .0)) 22 23 ⌝ }
 {
     if list::marks(tags, n) { 22 } else { 23 }
+}
+
+// Why a node has no step: 21 to 23, or 0 where it has one.
+pub(crate) fn why_not(
+    table: &[u8],
+    cells: &Cells,
+    tags: &[u8],
+    status: &[u8; 512],
+    second: &[bool; 512],
+    value: &[u32; 512],
+    occupant: &[u16; 32],
+    n: Node,
+) -> u8
+    requires { ⌜ Read (now table) (now cells) × IsNode (now table) (n .0) ⌝ }
+    ensures { λ r. ⌜ ((d : List ℕ) → r ≡ whyNot (tagged (now (tags .entry)) (n .0)) (actOf (now (table .entry))
+        (stateAs (now (status .entry)) (now (second .entry)) (now (value .entry)) d (now (occupant .entry))) (n .0))) ⌝ }
+{
+    let k = sorts::sort_at(table, cells, status, second, value, n);
+    if k == 2 {
+        return 0;
+    }
+    if k == 0 {
+        return 21;
+    }
+    if tracking::barred(table, cells, occupant, n) {
+        return why_blocked(tags, n);
+    }
+    0
 }
 
 // Main's root.
@@ -83,12 +113,28 @@ pub(crate) fn turn(
     if store::status_at(status, root) == 3 {
         return Answer::Refused(20, n);
     }
-    let course = course::go(
+    let why = why_not(table, cells, tags, status, second, value, occupant, n);
+    if why != 0 {
+        return Answer::Refused(why, n);
+    }
+    let none = [0u64; 1];
+    let mut armed = [0u64; 8];
+    let mut waiting = [0u64; 8];
+    let mut inside = [0u64; 8];
+    let mut held = [0u64; 8];
+    steps::go(
         table,
         cells,
+        tags,
         grouped,
         heads,
         links,
+        false,
+        &none,
+        &mut armed,
+        &mut waiting,
+        &mut inside,
+        &mut held,
         status,
         second,
         value,
@@ -98,10 +144,5 @@ pub(crate) fn turn(
         1,
         n,
     );
-    let effect = course.effect;
-    match effect {
-        Effect::Stuck => Answer::Refused(21, n),
-        Effect::Blocked => Answer::Refused(why_blocked(tags, n), n),
-        Effect::Moved => told(status, value, root),
-    }
+    told(status, value, root)
 }

@@ -1,6 +1,6 @@
 -- `query` meets its contract: the state is taken apart and asked.
 use mathlib.Core.Path.{subst}
-use Rattle.rules.specs.Runs.{Finds}
+use Rattle.rules.specs.First.{queryOf}
 use Rattle.circuit.specs.Meaning.{stateAs, foundOf}
 use borrow.Author.Needs.{needs}
 use Rattle.circuit.proofs.query.Statement.{statement}
@@ -17,8 +17,9 @@ returns c =
     let p : tie.After-plain = search in
     let s : tie.Start = search in
     let a = s .args .s in
-    subst (λ e. Finds (s .args .table .now) (s .args .tags .now) (stateAs (a .status) (a .second) (a .value) (a .registers) e)
-    (foundOf (c .query .result))) (p .plain .ensures) (c .query .ensures)
+    subst (λ e. foundOf (c .query .result)
+    ≡ queryOf (s .args .table .now) (s .args .tags .now) (stateAs (a .status) (a .second) (a .value) (a .registers) e)) (p .plain .ensures)
+    (c .query .ensures)
 
 pub query-spec : {M : Type 1} → statement M
 query-spec = tie.close (tie.spec plain-requires query-requires returns)

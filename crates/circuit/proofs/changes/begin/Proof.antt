@@ -4,7 +4,7 @@ use mathlib.Core.Path.{_≡_}
 use Rattle.table.specs.Bytes.{kind, first}
 use Rattle.table.proofs.Reading.{told}
 use Rattle.circuit.proofs.ChainLaws.{ok, first-in}
-use Rattle.circuit.proofs.TakeLaws.{begin-if, begin-let, begin-all}
+use Rattle.circuit.proofs.PerformLaws.{begin-if, begin-let, begin-all}
 use borrow.Author.Needs.{needs}
 use Rattle.circuit.proofs.changes.begin.Statement.{statement}
 use Rattle.circuit.proofs.changes.begin.Tie as tie

@@ -45,7 +45,7 @@ returns-2 c =
     let found : tie.After-admit = search in
     let s : tie.Start = search in
     let a = admitted-from _ _ (state s) _ _ (sym (found .admit .ensures .told _ _ _) ∙ ap verdictOf (is .enum-told .given .1)) in
-    driven-counted _ _ (state s) _ _ (c .drive .result) _ (stand-standing _ _ (a .0) (state s) (a .1)) (c .drive .ensures)
+    driven-counted _ _ (state s) _ _ _ _ (c .drive .result) _ (stand-standing _ _ (a .0) (state s) (a .1)) (c .drive .ensures)
 
 pub drive-spec : {M : Type 1} → statement M
 drive-spec =

@@ -4,7 +4,7 @@ use Rattle.table.specs.Survey.{verdictOf}
 use Rattle.rules.specs.State.{State512}
 use Rattle.circuit.specs.Meaning.{stateAs, foundOf}
 use Rattle.circuit.proofs.EntryLaws.{admitted-from, stand-standing}
-use Rattle.circuit.proofs.DriveLaws.{finds-refused, finds-on}
+use Rattle.circuit.proofs.LentLaws.{query-turned, query-goes}
 use borrow.Author.Needs.{needs}
 use Rattle.circuit.proofs.lent.query.Statement.{statement}
 use Rattle.circuit.proofs.lent.query.Tie as tie
@@ -36,7 +36,7 @@ returns c =
     let is : tie.After-checked = search in
     let found : tie.After-admit = search in
     let s : tie.Start = search in
-    finds-refused _ _ (state s) _ _ (sym (found .admit .ensures .told _ _ _) ∙ ap verdictOf (is .checked .given .1))
+    query-turned _ _ (state s) _ _ (sym (found .admit .ensures .told _ _ _) ∙ ap verdictOf (is .checked .given .1))
 
 returns-2 : tie.Need-returns-2
 returns-2 c =
@@ -44,7 +44,7 @@ returns-2 c =
     let found : tie.After-admit = search in
     let s : tie.Start = search in
     let a = admitted-from _ _ (state s) _ _ (sym (found .admit .ensures .told _ _ _) ∙ ap verdictOf (is .enum-told .given .1)) in
-    finds-on _ _ (state s) (foundOf (c .query .result)) (stand-standing _ _ (a .0) (state s) (a .1)) (c .query .ensures)
+    query-goes _ _ (state s) _ _ (stand-standing _ _ (a .0) (state s) (a .1)) (foundOf (c .query .result)) (c .query .ensures)
 
 pub query-spec : {M : Type 1} → statement M
 query-spec =
