@@ -3,6 +3,7 @@ pub mod StoreLaws
 pub mod ChainLaws
 pub mod OperationLaws
 pub mod WidthLaws
+pub mod PackedLaws
 pub mod ActBy
 pub mod PlanLaws
 pub mod SortLaws

@@ -10,7 +10,7 @@ use Rattle.table.specs.Bytes.{nodes}
 use Rattle.table.specs.Naming.{owner, parent}
 use Rattle.table.specs.Expressions.{exprAt, bodyOf}
 use Rattle.list.specs.Arbiters.{Test}
-use Rattle.list.specs.Working.{packed, Bit}
+use Rattle.list.specs.Working.{bitAt, packed, Bit}
 use Rattle.rules.specs.State.{State512}
 use Rattle.rules.specs.Step.{mine}
 use Rattle.rules.specs.Play.{calls}
@@ -20,6 +20,12 @@ use Rattle.rules.specs.Sets.{Sets, Exact, Stays, Ending, Renewing}
 pub record Packs (f : Test) (set : List ℕ) : Type 0 where
   pub size : length set ≡ 8
   pub bits : (m : ℕ) → Bit m → packed set m ≡ f m
+
+-- bit t is the lowest that is set of the k bits of x
+pub record LowBit (k x t : ℕ) : Type 0 where
+  pub inside : t < k
+  pub here : bitAt x t ≡ true
+  pub below : (j : ℕ) → j < t → bitAt x j ≡ false
 
 -- four packed sets, read by nodes
 abbrev pub setsAs : (armed waiting inside held : List ℕ) → Sets

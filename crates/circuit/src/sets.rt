@@ -10,7 +10,7 @@ ghost use lib.ListN.{length};
 ghost use Rattle.table.specs.Pick.{pick};
 ghost use Rattle.list.specs.Working.{packed, Bit, PutAt};
 ghost use Rattle.rules.specs.Sets.{firstIn};
-ghost use Rattle.circuit.specs.Packed.{Packs, setsAs};
+ghost use Rattle.circuit.specs.Packed.{Packs, setsAs, LowBit};
 
 pub type Set = [u64; 8];
 
@@ -26,7 +26,7 @@ fn bit(n: Node) -> u64
 
 // Puts node n into set k of the rows.
 pub(crate) fn put_at(rows: &mut Rows, k: usize, n: Node)
-    requires { ⌜ (k ≤ 64) × Bit (n .0) ⌝ }
+    requires { ⌜ (length (now rows) ≡ 520) × (k ≤ 64) × Bit (n .0) ⌝ }
     ensures { λ _. ⌜ PutAt k (n .0) (now (rows .entry)) (now (rows .exit)) ⌝ }
 {
     let m = n.0;
@@ -37,7 +37,7 @@ pub(crate) fn put_at(rows: &mut Rows, k: usize, n: Node)
 
 // Puts node n into a set or takes it out.
 pub(crate) fn mark(set: &mut Set, n: Node, here: bool)
-    requires { ⌜ Bit (n .0) ⌝ }
+    requires { ⌜ (length (now set) ≡ 8) × Bit (n .0) ⌝ }
     ensures { λ _. ⌜ Packs (λ m. pick (eqb (n .0) m) here (packed (now (set .entry)) m)) (now (set .exit)) ⌝ }
 {
     let k = n.0;
@@ -80,30 +80,39 @@ pub(crate) fn common(set: &Set, other: &Set) -> Set
     r
 }
 
-// Joins another set to a set.
+// Joins another set to a set. What is written is an array of its own, whose length is known.
 pub(crate) fn gain(set: &mut Set, other: &Set)
     ensures { λ _. ⌜ Packs (λ m. packed (now (set .entry)) m || packed (now (other .entry)) m) (now (set .exit)) ⌝ }
 {
+    let mut r = [0u64; 8];
     let mut i: usize = 0;
     while i < 8 {
-        let x = set[i];
-        let y = other[i];
-        set[i] = x | y;
+        r[i] = set[i] | other[i];
         i += 1;
     }
+    *set = r;
 }
 
-// Takes another set out of a set.
+// Takes another set out of a set, likewise.
 pub(crate) fn lose(set: &mut Set, other: &Set)
     ensures { λ _. ⌜ Packs (λ m. packed (now (set .entry)) m && not (packed (now (other .entry)) m)) (now (set .exit)) ⌝ }
 {
+    let mut r = [0u64; 8];
     let mut i: usize = 0;
     while i < 8 {
         let x = set[i];
-        let y = other[i];
-        set[i] = x ^ (x & y);
+        r[i] = x ^ (x & other[i]);
         i += 1;
     }
+    *set = r;
+}
+
+// The lowest bit of a word: a function of its own, since what is handed over by value is known to be below 2^64.
+fn low(x: u64) -> u16
+    requires { ⌜ (x ≡ 0 → ⊥) ⌝ }
+    ensures { λ r. ⌜ LowBit 64 x r ⌝ }
+{
+    u64::trailing_zeros(x) as u16
 }
 
 // The lowest node that is armed, or waiting and not held; 0 if there is none.
@@ -116,7 +125,8 @@ pub(crate) fn first(armed: &Set, waiting: &Set, held: &Set) -> Node
         let w = waiting[i];
         let x = armed[i] | (w ^ (w & held[i]));
         if x != 0 {
-            return Node((64 * i) as u16 + u64::trailing_zeros(x) as u16 + 1);
+            let n = (64 * i) as u16 + low(x) + 1;
+            return Node(n);
         }
         i += 1;
     }
