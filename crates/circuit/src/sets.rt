@@ -80,7 +80,7 @@ pub(crate) fn common(set: &Set, other: &Set) -> Set
     r
 }
 
-// Joins another set to a set. What is written is an array of its own, whose length is known.
+// Joins another set to a set. An array of its own has a known length, and LLVM takes its words two at a time.
 pub(crate) fn gain(set: &mut Set, other: &Set)
     ensures { λ _. ⌜ Packs (λ m. packed (now (set .entry)) m || packed (now (other .entry)) m) (now (set .exit)) ⌝ }
 {
