@@ -14,6 +14,8 @@ pub mod GiveLaws
 pub mod PerformLaws
 pub mod StandsLaws
 pub mod TurnLaws
+pub mod StepsLaws
+pub mod UpdateLaws
 pub mod EntryLaws
 pub mod LentLaws
 pub mod BeginLaws

@@ -70,6 +70,12 @@ module _ (t : List ℕ) (fair : Taken t) (n : ℕ) (i : IsNode t n) (a : List �
   sound (Plan.Enters g false) q = again-in (g .0) (keptBy t c (g .0) n) q
   sound (Plan.Leaves g v) q = there (leaves (g .0) v) q
 
+  pub called-in : (g : Function) (anew : Bool) → Planned t s n (Plan.Enters g anew) → IsFunction t (g .0)
+  called-in g anew q = sound (Plan.Enters g anew) q
+
+  pub leave-in : (g : Function) (v : ℕ) → Planned t s n (Plan.Leaves g v) → IsFunction t (g .0)
+  leave-in g v q = sound (Plan.Leaves g v) q
+
   pub turn-high : (m : Node) → Planned t s n (Plan.Turns m) → m .0 ≤ 512
   turn-high m q = omega (arith, sound (Plan.Turns m) q .1, ok t fair .N-high)
 

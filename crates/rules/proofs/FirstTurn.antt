@@ -4,8 +4,8 @@ use mathlib.Core.Bool.{false}
 use mathlib.Core.Path.{_≡_, subst, sym, ap, _∙_}
 use mathlib.Core.List.{List}
 use Rattle.table.specs.Bytes.{functions, nodes}
-use Rattle.table.specs.Naming.{owner, parent}
-use Rattle.table.specs.Check.{accepted, checkOf}
+use Rattle.table.specs.Naming.{owner}
+use Rattle.table.specs.Check.{accepted}
 use Rattle.table.specs.Expressions.{bodyOf}
 use Rattle.table.specs.Working.{IsNode}
 use Rattle.list.specs.Tags.{checkWith}
@@ -14,11 +14,11 @@ use Rattle.rules.specs.Step.{does, Move, over, perform}
 use Rattle.rules.specs.Circuit.{actOf}
 use Rattle.rules.specs.Runs.{MainDone, mainValue, gave, atRest, spent}
 use Rattle.rules.specs.First.{firstOf, onward, driveFrom}
-use Rattle.rules.specs.Sets.{Sets, setsOf, firstIn, Stays, Exact, UpdatedOf, rereads}
+use Rattle.rules.specs.Sets.{Sets, firstIn, Exact}
 use Rattle.rules.proofs.Performed.{perform-sized}
 use Rattle.rules.proofs.FirstFacts.{first-some, first-moves}
 use Rattle.rules.proofs.FirstLoop.{Drove, drove-gave, drove-rests, drove-spent, drove-next}
-use Rattle.rules.proofs.SetsExact.{exact-next, exact-first}
+use Rattle.rules.proofs.SetsExact.{exact-first}
 
 -- k of the b steps from s₀ are made, s is the state, and x are its sets
 pub record Turning (t tags : List ℕ) (s₀ s : State512) (b k : ℕ) (x : Sets) : Type 0 where
@@ -58,21 +58,18 @@ module _ (t tags : List ℕ) (F N : ℕ) (tagging : checkWith t tags ≡ accepte
           × (onward t tags s ≡ perform (nodes t) (owner t) (bodyOf t) s n a))) (sym is-first)
           (first-some t tags s not-none .node, first-moves t tags s not-none)
 
-      -- it is made, and the sets are updated
-      pub turn-next : (F₀ N₀ : ℕ) → checkOf t ≡ accepted F₀ N₀ → k < b → (a : Move) → actOf t s here ≡ does a → (s′ : State512)
+      -- it is made, and the sets are those of the state after it
+      pub turn-next : k < b → (a : Move) → actOf t s here ≡ does a → (s′ : State512)
           → s′ ≡ perform (nodes t) (owner t) (bodyOf t) s here a
           → over 3 (nodes t) (s′ .status) ≡ false → over (nodes t) (functions t) (s′ .occupant) ≡ false
-          → (y : Sets) → UpdatedOf t x y here a
-          → (IsNode t (rereads (parent t) here a) → Stays (setsOf t s′) y (rereads (parent t) here a))
-          → Turning t tags s₀ s′ b (k + 1) y
-      turn-next F₀ N₀ check h a e s′ q p o y u r =
+          → (y : Sets) → Exact t s′ y → Turning t tags s₀ s′ b (k + 1) y
+      turn-next h a e s′ q p o y exact =
           let w = turn-moves in
           let i : w .1 .0 ≡ a = one-move (w .1 .0) a (sym (w .1 .1) ∙ e) in
           let z : onward t tags s ≡ s′ = w .1 .2 ∙ ap (perform (nodes t) (owner t) (bodyOf t) s here) i ∙ sym q in
           record {
             drove = subst (λ v. Drove t tags s₀ v b (k + 1)) z (drove-next t tags s₀ s b k (now .drove) undone not-none h);
-            exact = subst (λ v. Exact t v y) (sym q) (exact-next t F₀ N₀ check s (now .sized) x (now .exact) here (w .0) a e y u
-                (λ j. subst (λ v. Stays (setsOf t v) y (rereads (parent t) here a)) q (r j)));
+            exact = exact;
             sized = subst Sized (sym q) (perform-sized (nodes t) (owner t) s (now .sized) (bodyOf t) here a);
             statuses = p;
             occupants = o;
