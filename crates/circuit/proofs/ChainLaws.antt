@@ -73,7 +73,7 @@ module _ (t : List ℕ) (fair : Taken t) where
     last-ends d = ap (lastFrom d) (chain-end at z)
 
   -- all of a chain, or all but the last (defs)
-  leading-ends : (defs : Bool) (at : ℕ) → at ≡ 0 → leading defs (chain t at) ≡ []
+  pub leading-ends : (defs : Bool) (at : ℕ) → at ≡ 0 → leading defs (chain t at) ≡ []
   unfolding initial
   leading-ends defs at z = ap (leading defs) (chain-end at z) ∙ go defs
     where
@@ -82,7 +82,7 @@ module _ (t : List ℕ) (fair : Taken t) where
       go false = refl
 
   module _ (defs : Bool) (at : ℕ) (some : at ≡ 0 → ⊥) (inside : at ≤ nodes t) (on : ℕ) (e : on ≡ next t at) where
-    leading-last : (defs && eqb on 0) ≡ true → leading defs (chain t at) ≡ []
+    pub leading-last : (defs && eqb on 0) ≡ true → leading defs (chain t at) ≡ []
     unfolding initial
     leading-last h =
         let b = and-both defs (eqb on 0) h in
@@ -92,7 +92,7 @@ module _ (t : List ℕ) (fair : Taken t) where
         and-both true y q = (refl, q)
         and-both false y q = absurd (let z : _≡_ {A = ℕ} 0 1 = cc in omega arith)
 
-    leading-more : (defs && eqb on 0) ≡ false → leading defs (chain t at) ≡ at ∷ leading defs (chain t on)
+    pub leading-more : (defs && eqb on 0) ≡ false → leading defs (chain t at) ≡ at ∷ leading defs (chain t on)
     unfolding initial
     leading-more h = go defs h
       where

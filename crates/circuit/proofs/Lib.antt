@@ -4,6 +4,7 @@ pub mod ChainLaws
 pub mod OperationLaws
 pub mod WidthLaws
 pub mod PackedLaws
+pub mod TrackLaws
 pub mod ActBy
 pub mod PlanLaws
 pub mod SortLaws

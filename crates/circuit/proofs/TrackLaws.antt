@@ -1,0 +1,99 @@
+-- the sets of a run as the code keeps them: a node placed, a chain armed, a node enlisted
+use Prim.Native.Nat.{ℕ, suc, _+_, _-_, _*_, _<_, _≤_}
+use mathlib.Core.Bool.{Bool, true, false, _&&_, _||_, not}
+use mathlib.Core.Path.{_≡_, refl, sym, ap, ap₂, _∙_}
+use mathlib.Core.List.{List, [], _∷_}
+use mathlib.Core.Logic.{_⊎_, inl, inr}
+use native.Mathlib.Omega.{arith}
+use native.Mathlib.Decide.{ℕ-discrete}
+use lib.Dec.{eqb, ltb}
+use lib.ListN.{length}
+use borrow.Author.Tests.{eq-eqb, ne-eqb}
+use Rattle.table.specs.Pick.{pick}
+use Rattle.table.specs.Bytes.{kind, first}
+use Rattle.table.specs.Naming.{chain, children}
+use Rattle.list.specs.Working.{packed, Bit}
+use Rattle.rules.specs.State.{In}
+use Rattle.rules.specs.Sets.{Sets, Stays}
+use Rattle.rules.proofs.StateLaws.{in?}
+use Rattle.circuit.specs.Working.{leading, opens}
+use Rattle.circuit.specs.Packed.{Packs, setsAs, Three, Places, Arms}
+
+-- a node's bit is as marked, the others stay
+marked-here : (n : ℕ) (b : Bit n) (v : Bool) (x y : List ℕ) → Packs (λ m. pick (eqb n m) v (packed x m)) y → packed y n ≡ v
+marked-here n b v x y p = p .bits n b ∙ rw (eq-eqb n n refl) refl
+
+marked-other : (n : ℕ) (v : Bool) (x y : List ℕ) → Packs (λ m. pick (eqb n m) v (packed x m)) y → (m : ℕ) → Bit m → (m ≡ n → ⊥)
+    → packed y m ≡ packed x m
+marked-other n v x y p m b d = p .bits m b ∙ rw (ne-eqb n m (λ e. d (sym e))) refl
+
+-- a node marked in three sets
+module _ (n : ℕ) (b : Bit n) (a w i : Bool) (xa xw xi ya yw yi : List ℕ) (pa : Packs (λ m. pick (eqb n m) a (packed xa m)) ya)
+    (pw : Packs (λ m. pick (eqb n m) w (packed xw m)) yw) (pi : Packs (λ m. pick (eqb n m) i (packed xi m)) yi) where
+  pub places-by : (h : List ℕ) → Places n a w i (setsAs xa xw xi h) (setsAs ya yw yi h)
+  places-by h = record {
+    here = (marked-here n b a xa ya pa, marked-here n b w xw yw pw, marked-here n b i xi yi pi);
+    others = λ m c d. (marked-other n a xa ya pa m c d, marked-other n w xw yw pw m c d, marked-other n i xi yi pi m c d);
+  }
+
+-- these nodes are armed: none; one, then others
+pub arms-none : (f : ℕ → Type 0) → ((m : ℕ) → f m → ⊥) → (x : Sets) → Arms f x x
+arms-none f none x = record { opened = λ m b i. absurd (none m i); others = λ m b i. (refl, refl, refl) }
+
+pub arms-one : (n : ℕ) (x y : Sets) → Places n true false false x y → Arms (λ m. In m (n ∷ [])) x y
+arms-one n x y p = record { opened = opened; others = λ m b i. p .others m b (λ e. i (inl e)) }
+  where
+    opened : (m : ℕ) → Bit m → In m (n ∷ []) → (y .armed m ≡ true) × (y .waiting m ≡ false) × (y .inside m ≡ false)
+    opened m b (inl e) = rw e (p .here)
+    opened m b (inr z) = absurd z
+
+pub arms-more : (n : ℕ) (l : List ℕ) (x y z : Sets) → Places n true false false x y → Arms (λ m. In m l) y z
+    → Arms (λ m. In m (n ∷ l)) x z
+arms-more n l x y z p r = record { opened = opened; others = others }
+  where
+    kept : (m : ℕ) → Bit m → (In m l → ⊥) → m ≡ n → (z .armed m ≡ true) × (z .waiting m ≡ false) × (z .inside m ≡ false)
+    kept m b i e =
+        let s = r .others m b i in
+        let h : (y .armed m ≡ true) × (y .waiting m ≡ false) × (y .inside m ≡ false) = rw e (p .here) in
+        (s .0 ∙ h .0, s .1 ∙ h .1, s .2 ∙ h .2)
+
+    here : (m : ℕ) → Bit m → m ≡ n → Dec (In m l) → (z .armed m ≡ true) × (z .waiting m ≡ false) × (z .inside m ≡ false)
+    here m b e (yes i) = r .opened m b i
+    here m b e (no i) = kept m b i e
+
+    opened : (m : ℕ) → Bit m → In m (n ∷ l) → (z .armed m ≡ true) × (z .waiting m ≡ false) × (z .inside m ≡ false)
+    opened m b (inl e) = here m b e (in? m l)
+    opened m b (inr i) = r .opened m b i
+
+    others : (m : ℕ) → Bit m → (In m (n ∷ l) → ⊥) → Stays x z m
+    others m b i =
+        let s = r .others m b (λ q. i (inr q)) in
+        let q = p .others m b (λ e. i (inl e)) in
+        (s .0 ∙ q .0, s .1 ∙ q .1, s .2 ∙ q .2)
+
+-- along a chain: what arms the rest from the sets now, arms the whole from the sets at the start
+pub record Arming (all rest a₀ w₀ i₀ a w i : List ℕ) : Type 0 where
+  pub on : (h : List ℕ) (y : Sets) → Arms (λ m. In m rest) (setsAs a w i h) y → Arms (λ m. In m all) (setsAs a₀ w₀ i₀ h) y
+
+pub arming-start : (l a w i : List ℕ) → Arming l l a w i a w i
+arming-start l a w i = record { on = λ h y r. r }
+
+module _ (all l a₀ w₀ i₀ a w i : List ℕ) (x : Arming all l a₀ w₀ i₀ a w i) where
+  pub arming-more : (n : ℕ) (l′ : List ℕ) → l ≡ n ∷ l′ → (a′ w′ i′ : List ℕ)
+      → ((h : List ℕ) → Places n true false false (setsAs a w i h) (setsAs a′ w′ i′ h)) → Arming all l′ a₀ w₀ i₀ a′ w′ i′
+  arming-more n l′ e a′ w′ i′ p = record {
+    on = λ h y r. x .on h y (rw e (arms-more n l′ (setsAs a w i h) (setsAs a′ w′ i′ h) y (p h) r));
+  }
+
+  pub arming-end : l ≡ [] → (h : List ℕ) → Arms (λ m. In m all) (setsAs a₀ w₀ i₀ h) (setsAs a w i h)
+  arming-end e h = x .on h (setsAs a w i h) (rw e (arms-none (λ m. ⊥) (λ m z. z) (setsAs a w i h)))
+
+-- the children that a node opens, by its kind
+module _ (t : List ℕ) (n k : ℕ) (ek : k ≡ kind t n) (c : ℕ) (ec : c ≡ first t n) (x y : Sets) where
+  pub arm-if : k ≡ 5 → Places c true false false x y → Arms (λ m. In m (opens t n)) x y
+  unfolding opens
+  arm-if h p = rw (sym ek ∙ h) (rw (sym ec) (arms-one c x y p))
+
+  pub arm-other : (k ≡ 5 → ⊥) → Arms (λ m. In m (leading (eqb k 6) (chain t c))) x y → Arms (λ m. In m (opens t n)) x y
+  unfolding opens children
+  arm-other h r = rw (sym ek, ne-eqb k 5 h, sym ec) r
