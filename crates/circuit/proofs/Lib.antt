@@ -17,6 +17,7 @@ pub mod StandsLaws
 pub mod TurnLaws
 pub mod StepsLaws
 pub mod UpdateLaws
+pub mod FollowLaws
 pub mod EntryLaws
 pub mod LentLaws
 pub mod BeginLaws

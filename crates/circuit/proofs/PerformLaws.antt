@@ -12,7 +12,7 @@ use Rattle.table.specs.Expressions.{exprAt, bodyOf}
 use Rattle.table.specs.Working.{IsNode, IsFunction}
 use Rattle.table.proofs.Bodies.{id-body}
 use Rattle.rules.specs.State.{State512, view, entry, write, opened, clear, fill}
-use Rattle.rules.specs.Step.{does, Move, turns, enters, leaves, restarts, mine}
+use Rattle.rules.specs.Step.{does, Move, begins, turns, enters, leaves, restarts, mine}
 use Rattle.rules.specs.Arithmetic.{keepAll, arithmetic}
 use Rattle.rules.specs.Circuit.{actOf}
 use Rattle.circuit.specs.Meaning.{stateAs}
@@ -62,8 +62,8 @@ module _ (t : List ℕ) (fair : Taken t) (n : ℕ) (i : IsNode t n) (a : List �
   again-in g vs q = let x = there (restarts g vs) q in (x .0, x .1)
 
   -- what a plan names is there
-  pub sound : (p : Plan) → Planned t s n p → Sound t p
-  sound Plan.Begins q = tt
+  pub sound : (p : Plan) → Planned t s n p → Sound t n p
+  sound Plan.Begins q = there (begins (opens t n)) q .0
   sound (Plan.Turns m) q = there (turns (m .0)) q
   sound (Plan.Finishes v) q = tt
   sound (Plan.Enters g true) q = enter-in (g .0) (keptBy t c (g .0) n) q

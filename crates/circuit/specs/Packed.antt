@@ -14,7 +14,9 @@ use Rattle.list.specs.Working.{bitAt, packed, Bit}
 use Rattle.rules.specs.State.{State512}
 use Rattle.rules.specs.Step.{mine}
 use Rattle.rules.specs.Play.{calls}
-use Rattle.rules.specs.Sets.{Sets, Exact, Stays, Ending, Renewing}
+use Rattle.rules.specs.Sets.{Sets, Exact, Stays, Ending, Renewing, rereads, UpdatedOf}
+use Rattle.circuit.specs.declared.plan.Plan.{Plan}
+use Rattle.circuit.specs.Working.{planned}
 
 -- a set of eight words has the members that f says
 pub record Packs (f : Test) (set : List ℕ) : Type 0 where
@@ -78,4 +80,10 @@ pub record Ends (t : List ℕ) (n : ℕ) (x y : Sets) : Type 0 where
 pub record Renews (t : List ℕ) (n g : ℕ) (anew : Bool) (x y : Sets) : Type 0 where
   pub renewing : Renewing (nodes t) (bodyOf t) (exprAt t) (owner t) x y g (λ m. pick anew (eqb m n) false)
   pub held : (m : ℕ) → Range (nodes t) m → y .held m ≡ pick anew (x .held m || calls (exprAt t m) g) (x .held m)
+  pub past : Past (nodes t) x → Past (nodes t) y
+
+-- what a plan of node n makes of the sets, and the node that is to be read anew
+pub record Updates (t : List ℕ) (n : ℕ) (p : Plan) (anew : ℕ) (x y : Sets) : Type 0 where
+  pub again : (value : List ℕ) → anew ≡ rereads (parent t) n (planned t value n p)
+  pub updated : (value : List ℕ) → UpdatedOf t x y n (planned t value n p)
   pub past : Past (nodes t) x → Past (nodes t) y

@@ -13,7 +13,7 @@ use Rattle.table.specs.Expressions.{bodyOf}
 use Rattle.table.specs.declared.Checked.{Checked}
 use Rattle.list.specs.Tags.{checkWith}
 use Rattle.rules.specs.Arithmetic.{keepAll, arithmetic}
-use Rattle.rules.specs.State.{State512, entry}
+use Rattle.rules.specs.State.{State512, entry, In}
 use Rattle.rules.specs.Step.{Act, stuck, blocked, does, Move, begins, turns, finishes, enters, leaves, restarts, over, perform}
 use Rattle.rules.specs.Circuit.{actOf}
 use Rattle.rules.specs.Sets.{goes}
@@ -93,12 +93,12 @@ abbrev pub Made : (t : List ℕ) → State512 → ℕ → State512 → Type 0
 Made t s n s′ = (p : Plan) × Planned t s n p × (s′ ≡ performed t s n p)
 
 -- what it names is there
-abbrev pub Sound : List ℕ → Plan → Type 0
-Sound t Plan.Begins = Unit {0}
-Sound t (Plan.Turns m) = IsNode t (m .0)
-Sound t (Plan.Finishes v) = Unit {0}
-Sound t (Plan.Enters g anew) = IsFunction t (g .0)
-Sound t (Plan.Leaves g v) = IsFunction t (g .0)
+abbrev pub Sound : List ℕ → ℕ → Plan → Type 0
+Sound t n Plan.Begins = (m : ℕ) → In m (opens t n) → IsNode t m
+Sound t n (Plan.Turns m) = IsNode t (m .0)
+Sound t n (Plan.Finishes v) = Unit {0}
+Sound t n (Plan.Enters g anew) = IsFunction t (g .0)
+Sound t n (Plan.Leaves g v) = IsFunction t (g .0)
 
 -- node r once it is done: the value goes on
 abbrev pub passed : (status value : List ℕ) → ℕ → Act

@@ -18,15 +18,15 @@ ghost use lib.Dec.{eqb};
 ghost use lib.ListN.{length, replicate};
 ghost use Rattle.table.specs.Pick.{pick};
 ghost use Rattle.table.specs.Bytes.{nodes};
-ghost use Rattle.table.specs.Naming.{chain, parent};
+ghost use Rattle.table.specs.Naming.{chain};
 ghost use Rattle.table.specs.Working.{IsNode, IsFunction, Read};
 ghost use Rattle.list.specs.Tags.{isCall};
 ghost use Rattle.list.specs.Working.{packed, Bit};
 ghost use Rattle.rules.specs.State.{State512, Sized, In};
-ghost use Rattle.rules.specs.Sets.{setsOf, firstIn, rereads, UpdatedOf};
+ghost use Rattle.rules.specs.Sets.{setsOf, firstIn};
 ghost use Rattle.circuit.specs.Meaning.{stateAs};
-ghost use Rattle.circuit.specs.Working.{leading, opens, planned, Planned, performed, Sound};
-ghost use Rattle.circuit.specs.Packed.{Packs, setsAs, Three, RowedTo, Rowed, Past, Tracks, Places, Arms, Ends, Renews};
+ghost use Rattle.circuit.specs.Working.{leading, opens, Planned, performed, Sound};
+ghost use Rattle.circuit.specs.Packed.{Packs, setsAs, Three, RowedTo, Rowed, Tracks, Places, Arms, Ends, Renews, Updates};
 
 // Whether node n is a call of another function.
 fn is_call(table: &[u8], cells: &Cells, n: Node) -> bool
@@ -219,16 +219,12 @@ fn update(
     n: Node,
     plan: Plan,
 ) -> Node
-    requires { ⌜ Read (now table) (now cells) × IsNode (now table) (n .0) × Sound (now table) plan × Rowed (now table) (now rows)
+    requires { ⌜ Read (now table) (now cells) × IsNode (now table) (n .0) × Sound (now table) (n .0) plan × Rowed (now table) (now rows)
         × Three (now armed) (now waiting) (now inside) × (length (now held) ≡ 8) ⌝ }
     ensures { λ r. ⌜ Three (now (armed .exit)) (now (waiting .exit)) (now (inside .exit)) × (length (now (held .exit)) ≡ 8)
-        × ((value : List ℕ) → r .0 ≡ rereads (parent (now (table .entry))) (n .0) (planned (now (table .entry)) value (n .0) plan))
-        × ((value : List ℕ) → UpdatedOf (now (table .entry))
+        × Updates (now (table .entry)) (n .0) plan (r .0)
         (setsAs (now (armed .entry)) (now (waiting .entry)) (now (inside .entry)) (now (held .entry)))
-        (setsAs (now (armed .exit)) (now (waiting .exit)) (now (inside .exit)) (now (held .exit)))
-        (n .0) (planned (now (table .entry)) value (n .0) plan))
-        × (Past (nodes (now (table .entry))) (setsAs (now (armed .entry)) (now (waiting .entry)) (now (inside .entry)) (now (held .entry)))
-        → Past (nodes (now (table .entry))) (setsAs (now (armed .exit)) (now (waiting .exit)) (now (inside .exit)) (now (held .exit)))) ⌝ }
+        (setsAs (now (armed .exit)) (now (waiting .exit)) (now (inside .exit)) (now (held .exit))) ⌝ }
 {
     match plan {
         Plan::Begins => {
@@ -271,7 +267,7 @@ pub(crate) fn follow(
     n: Node,
     plan: Plan,
 ) -> Node
-    requires { ⌜ Read (now table) (now cells) × IsNode (now table) (n .0) × Sound (now table) plan × Rowed (now table) (now rows)
+    requires { ⌜ Read (now table) (now cells) × IsNode (now table) (n .0) × Sound (now table) (n .0) plan × Rowed (now table) (now rows)
         × Three (now armed) (now waiting) (now inside) × (length (now held) ≡ 8) ⌝ }
     ensures { λ r. ⌜ Three (now (armed .exit)) (now (waiting .exit)) (now (inside .exit)) × (length (now (held .exit)) ≡ 8)
         × (r .0 ≡ firstIn (setsAs (now (armed .exit)) (now (waiting .exit)) (now (inside .exit)) (now (held .exit))) 512)

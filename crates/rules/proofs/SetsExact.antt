@@ -1,4 +1,4 @@
--- sets that are updated as stated, the one node read anew, are again those of the state
+-- sets that are updated as stated are again those of the state, but for the one node that is to be read anew
 use Prim.Native.Nat.{ℕ}
 use mathlib.Core.Bool.{Bool, false, _&&_, _||_, not}
 use mathlib.Core.Path.{_≡_, subst, sym, ap, _∙_}
@@ -31,12 +31,12 @@ use Rattle.rules.proofs.Demands.{lay}
 
 -- the same move from the same sets w and x, to z and y
 module _ (N : ℕ) (body at : ℕ → Expr) (home up : ℕ → ℕ) (w x z y : Sets) (n : ℕ) where
-  opening-fixes : (opens : ℕ → Type 0) → ((m : ℕ) → Dec (opens m)) → Opening N x y n opens → Opening N w z n opens → Stays z y n
-      → (m : ℕ) → Range N m → Stays w x m → Stays z y m
-  opening-fixes opens d u v k m q e = go (ℕ-discrete m n) (d m)
+  opening-fixes : (opens : ℕ → Type 0) → ((m : ℕ) → Dec (opens m)) → Opening N x y n opens → Opening N w z n opens
+      → (m : ℕ) → Range N m → (m ≡ n → Stays z y m) → Stays w x m → Stays z y m
+  opening-fixes opens d u v m q k e = go (ℕ-discrete m n) (d m)
     where
       go : Dec (m ≡ n) → Dec (opens m) → Stays z y m
-      go (yes i) j = subst (Stays z y) (sym i) k
+      go (yes i) j = k i
       go (no i) (yes j) =
           let a = u .opened m q j in
           let b = v .opened m q j in
@@ -46,16 +46,16 @@ module _ (N : ℕ) (body at : ℕ → Expr) (home up : ℕ → ℕ) (w x z y : S
           let b = v .others m q i j in
           (a .0 ∙ e .0 ∙ sym (b .0), a .1 ∙ e .1 ∙ sym (b .1), a .2 ∙ e .2 ∙ sym (b .2))
 
-  ending-fixes : Ending N at home up x y n → Ending N at home up w z n → (Range N (up n) → Stays z y (up n))
-      → (m : ℕ) → Range N m → Stays w x m → Stays z y m
-  ending-fixes u v k m q e = go (ℕ-discrete m n) (ℕ-discrete m (up n))
+  ending-fixes : Ending N at home up x y n → Ending N at home up w z n
+      → (m : ℕ) → Range N m → (m ≡ up n → Stays z y m) → Stays w x m → Stays z y m
+  ending-fixes u v m q k e = go (ℕ-discrete m n) (ℕ-discrete m (up n))
     where
       go : Dec (m ≡ n) → Dec (m ≡ up n) → Stays z y m
       go (yes i) j =
           let a = u .own in
           let b = v .own in
           subst (Stays z y) (sym i) (a .0 ∙ sym (b .0), a .1 ∙ sym (b .1), a .2 ∙ sym (b .2))
-      go (no i) (yes j) = subst (Stays z y) (sym j) (k (subst (Range N) j q))
+      go (no i) (yes j) = k j
       go (no i) (no j) =
           let a = u .others m q i j in
           let b = v .others m q i j in (
@@ -72,14 +72,15 @@ module _ (N : ℕ) (body at : ℕ → Expr) (home up : ℕ → ℕ) (w x z y : S
     u .inside m q ∙ (λ l. enter m || (e .2 l && not (eqb (home m) g))) ∙ sym (v .inside m q),
   )
 
-  placed-fixes : (a : Move) → Range N n → Placed N body at home up x y n a → Placed N body at home up w z n a
-      → (Range N (rereads up n a) → Stays z y (rereads up n a)) → (m : ℕ) → Range N m → Stays w x m → Stays z y m
-  placed-fixes (begins ns) r u v k = opening-fixes _ (λ m. in? m ns) u v (k r)
-  placed-fixes (turns j) r u v k = opening-fixes _ (λ m. ℕ-discrete m j) u v (k r)
-  placed-fixes (finishes i) r u v k = ending-fixes u v k
-  placed-fixes (enters g vs) r u v k = renewing-fixes g _ u v
-  placed-fixes (leaves g i) r u v k = ending-fixes u v k
-  placed-fixes (restarts f vs) r u v k = renewing-fixes f _ u v
+  -- .. but at the node that is read anew
+  placed-fixes : (a : Move) → Placed N body at home up x y n a → Placed N body at home up w z n a
+      → (m : ℕ) → Range N m → (m ≡ rereads up n a → Stays z y m) → Stays w x m → Stays z y m
+  placed-fixes (begins ns) u v = opening-fixes _ (λ m. in? m ns) u v
+  placed-fixes (turns j) u v = opening-fixes _ (λ m. ℕ-discrete m j) u v
+  placed-fixes (finishes i) u v = ending-fixes u v
+  placed-fixes (enters g vs) u v m q k = renewing-fixes g _ u v m q
+  placed-fixes (leaves g i) u v = ending-fixes u v
+  placed-fixes (restarts f vs) u v m q k = renewing-fixes f _ u v m q
 
   holds-same : (a : Move) (m : ℕ) → x .held m ≡ w .held m → holds at x a m ≡ holds at w a m
   holds-same (begins ns) m e = e
@@ -99,17 +100,19 @@ module _ (t : List ℕ) (F N : ℕ) (check : checkOf t ≡ accepted F N) (s : St
   abbrev next : State512
   next = perform (nodes t) (owner t) (bodyOf t) s n a
 
-  pub exact-next : (y : Sets) → UpdatedOf t x y n a
-      → (IsNode t (rereads (parent t) n a) → Stays (setsOf t next) y (rereads (parent t) n a)) → Exact t next y
-  exact-next y u k =
-      let v = sets-move t F N check s sized n i a here in
-      record {
-        placed = λ m q. placed-fixes (nodes t) (bodyOf t) (exprAt t) (owner t) (parent t) (setsOf t s) x (setsOf t next) y n a i (u .placed)
-            (v .placed) k m q (exact .placed m q);
-        held = λ m q. u .held m q
-            ∙ holds-same (nodes t) (bodyOf t) (exprAt t) (owner t) (parent t) (setsOf t s) x (setsOf t next) y n a m (exact .held m q)
-            ∙ sym (v .held m q);
-      }
+  module _ (y : Sets) (u : UpdatedOf t x y n a) where
+    after : UpdatedOf t (setsOf t s) (setsOf t next) n a
+    after = sets-move t F N check s sized n i a here
+
+    -- updated sets are right but for one node, which is to be read anew
+    pub placed-next : (m : ℕ) → Range (nodes t) m → (m ≡ rereads (parent t) n a → Stays (setsOf t next) y m) → Stays (setsOf t next) y m
+    placed-next m q k = placed-fixes (nodes t) (bodyOf t) (exprAt t) (owner t) (parent t) (setsOf t s) x (setsOf t next) y n a (u .placed)
+        (after .placed) m q k (exact .placed m q)
+
+    pub held-next : (m : ℕ) → Range (nodes t) m → y .held m ≡ setsOf t next .held m
+    held-next m q = u .held m q
+        ∙ holds-same (nodes t) (bodyOf t) (exprAt t) (owner t) (parent t) (setsOf t s) x (setsOf t next) y n a m (exact .held m q)
+        ∙ sym (after .held m q)
 
 -- the first possible node, by sets that are kept so
 pub exact-first : (t tags : List ℕ) (s : State512) (F N : ℕ) → checkWith t tags ≡ accepted F N
