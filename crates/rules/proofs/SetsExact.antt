@@ -75,12 +75,12 @@ module _ (N : ℕ) (body at : ℕ → Expr) (home up : ℕ → ℕ) (w x z y : S
   -- .. but at the node that is read anew
   placed-fixes : (a : Move) → Placed N body at home up x y n a → Placed N body at home up w z n a
       → (m : ℕ) → Range N m → (m ≡ rereads up n a → Stays z y m) → Stays w x m → Stays z y m
-  placed-fixes (begins ns) u v = opening-fixes _ (λ m. in? m ns) u v
-  placed-fixes (turns j) u v = opening-fixes _ (λ m. ℕ-discrete m j) u v
-  placed-fixes (finishes i) u v = ending-fixes u v
-  placed-fixes (enters g vs) u v m q k = renewing-fixes g _ u v m q
-  placed-fixes (leaves g i) u v = ending-fixes u v
-  placed-fixes (restarts f vs) u v m q k = renewing-fixes f _ u v m q
+  placed-fixes (begins ns) u v m q k e = opening-fixes _ (λ m. in? m ns) u v m q k e
+  placed-fixes (turns j) u v m q k e = opening-fixes _ (λ m. ℕ-discrete m j) u v m q k e
+  placed-fixes (finishes i) u v m q k e = ending-fixes u v m q k e
+  placed-fixes (enters g vs) u v m q k e = renewing-fixes g _ u v m q e
+  placed-fixes (leaves g i) u v m q k e = ending-fixes u v m q k e
+  placed-fixes (restarts f vs) u v m q k e = renewing-fixes f _ u v m q e
 
   holds-same : (a : Move) (m : ℕ) → x .held m ≡ w .held m → holds at x a m ≡ holds at w a m
   holds-same (begins ns) m e = e
