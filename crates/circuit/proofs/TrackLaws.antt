@@ -8,14 +8,18 @@ use native.Mathlib.Omega.{arith}
 use native.Mathlib.Decide.{ℕ-discrete}
 use lib.Dec.{eqb, ltb}
 use lib.ListN.{length}
-use borrow.Author.Tests.{eq-eqb, ne-eqb}
+use borrow.Author.Tests.{eq-eqb, ne-eqb, eqb-true}
 use Rattle.table.specs.Pick.{pick}
-use Rattle.table.specs.Bytes.{kind, first}
-use Rattle.table.specs.Naming.{chain, children}
+use Rattle.table.specs.Bytes.{kind, word, first}
+use Rattle.table.specs.Naming.{owner, chain, children}
+use Rattle.table.specs.Working.{IsNode, Taken}
+use Rattle.table.proofs.Tests.{and-no, and-yes}
+use Rattle.list.specs.Tags.{isCall}
 use Rattle.list.specs.Working.{packed, Bit}
-use Rattle.rules.specs.State.{In}
-use Rattle.rules.specs.Sets.{Sets, Stays}
+use Rattle.rules.specs.State.{State512, In, entry}
+use Rattle.rules.specs.Sets.{Sets, setsOf, Stays}
 use Rattle.rules.proofs.StateLaws.{in?}
+use Rattle.rules.proofs.SetsBytes.{inside-bytes, held-bytes}
 use Rattle.circuit.specs.Working.{leading, opens}
 use Rattle.circuit.specs.Packed.{Packs, setsAs, Three, Places, Arms}
 
@@ -97,3 +101,55 @@ module _ (t : List ℕ) (n k : ℕ) (ek : k ≡ kind t n) (c : ℕ) (ec : c ≡ 
   pub arm-other : (k ≡ 5 → ⊥) → Arms (λ m. In m (leading (eqb k 6) (chain t c))) x y → Arms (λ m. In m (opens t n)) x y
   unfolding opens children
   arm-other h r = rw (sym ek, ne-eqb k 5 h, sym ec) r
+
+-- whether node n is a call, read off its record
+module _ (t : List ℕ) (n k : ℕ) (ek : k ≡ kind t n) where
+  pub call-is : k ≡ 4 → (w f : ℕ) → w ≡ word t n → f ≡ owner t n → not (eqb w f) ≡ isCall t n
+  unfolding isCall
+  call-is h w f ew ef = sym (rw (sym ek ∙ h, sym ew, sym ef) refl)
+
+  pub call-not : (k ≡ 4 → ⊥) → false ≡ isCall t n
+  unfolding isCall
+  call-not h = sym (rw (ne-eqb (kind t n) 4 (λ z. h (ek ∙ z))) refl)
+
+pub call-kind : (t : List ℕ) (n : ℕ) (b : Bool) → b ≡ isCall t n → b ≡ true → kind t n ≡ 4
+unfolding isCall
+call-kind t n b e h = eqb-true (kind t n) 4 (both (eqb (kind t n) 4) (not (eqb (word t n) (owner t n))) (sym e ∙ h))
+  where
+    both : (x y : Bool) → (x && y) ≡ true → x ≡ true
+    both true y q = refl
+    both false y q = q
+
+-- whether it is held, and whether it is inside
+module _ (t : List ℕ) (fair : Taken t) (n : ℕ) (i : IsNode t n) (b : Bool) (eb : b ≡ isCall t n) (s : State512) where
+  pub held-is : b ≡ true → (g o : ℕ) → g ≡ word t n → o ≡ entry (s .occupant) 0 g → not (eqb o 0) ≡ setsOf t s .held n
+  held-is h g o eg eo = sym (held-bytes t _ _ fair n i s ∙ rw (sym eb ∙ h, sym eg, sym eo) refl)
+
+  pub held-not : b ≡ false → false ≡ setsOf t s .held n
+  held-not h = sym (held-bytes t _ _ fair n i s ∙ rw (sym eb ∙ h) refl)
+ 
+  pub inside-is : (x : ℕ) → x ≡ entry (s .status) 0 n → x ≡ 2 → (y : Bool) → y ≡ entry (s .second) false n → y ≡ true
+      → b ≡ setsOf t s .inside n
+  inside-is x ex hx y ey hy = sym (inside-bytes t _ _ fair n i s ∙ rw (sym ex ∙ hx, sym ey ∙ hy, sym eb) (and-yes b))
+
+module _ (t : List ℕ) (fair : Taken t) (n : ℕ) (i : IsNode t n) (s : State512) where
+  -- not busy; in first phase
+  pub inside-idle : (x : ℕ) → x ≡ entry (s .status) 0 n → (x ≡ 2 → ⊥) → false ≡ setsOf t s .inside n
+  inside-idle x ex h =
+      sym (inside-bytes t _ _ fair n i s ∙ rw (ne-eqb (entry (s .status) 0 n) 2 (λ z. h (ex ∙ z))) (and-no (isCall t n)))
+
+  pub inside-first : (y : Bool) → y ≡ entry (s .second) false n → y ≡ false → false ≡ setsOf t s .inside n
+  inside-first y ey h =
+      sym (inside-bytes t _ _ fair n i s ∙ rw (sym ey ∙ h) (go (isCall t n) (eqb (entry (s .status) 0 n) 2)))
+    where
+      go : (x z : Bool) → (x && (z && false)) ≡ false
+      go true true = refl
+      go true false = refl
+      go false z = refl
+
+-- a node placed as it is read
+pub placed-as : (n : ℕ) (a w i a′ w′ i′ : Bool) (x y : Sets) → Places n a w i x y → a ≡ a′ → w ≡ w′ → i ≡ i′ → Places n a′ w′ i′ x y
+placed-as n a w i a′ w′ i′ x y p ea ew ei = record {
+  here = (p .here .0 ∙ ea, p .here .1 ∙ ew, p .here .2 ∙ ei);
+  others = p .others;
+}
