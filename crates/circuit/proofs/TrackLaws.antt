@@ -5,23 +5,26 @@ use mathlib.Core.Path.{_≡_, refl, sym, ap, ap₂, _∙_}
 use mathlib.Core.List.{List, [], _∷_}
 use mathlib.Core.Logic.{_⊎_, inl, inr}
 use native.Mathlib.Omega.{arith}
-use native.Mathlib.Decide.{ℕ-discrete}
+use native.Mathlib.Decide.{ℕ-discrete, decLt}
 use lib.Dec.{eqb, ltb}
 use lib.ListN.{length}
-use borrow.Author.Tests.{eq-eqb, ne-eqb, eqb-true}
+use borrow.Author.Tests.{eq-eqb, ne-eqb, eqb-true, lt-ltb, le-ltb}
 use Rattle.table.specs.Pick.{pick}
-use Rattle.table.specs.Bytes.{kind, word, first}
+use Rattle.table.specs.Bytes.{functions, nodes, kind, word, first}
 use Rattle.table.specs.Naming.{owner, chain, children}
+use Rattle.table.specs.Expressions.{exprAt}
 use Rattle.table.specs.Working.{IsNode, Taken}
 use Rattle.table.proofs.Tests.{and-no, and-yes}
 use Rattle.list.specs.Tags.{isCall}
-use Rattle.list.specs.Working.{packed, Bit}
+use Rattle.list.specs.Working.{packed, Bit, PutAt}
 use Rattle.rules.specs.State.{State512, In, entry}
+use Rattle.rules.specs.Step.{mine}
+use Rattle.rules.specs.Play.{calls}
 use Rattle.rules.specs.Sets.{Sets, setsOf, Stays}
 use Rattle.rules.proofs.StateLaws.{in?}
-use Rattle.rules.proofs.SetsBytes.{inside-bytes, held-bytes}
+use Rattle.rules.proofs.SetsBytes.{calls-bytes, inside-bytes, held-bytes}
 use Rattle.circuit.specs.Working.{leading, opens}
-use Rattle.circuit.specs.Packed.{Packs, setsAs, Three, Places, Arms}
+use Rattle.circuit.specs.Packed.{Packs, setsAs, Three, site, RowedTo, Places, Arms}
 
 -- a node's bit is as marked, the others stay
 marked-here : (n : ℕ) (b : Bit n) (v : Bool) (x y : List ℕ) → Packs (λ m. pick (eqb n m) v (packed x m)) y → packed y n ≡ v
@@ -153,3 +156,68 @@ placed-as n a w i a′ w′ i′ x y p ea ew ei = record {
   here = (p .here .0 ∙ ea, p .here .1 ∙ ew, p .here .2 ∙ ei);
   others = p .others;
 }
+
+-- a set up to the node before n with node n's bit is the set up to n
+next-bit : (q : ℕ → Bool) (n m : ℕ) → 1 ≤ n → ((ltb m (suc (n - 1)) && q m) || (q n && eqb n m)) ≡ ltb m (suc n) && q m
+next-bit q n m low = go (ℕ-discrete n m)
+  where
+    or-no : (x : Bool) → (x || false) ≡ x
+    or-no true = refl
+    or-no false = refl
+
+    earlier : (n m : ℕ) → 1 ≤ n → (n ≡ m → ⊥) → Dec (m < n) → ltb m (suc (n - 1)) ≡ ltb m (suc n)
+    earlier n m l d (yes h) = lt-ltb m (suc (n - 1)) (omega arith) ∙ sym (lt-ltb m (suc n) (omega arith))
+    earlier n m l d (no h) = le-ltb m (suc (n - 1)) (omega arith) ∙ sym (le-ltb m (suc n) (omega (arith, d)))
+
+    go : Dec (n ≡ m) → ((ltb m (suc (n - 1)) && q m) || (q n && eqb n m)) ≡ ltb m (suc n) && q m
+    go (yes e) =
+        rw (le-ltb m (suc (n - 1)) (omega arith), lt-ltb m (suc n) (omega arith), eq-eqb n m e) (and-yes (q n) ∙ ap q e)
+    go (no d) = rw (ne-eqb n m d, earlier n m low d (decLt m n), and-no (q n)) (or-no (ltb m (suc n) && q m))
+
+-- node n enlisted
+module _ (t : List ℕ) (fair : Taken t) (n : ℕ) (i : IsNode t n) (rows : List ℕ) (x : RowedTo t (n - 1) rows) (f : ℕ)
+    (ef : f ≡ owner t n) (few : f ≤ 32) (rows′ : List ℕ) (put : PutAt f n rows rows′) (b : Bool) (eb : b ≡ isCall t n) where
+  or-none : (p q r : Bool) → q ≡ false → (p || (q && r)) ≡ p
+  or-none true q r e = refl
+  or-none false q r e = rw e refl
+
+  own : (g m : ℕ) → g ≤ 32 → Bit m → packed rows′ (512 * g + m) ≡ mine n (owner t) g m
+  own g m l c =
+      put .bits g m c ∙ rw (x .members g m l c, ef) (next-bit (λ k. eqb (owner t k) g) n m (i .0))
+
+  -- the sites are as they were
+  old : (g m : ℕ) → 1 ≤ g → g ≤ 32 → Bit m → packed rows′ (512 * (32 + g) + m) ≡ site t (n - 1) g m
+  old g m p l c =
+      put .bits (32 + g) m c ∙ or-none _ _ (eqb n m) (ne-eqb f (32 + g) (λ z. omega arith)) ∙ x .sites g m p l c
+
+  pub rowed-call : b ≡ true → (w : ℕ) → w ≡ word t n → 1 ≤ w → (rows″ : List ℕ) → PutAt (32 + w) n rows′ rows″ → RowedTo t n rows″
+  rowed-call h w ew low rows″ put′ = record { size = put′ .size; members = members; sites = sites }
+    where
+      members : (g m : ℕ) → g ≤ 32 → Bit m → packed rows″ (512 * g + m) ≡ mine n (owner t) g m
+      members g m l c = put′ .bits g m c ∙ or-none _ _ (eqb n m) (ne-eqb (32 + w) g (λ z. omega arith)) ∙ own g m l c
+
+      same : (g : ℕ) → Dec (w ≡ g) → eqb (32 + w) (32 + g) ≡ eqb w g
+      same g (yes e) = eq-eqb (32 + w) (32 + g) (omega arith) ∙ sym (eq-eqb w g e)
+      same g (no d) = ne-eqb (32 + w) (32 + g) (λ z. d (omega arith)) ∙ sym (ne-eqb w g d)
+
+      called : (g : ℕ) → eqb (32 + w) (32 + g) ≡ calls (exprAt t n) g
+      called g = same g (ℕ-discrete w g) ∙ sym (calls-bytes t (functions t) (nodes t) fair n i g ∙ rw (sym eb ∙ h, sym ew) refl)
+
+      sites : (g m : ℕ) → 1 ≤ g → g ≤ 32 → Bit m → packed rows″ (512 * (32 + g) + m) ≡ site t n g m
+      sites g m p l c =
+          put′ .bits (32 + g) m c ∙ rw (old g m p l c, called g) (next-bit (λ k. calls (exprAt t k) g) n m (i .0))
+
+  pub rowed-other : b ≡ false → RowedTo t n rows′
+  rowed-other h = record { size = put .size; members = own; sites = sites }
+    where
+      none : (g : ℕ) → calls (exprAt t n) g ≡ false
+      none g = calls-bytes t (functions t) (nodes t) fair n i g ∙ rw (sym eb ∙ h) refl
+
+      sites : (g m : ℕ) → 1 ≤ g → g ≤ 32 → Bit m → packed rows′ (512 * (32 + g) + m) ≡ site t n g m
+      sites g m p l c =
+          old g m p l c ∙ sym (or-none _ _ (eqb n m) (none g)) ∙ next-bit (λ k. calls (exprAt t k) g) n m (i .0)
+
+-- its bit in the set of those held
+pub marked-as : (n : ℕ) (v v′ : Bool) (x y : List ℕ) → v ≡ v′ → Packs (λ m. pick (eqb n m) v (packed x m)) y
+    → Packs (λ m. pick (eqb n m) v′ (packed x m)) y
+marked-as n v v′ x y e p = rw (sym e) p

@@ -305,13 +305,13 @@ fn enlist(
         (setsOf (now (table .entry)) (stateAs a b c d (now (occupant .entry))) .held (n .0))
         (packed (now (held .entry)) m)) (now (held .exit))) ⌝ }
 {
+    sets::mark(held, n, barred(table, cells, occupant, n));
     let f = decoded::owner(cells, n);
     sets::put_at(rows, f.0 as usize, n);
     if is_call(table, cells, n) {
         let g = decoded::callee(cells, n);
         sets::put_at(rows, 32 + g.0 as usize, n);
     }
-    sets::mark(held, n, barred(table, cells, occupant, n));
 }
 
 // The rows and the sets of a state, from none.
