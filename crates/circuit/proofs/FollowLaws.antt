@@ -2,22 +2,23 @@
 use Prim.Native.Nat.{ℕ, _+_, _*_, _≤_, _<_}
 use mathlib.Core.Bool.{Bool, true, false, _&&_, not}
 use mathlib.Core.Path.{_≡_, refl, subst, sym, ap, _∙_}
-use mathlib.Core.List.{List}
+use mathlib.Core.List.{List, []}
 use native.Mathlib.Omega.{arith}
 use native.Mathlib.Decide.{ℕ-discrete}
 use Rattle.table.specs.Pick.{Range}
 use Rattle.table.specs.Bytes.{functions, nodes}
 use Rattle.table.specs.Naming.{parent}
 use Rattle.table.specs.Working.{Taken, IsNode, IsFunction}
+use Rattle.table.proofs.Family.{parent-node}
 use Rattle.table.specs.declared.Function.{Function}
 use Rattle.table.specs.declared.Node.{Node}
 use Rattle.list.specs.Working.{packed}
 use Rattle.rules.specs.State.{State512, Sized, In}
-use Rattle.rules.specs.Sets.{Sets, setsOf, Stays}
+use Rattle.rules.specs.Sets.{Sets, setsOf, Stays, rereads}
 use Rattle.rules.proofs.SetsExact.{placed-next, held-next}
 use Rattle.circuit.specs.declared.plan.Plan.{Plan}
 use Rattle.circuit.specs.declared.plan.Plan.the-variants as Plan
-use Rattle.circuit.specs.Working.{opens, Planned, performed}
+use Rattle.circuit.specs.Working.{opens, planned, Planned, performed}
 use Rattle.circuit.specs.Packed.{Packs, setsAs, Rowed, Tracks, Places, Arms, Ends, Renews, Updates}
 use Rattle.circuit.proofs.ChainLaws.{ok}
 use Rattle.circuit.proofs.UpdateLaws.{node-bit, site-is}
@@ -88,6 +89,22 @@ module _ (t : List ℕ) (fair : Taken t) (n : ℕ) (a w i a′ w′ i′ : List 
     updated = λ v. record { placed = y .renewing; held = y .held };
     past = y .past;
   }
+
+-- the node to be read anew is one, where there is one
+pub again-in : (t : List ℕ) → Taken t → (n : ℕ) → IsNode t n → (p : Plan) (k : ℕ)
+    → ((value : List ℕ) → k ≡ rereads (parent t) n (planned t value n p)) → (k ≡ 0 → ⊥) → IsNode t k
+again-in t fair n i p k e z = go p (e [])
+  where
+    at-parent : k ≡ parent t n → IsNode t k
+    at-parent q = subst (IsNode t) (sym q) (parent-node t (ok t fair .linking) n i (λ y. z (q ∙ y)))
+
+    go : (p : Plan) → k ≡ rereads (parent t) n (planned t [] n p) → IsNode t k
+    go Plan.Begins q = subst (IsNode t) (sym q) i
+    go (Plan.Turns m) q = subst (IsNode t) (sym q) i
+    go (Plan.Finishes v) q = at-parent q
+    go (Plan.Enters g true) q = absurd (z q)
+    go (Plan.Enters g false) q = absurd (z q)
+    go (Plan.Leaves g v) q = at-parent q
 
 -- after the move the updated sets are those of the state, but for one node
 module _ (t : List ℕ) (fair : Taken t) (n : ℕ) (i : IsNode t n) (p : Plan) (s : State512) (sized : Sized s) (q : Planned t s n p)

@@ -18,6 +18,7 @@ pub mod TurnLaws
 pub mod StepsLaws
 pub mod UpdateLaws
 pub mod FollowLaws
+pub mod LoopLaws
 pub mod EntryLaws
 pub mod LentLaws
 pub mod BeginLaws

@@ -281,11 +281,12 @@ pub(crate) fn follow(
     let anew = update(
         table, cells, rows, armed, waiting, inside, held, n, plan,
     );
-    if anew.0 != 0 {
-        read_anew(
-            table, cells, status, second, value, armed, waiting, inside, anew,
-        );
+    if anew.0 == 0 {
+        return sets::first(armed, waiting, held);
     }
+    read_anew(
+        table, cells, status, second, value, armed, waiting, inside, anew,
+    );
     sets::first(armed, waiting, held)
 }
 
