@@ -1,15 +1,15 @@
 -- the sets of a run as the code keeps them: a node placed, a chain armed, a node enlisted
 use Prim.Native.Nat.{ℕ, suc, _+_, _-_, _*_, _<_, _≤_}
 use mathlib.Core.Bool.{Bool, true, false, _&&_, _||_, not}
-use mathlib.Core.Path.{_≡_, refl, sym, ap, ap₂, _∙_}
+use mathlib.Core.Path.{_≡_, refl, subst, sym, ap, _∙_}
 use mathlib.Core.List.{List, [], _∷_}
 use mathlib.Core.Logic.{_⊎_, inl, inr}
 use native.Mathlib.Omega.{arith}
 use native.Mathlib.Decide.{ℕ-discrete, decLt}
 use lib.Dec.{eqb, ltb}
-use lib.ListN.{length}
+use lib.ListN.{length, replicate, length-replicate}
 use borrow.Author.Tests.{eq-eqb, ne-eqb, eqb-true, lt-ltb, le-ltb}
-use Rattle.table.specs.Pick.{pick}
+use Rattle.table.specs.Pick.{pick, Range}
 use Rattle.table.specs.Bytes.{functions, nodes, kind, word, first}
 use Rattle.table.specs.Naming.{owner, chain, children}
 use Rattle.table.specs.Expressions.{exprAt}
@@ -17,14 +17,16 @@ use Rattle.table.specs.Working.{IsNode, Taken}
 use Rattle.table.proofs.Tests.{and-no, and-yes}
 use Rattle.list.specs.Tags.{isCall}
 use Rattle.list.specs.Working.{packed, Bit, PutAt}
+use Rattle.list.proofs.WordLaws.{none-packed}
 use Rattle.rules.specs.State.{State512, In, entry}
 use Rattle.rules.specs.Step.{mine}
 use Rattle.rules.specs.Play.{calls}
 use Rattle.rules.specs.Sets.{Sets, setsOf, Stays}
 use Rattle.rules.proofs.StateLaws.{in?}
 use Rattle.rules.proofs.SetsBytes.{calls-bytes, inside-bytes, held-bytes}
+use Rattle.circuit.specs.Meaning.{stateAs}
 use Rattle.circuit.specs.Working.{leading, opens}
-use Rattle.circuit.specs.Packed.{Packs, setsAs, Three, site, RowedTo, Places, Arms}
+use Rattle.circuit.specs.Packed.{Packs, setsAs, Three, site, RowedTo, Rowed, Past, Tracks, Places, Arms}
 
 -- a node's bit is as marked, the others stay
 marked-here : (n : ℕ) (b : Bit n) (v : Bool) (x y : List ℕ) → Packs (λ m. pick (eqb n m) v (packed x m)) y → packed y n ≡ v
@@ -221,3 +223,91 @@ module _ (t : List ℕ) (fair : Taken t) (n : ℕ) (i : IsNode t n) (rows : List
 pub marked-as : (n : ℕ) (v v′ : Bool) (x y : List ℕ) → v ≡ v′ → Packs (λ m. pick (eqb n m) v (packed x m)) y
     → Packs (λ m. pick (eqb n m) v′ (packed x m)) y
 marked-as n v v′ x y e p = rw (sym e) p
+
+-- the rows and the sets of a state are filled for the nodes up to n; past them none is armed or waits
+pub record FilledTo (t status : List ℕ) (second : List Bool) (value occupant rows a w i h : List ℕ) (n : ℕ) : Type 0 where
+  pub rowed : RowedTo t n rows
+  pub three : Three a w i
+  pub size : length h ≡ 8
+  pub placed : (d : List ℕ) (m : ℕ) → Range n m → Stays (setsOf t (stateAs status second value d occupant)) (setsAs a w i h) m
+  pub holds : (d : List ℕ) (m : ℕ) → Range n m → packed h m ≡ setsOf t (stateAs status second value d occupant) .held m
+  pub past : Past n (setsAs a w i h)
+
+zeros-many : (k : ℕ) (l : List ℕ) → l ≡ replicate k 0 → length l ≡ k
+zeros-many k l e = ap length e ∙ length-replicate {A = ℕ} k 0
+
+module _ (t status : List ℕ) (second : List Bool) (value occupant : List ℕ) where
+  abbrev sets : List ℕ → Sets
+  sets d = setsOf t (stateAs status second value d occupant)
+
+  abbrev Filled : (rows a w i h : List ℕ) → ℕ → Type 0
+  Filled = FilledTo t status second value occupant
+
+  pub filled-start : (rows a w i h : List ℕ) → rows ≡ replicate 520 0 → a ≡ replicate 8 0 → w ≡ replicate 8 0 → i ≡ replicate 8 0
+      → h ≡ replicate 8 0 → Filled rows a w i h 0
+  filled-start rows a w i h er ea ew ei eh = record {
+    rowed = record {
+      size = zeros-many 520 rows er;
+      members = λ g m l b. row (512 * g + m) ∙ sym (rw (le-ltb m 1 (b .0)) refl);
+      sites = λ g m p l b. row (512 * (32 + g) + m) ∙ sym (rw (le-ltb m 1 (b .0)) refl);
+    };
+    three = record { armed = zeros-many 8 a ea; waiting = zeros-many 8 w ew; inside = zeros-many 8 i ei };
+    size = zeros-many 8 h eh;
+    placed = λ d m r. absurd (omega (arith, r .0, r .1));
+    holds = λ d m r. absurd (omega (arith, r .0, r .1));
+    past = λ m p q. (ap (λ l. packed l m) ea ∙ none-packed 8 m, ap (λ l. packed l m) ew ∙ none-packed 8 m);
+  }
+    where
+      row : (m : ℕ) → packed rows m ≡ false
+      row m = ap (λ l. packed l m) er ∙ none-packed 520 m
+
+  module _ (rows a w i h : List ℕ) (n : ℕ) (x : Filled rows a w i h n) where
+    -- the rows of the nodes before the next one
+    pub filled-rows : RowedTo t (n + 1 - 1) rows
+    filled-rows = subst (λ k. RowedTo t k rows) (omega arith) (x .rowed)
+
+    pub filled-next : n + 1 ≤ 512 → (rows′ h′ : List ℕ) → RowedTo t (n + 1) rows′
+        → ((d : List ℕ) → Packs (λ m. pick (eqb (n + 1) m) (sets d .held (n + 1)) (packed h m)) h′) → (a′ w′ i′ : List ℕ) → Three a′ w′ i′
+        → ((d : List ℕ) → Places (n + 1) (sets d .armed (n + 1)) (sets d .waiting (n + 1)) (sets d .inside (n + 1))
+        (setsAs a w i h) (setsAs a′ w′ i′ h)) → Filled rows′ a′ w′ i′ h′ (n + 1)
+    filled-next l rows′ h′ r held a′ w′ i′ three p = record {
+      rowed = r;
+      three = three;
+      size = held [] .size;
+      placed = λ d m q. placed d m q (ℕ-discrete m (n + 1));
+      holds = λ d m q. holds d m q (ℕ-discrete m (n + 1));
+      past = λ m u v. past m u v (p [] .others m (omega arith, v) (λ e. omega arith));
+    }
+      where
+        bit : (m : ℕ) → Range (n + 1) m → Bit m
+        bit m q = (q .0, omega (arith, q .1))
+
+        placed : (d : List ℕ) (m : ℕ) → Range (n + 1) m → Dec (m ≡ n + 1) → Stays (sets d) (setsAs a′ w′ i′ h′) m
+        placed d m q (yes e) = rw e (p d .here)
+        placed d m q (no e) =
+            let s = p d .others m (bit m q) e in
+            let o = x .placed d m (q .0, omega (arith, q .1)) in
+            (s .0 ∙ o .0, s .1 ∙ o .1, s .2 ∙ o .2)
+
+        holds : (d : List ℕ) (m : ℕ) → Range (n + 1) m → Dec (m ≡ n + 1) → packed h′ m ≡ sets d .held m
+        holds d m q (yes e) = rw e (marked-here (n + 1) (omega arith, l) (sets d .held (n + 1)) h h′ (held d))
+        holds d m q (no e) =
+            marked-other (n + 1) (sets d .held (n + 1)) h h′ (held d) m (bit m q) e ∙ x .holds d m (q .0, omega (arith, q .1))
+
+        past : (m : ℕ) → n + 1 < m → m ≤ 512 → Stays (setsAs a w i h) (setsAs a′ w′ i′ h) m
+            → (packed a′ m ≡ false) × (packed w′ m ≡ false)
+        past m u v s = let o = x .past m (omega arith) v in (s .0 ∙ o .0, s .1 ∙ o .1)
+
+    -- all of them
+    module _ (e : n ≡ nodes t) where
+      pub filled-rowed : Rowed t rows
+      filled-rowed = subst (λ k. RowedTo t k rows) e (x .rowed)
+
+      pub filled-tracks : (d : List ℕ) → Tracks t (stateAs status second value d occupant) (setsAs a w i h)
+      filled-tracks d = record {
+        exact = record {
+          placed = λ m r. x .placed d m (r .0, omega (arith, r .1, e));
+          held = λ m r. x .holds d m (r .0, omega (arith, r .1, e));
+        };
+        past = λ m p q. x .past m (omega (arith, e)) q;
+      }
