@@ -3,7 +3,7 @@ use Prim.Native.Nat.{ℕ, suc, _+_, _-_, _*_, _<_, _≤_}
 use mathlib.Core.Bool.{Bool, true, false, _&&_, _||_, not}
 use mathlib.Core.Path.{_≡_, refl, subst, sym, ap, _∙_}
 use mathlib.Core.List.{List, [], _∷_}
-use mathlib.Core.Logic.{_⊎_, inl, inr}
+use mathlib.Core.Logic.{inl, inr}
 use native.Mathlib.Omega.{arith}
 use native.Mathlib.Decide.{ℕ-discrete, decLt}
 use lib.Dec.{eqb, ltb}
@@ -132,7 +132,7 @@ module _ (t : List ℕ) (fair : Taken t) (n : ℕ) (i : IsNode t n) (b : Bool) (
 
   pub held-not : b ≡ false → false ≡ setsOf t s .held n
   held-not h = sym (held-bytes t _ _ fair n i s ∙ rw (sym eb ∙ h) refl)
- 
+
   pub inside-is : (x : ℕ) → x ≡ entry (s .status) 0 n → x ≡ 2 → (y : Bool) → y ≡ entry (s .second) false n → y ≡ true
       → b ≡ setsOf t s .inside n
   inside-is x ex hx y ey hy = sym (inside-bytes t _ _ fair n i s ∙ rw (sym ex ∙ hx, sym ey ∙ hy, sym eb) (and-yes b))

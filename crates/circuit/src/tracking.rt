@@ -91,7 +91,8 @@ fn read_anew(
 )
     requires { ⌜ Read (now table) (now cells) × IsNode (now table) (n .0) × Three (now armed) (now waiting) (now inside) ⌝ }
     ensures { λ _. ⌜ Three (now (armed .exit)) (now (waiting .exit)) (now (inside .exit))
-        × ((d e h : List ℕ) → let x = setsOf (now (table .entry)) (stateAs (now (status .entry)) (now (second .entry)) (now (value .entry)) d e) in
+        × ((d e h : List ℕ)
+        → let x = setsOf (now (table .entry)) (stateAs (now (status .entry)) (now (second .entry)) (now (value .entry)) d e) in
         Places (n .0) (x .armed (n .0)) (x .waiting (n .0)) (x .inside (n .0))
         (setsAs (now (armed .entry)) (now (waiting .entry)) (now (inside .entry)) h)
         (setsAs (now (armed .exit)) (now (waiting .exit)) (now (inside .exit)) h)) ⌝ }
@@ -344,7 +345,15 @@ pub(crate) fn fill(
         n += 1;
         enlist(table, cells, occupant, rows, held, Node(n));
         read_anew(
-            table, cells, status, second, value, armed, waiting, inside, Node(n),
+            table,
+            cells,
+            status,
+            second,
+            value,
+            armed,
+            waiting,
+            inside,
+            Node(n),
         );
     }
 }

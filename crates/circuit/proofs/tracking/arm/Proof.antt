@@ -1,8 +1,7 @@
 -- `tracking::arm` meets its contract, by kind.
 use native.Mathlib.Omega.{arith}
-use mathlib.Core.Path.{_≡_, sym, _∙_, subst}
+use mathlib.Core.Path.{_≡_, sym, _∙_}
 use Rattle.table.specs.Bytes.{kind, first}
-use Rattle.table.specs.Working.{IsNode}
 use Rattle.table.proofs.Reading.{told}
 use Rattle.circuit.proofs.ActBy.{three-in}
 use Rattle.circuit.proofs.ChainLaws.{ok, first-in}

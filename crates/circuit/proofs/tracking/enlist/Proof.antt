@@ -98,8 +98,8 @@ returns c =
     let barred : tie.After-barred = search in
     let s = start g in
     let p = s .pre in (
-      rowed-call _ (p .0 .taken) _ (p .1) _ (p .3) _ (own-read (owned g)) (few (owned g)) _ (put .put-at .ensures) _ (told .is-call .ensures)
-          (a-call .if1 .taken) _ (word-read g) (omega (arith, word-read g, function g .0)) _ (c .put-at2 .ensures),
+      rowed-call _ (p .0 .taken) _ (p .1) _ (p .3) _ (own-read (owned g)) (few (owned g)) _ (put .put-at .ensures) _
+          (told .is-call .ensures) (a-call .if1 .taken) _ (word-read g) (omega (arith, word-read g, function g .0)) _ (c .put-at2 .ensures),
       λ x y z u. marked-as _ _ _ (s .args .held .now) _ (barred .barred .ensures x y z u) (mark .mark .ensures),
     )
 
@@ -112,7 +112,8 @@ returns-2 c =
     let o : tie.After-owner = search in
     let s = begin o in
     let p = s .pre in (
-      rowed-other _ (p .0 .taken) _ (p .1) _ (p .3) _ (own-read o) (few o) _ (put .put-at .ensures) _ (told .is-call .ensures) (c .if1 .left),
+      rowed-other _ (p .0 .taken) _ (p .1) _ (p .3) _ (own-read o) (few o) _ (put .put-at .ensures) _ (told .is-call .ensures)
+          (c .if1 .left),
       λ x y z u. marked-as _ _ _ (s .args .held .now) _ (barred .barred .ensures x y z u) (mark .mark .ensures),
     )
 

@@ -1,8 +1,7 @@
 -- `tracking::is_call` meets its contract, by kind.
 use native.Mathlib.Omega.{arith}
 use mathlib.Core.Path.{_≡_, sym, _∙_}
-use Rattle.table.specs.Bytes.{kind, word}
-use Rattle.table.specs.Naming.{owner}
+use Rattle.table.specs.Bytes.{kind}
 use Rattle.table.proofs.Reading.{told, told-low}
 use Rattle.circuit.proofs.ActBy.{callee-in}
 use Rattle.circuit.proofs.ChainLaws.{ok}
@@ -14,7 +13,7 @@ use Rattle.circuit.proofs.tracking.is_call.Tie as tie
 abbrev start : tie.After-kind → tie.Start
 start c = search
 
--- what was read is the node's kind, word and function
+-- what was read is the node's kind
 kinds : (c : tie.After-kind) → c .kind .result ≡ kind (start c .args .table .now) (start c .args .n .0)
 kinds c = told _ _ (start c .pre .0) _ (start c .pre .1) 0 _ (omega arith) (c .kind .ensures)
 
