@@ -14,11 +14,13 @@ pub mod SweepLaws
 pub mod GiveLaws
 pub mod PerformLaws
 pub mod StandsLaws
+pub mod WhyLaws
 pub mod TurnLaws
 pub mod StepsLaws
 pub mod UpdateLaws
 pub mod FollowLaws
 pub mod LoopLaws
+pub mod QueryLaws
 pub mod EntryLaws
 pub mod LentLaws
 pub mod BeginLaws

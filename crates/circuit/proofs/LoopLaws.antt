@@ -12,11 +12,13 @@ use Rattle.table.specs.Bytes.{functions, root}
 use Rattle.table.specs.Working.{IsNode}
 use Rattle.rules.specs.State.{State512, entry}
 use Rattle.rules.specs.Circuit.{actOf}
-use Rattle.rules.specs.Sets.{firstIn, goes}
+use Rattle.rules.specs.Runs.{Ended, Driven}
+use Rattle.rules.specs.First.{driveFrom}
+use Rattle.rules.specs.Sets.{Sets, firstIn, goes}
 use Rattle.circuit.specs.declared.plan.Plan.{Plan}
 use Rattle.circuit.specs.Working.{Agreed, Planned, performed, Made}
 use Rattle.circuit.specs.Packed.{setsAs, Three, Tracks}
-use Rattle.circuit.specs.Following.{Follows, Followed}
+use Rattle.circuit.specs.Following.{Follows, Followed, standsAt}
 use Rattle.circuit.proofs.StepsLaws.{Going, Run, run-start, run-node, run-goes, run-next, run-stops}
 
 -- k steps are taken, the next would be at `at`
@@ -72,8 +74,12 @@ module _ (t tags rows : List ℕ) (tracked : Bool) (top n budget : ℕ) (s₀ : 
             → at′ ≡ firstIn (setsAs a′ w′ i′ h′) 512 → Tracks t s′ (setsAs a′ w′ i′ h′)
             → Loop t tags rows tracked top n budget s₀ at′ (k + 1) s′ a′ w′ i′ h′
         loop-tracked b a′ w′ i′ h′ three size at′ f tr = record {
-          run = λ _. (three, size, run-next t tags top s₀ budget (agreed b) (main b) at k s (setsAs a w i h) (l .run b .2) (g .here)
-              (g .undone) (g .room) p q s′ e (setsAs a′ w′ i′ h′) tr at′ f);
+          run = λ _. (
+            three,
+            size,
+            run-next t tags top s₀ budget (agreed b) (main b) at k s (setsAs a w i h) (l .run b .2) (g .here)
+                (g .undone) (g .room) p q s′ e (setsAs a′ w′ i′ h′) tr at′ f,
+          );
           once = λ c. neither b c;
         }
 
@@ -105,3 +111,8 @@ module _ (t tags rows : List ℕ) (tracked : Bool) (top n budget : ℕ) (s₀ : 
               let undone : entry (s .status) 0 top ≡ 3 → ⊥ = λ z. f .2 (sym (ap (λ u. entry (u .status) 0 top) (x .2)) ∙ z) in
               absurd (true≢false (sym (ap₂ (λ u v. not u && (v && not (eqb (entry (s .status) 0 top) 3))) (ne-eqb at 0 here)
               (lt-ltb k budget room) ∙ ap not (ne-eqb (entry (s .status) 0 top) 3 undone)) ∙ sym eb ∙ stop))
+
+-- a run that was followed to its end, as it is told
+pub driven-so : (t tags : List ℕ) (top b k : ℕ) (s s′ : State512) (x : Sets) → Followed t tags top b k s s′ x → (e : Ended)
+    → e ≡ standsAt (s′ .status) (s′ .value) top x → _≡_ {A = Driven} (record { steps = k; ended = e; state = s′ }) (driveFrom t tags s b)
+driven-so t tags top b k s s′ x f e q = (λ i. record { steps = k; ended = q i; state = s′ }) ∙ sym (f .drove)

@@ -78,8 +78,8 @@ module _ (t : List ℕ) (fair : Taken t) (n : ℕ) (i : IsNode t n) (x y : Sets)
       };
       past = λ q m h k. let s = past-others m h k in let z = q m h k in (
         is m (omega arith, k)
-        ∙ ap (λ b. y .armed m || (y .inside m && b)) (site-past t fair m h (owner t n))
-        ∙ ap (λ b. y .armed m || b) (and-no (y .inside m)) ∙ or-no (y .armed m) ∙ s .0 ∙ z .0,
+            ∙ ap (λ b. y .armed m || (y .inside m && b)) (site-past t fair m h (owner t n))
+            ∙ ap (λ b. y .armed m || b) (and-no (y .inside m)) ∙ or-no (y .armed m) ∙ s .0 ∙ z .0,
         s .1 ∙ z .1,
       );
     }

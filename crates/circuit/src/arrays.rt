@@ -38,5 +38,4 @@ pub(crate) fn whole(
     occupant: [u16; 32],
 )
     ensures { λ _. ⌜ Sized (stateAs status second value registers occupant) ⌝ }
-{
-}
+{}

@@ -58,7 +58,11 @@ fn of_primitive(table: &[u8], cells: &Cells, status: &[u8; 512], n: Node) -> u8
         (stateAs (now (status .entry)) b c d e) (n .0))) ⌝ }
 {
     let c = decoded::first(cells, n);
-    if chain::all_done(table, cells, status, c, false) { 2 } else { 0 }
+    if chain::all_done(table, cells, status, c, false) {
+        2
+    } else {
+        0
+    }
 }
 
 // A self call is one whose callee is its own function.
@@ -83,7 +87,11 @@ fn of_self(table: &[u8], cells: &Cells, status: &[u8; 512], n: Node) -> u8
         (stateAs (now (status .entry)) b c d e) (n .0))) ⌝ }
 {
     let c = decoded::first(cells, n);
-    if chain::all_done(table, cells, status, c, false) { 2 } else { 0 }
+    if chain::all_done(table, cells, status, c, false) {
+        2
+    } else {
+        0
+    }
 }
 
 // Of another function g: in its second phase once g's root is done, in its first once the arguments are.
@@ -104,7 +112,11 @@ fn of_other(
         return once_done(status, decoded::root(cells, g));
     }
     let c = decoded::first(cells, n);
-    if chain::all_done(table, cells, status, c, false) { 1 } else { 0 }
+    if chain::all_done(table, cells, status, c, false) {
+        1
+    } else {
+        0
+    }
 }
 
 // In the second phase once the branch is done, in the first once the condition is.
@@ -139,7 +151,11 @@ fn of_let(table: &[u8], cells: &Cells, status: &[u8; 512], second: &[bool; 512],
     if store::second_at(second, n) {
         return once_done(status, chain::last_of(table, cells, c));
     }
-    if chain::all_done(table, cells, status, c, true) { 2 } else { 0 }
+    if chain::all_done(table, cells, status, c, true) {
+        2
+    } else {
+        0
+    }
 }
 
 // A move that only waits for node r.
@@ -147,5 +163,9 @@ fn once_done(status: &[u8; 512], r: Node) -> u8
     requires { ⌜ r .0 ≤ 512 ⌝ }
     ensures { λ k. ⌜ k ≡ pick (eqb (entry (now (status .entry)) 0 (r .0)) 3) 2 0 ⌝ }
 {
-    if store::status_at(status, r) == 3 { 2 } else { 0 }
+    if store::status_at(status, r) == 3 {
+        2
+    } else {
+        0
+    }
 }

@@ -81,13 +81,35 @@ pub(crate) fn go(
         let m = Node(at);
         let plan = plan::plan_at(table, cells, status, second, value, registers, m);
         changes::perform(
-            table, cells, grouped, heads, links, status, second, value, registers, occupant, m, plan,
+            table,
+            cells,
+            grouped,
+            heads,
+            links,
+            status,
+            second,
+            value,
+            registers,
+            occupant,
+            m,
+            plan,
         );
         taken += 1;
         at = 0;
         if tracked {
             at = tracking::follow(
-                table, cells, rows, armed, waiting, inside, held, status, second, value, m, plan,
+                table,
+                cells,
+                rows,
+                armed,
+                waiting,
+                inside,
+                held,
+                status,
+                second,
+                value,
+                m,
+                plan,
             ).0;
         }
     }

@@ -279,14 +279,20 @@ pub(crate) fn follow(
         → Tracks (now (table .entry)) (stateAs (now (status .entry)) (now (second .entry)) (now (value .entry)) d e)
         (setsAs (now (armed .exit)) (now (waiting .exit)) (now (inside .exit)) (now (held .exit)))) ⌝ }
 {
-    let anew = update(
-        table, cells, rows, armed, waiting, inside, held, n, plan,
-    );
+    let anew = update(table, cells, rows, armed, waiting, inside, held, n, plan);
     if anew.0 == 0 {
         return sets::first(armed, waiting, held);
     }
     read_anew(
-        table, cells, status, second, value, armed, waiting, inside, anew,
+        table,
+        cells,
+        status,
+        second,
+        value,
+        armed,
+        waiting,
+        inside,
+        anew,
     );
     sets::first(armed, waiting, held)
 }

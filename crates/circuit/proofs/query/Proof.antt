@@ -1,5 +1,5 @@
 -- `query` meets its contract: the state is taken apart and asked.
-use mathlib.Core.Path.{subst}
+use mathlib.Core.Path.{_≡_, subst}
 use Rattle.rules.specs.First.{queryOf}
 use Rattle.circuit.specs.Meaning.{stateAs, foundOf}
 use borrow.Author.Needs.{needs}

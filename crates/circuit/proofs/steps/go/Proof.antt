@@ -1,10 +1,14 @@
 -- `steps::go` meets its contract. The invariant: the loop's steps so far (`Loop`), and the budget fits. The measure is the budget left.
 use native.Mathlib.Omega.{arith}
-use mathlib.Core.Path.{_≡_, refl, sym}
-use Prim.Native.Nat.{_+_, _-_, _≤_}
+use mathlib.Core.Path.{_≡_}
+use Prim.Native.Nat.{_-_, _≤_}
+use Rattle.table.specs.Working.{IsNode}
 use Rattle.rules.specs.State.{State512, entry}
+use mathlib.Core.Bool.{true}
+use Rattle.rules.specs.Circuit.{actOf}
+use Rattle.rules.specs.Sets.{goes}
 use Rattle.circuit.specs.Meaning.{stateAs}
-use Rattle.circuit.specs.Working.{Planned, performed}
+use Rattle.circuit.specs.Working.{Planned}
 use Rattle.circuit.proofs.PerformLaws.{sound}
 use Rattle.circuit.proofs.StepsLaws.{Going, goes-on}
 use Rattle.circuit.proofs.LoopLaws.{Loop, From, loop-start, loop-node, loop-tracked, loop-single, loop-followed, loop-made}
@@ -66,32 +70,109 @@ going-requires c κs =
     let h : Head = search in
     (start h .pre .2, start h .pre .3)
 
+-- the node of a turn has a move
+here : (c : Turn) → let h = head c in
+    IsNode (start h .args .table .now) (h .loop .at) × (goes (actOf (start h .args .table .now) (state h) (h .loop .at)) ≡ true)
+here c =
+    let h = head c in
+    loop-node _ _ _ _ _ _ _ _ _ _ _ _ (from (start h)) _ _ (state h) _ _ _ _ (h .loop .inv .0) (on c)
+
+-- the plan is that move, and it is made
+abbrev Plan-read : Type 0
+Plan-read = tie.After-plan-at Inv-loop μ-loop
+
+abbrev Done : Type 0
+Done = tie.After-perform Inv-loop μ-loop
+
+abbrev turn : Plan-read → Turn
+turn c = search
+
+planned : (c : Plan-read) → let h = head (turn c) in Planned (start h .args .table .now) (state h) (h .loop .at) (c .plan-at .result)
+planned c = c .plan-at .ensures _ (here (turn c) .1)
+
+abbrev plan-of : Done → Plan-read
+plan-of c = search
+
 plan-at-requires : tie.Need-plan-at-requires Inv-loop μ-loop
-plan-at-requires c κs = ?
+plan-at-requires c κs =
+    let t : Turn = search in
+    (start (head t) .pre .0, here t .0)
 
 perform-requires : tie.Need-perform-requires Inv-loop μ-loop
-perform-requires c κs = ?
+perform-requires c κs =
+    let p : Plan-read = search in
+    let s = start (head (turn p)) in
+    (s .pre .0, here (turn p) .0, s .pre .1, planned p)
 
 add-taken : tie.Need-add-taken Inv-loop μ-loop
-add-taken c = ?
+add-taken c =
+    let d : Done = search in
+    let t = turn (plan-of d) in
+    omega (arith, on t .room, head t .loop .inv .1)
 
 follow-requires : tie.Need-follow-requires Inv-loop μ-loop
-follow-requires c κs = ?
+follow-requires c κs =
+    let yes : tie.Then2 Inv-loop μ-loop = search in
+    let d : Done = search in
+    let p = plan-of d in
+    let h = head (turn p) in
+    let s = start h in
+    let e = yes .if2 .taken in
+    let sets = h .loop .inv .0 .run e in (
+      s .pre .0,
+      here (turn p) .0,
+      sound _ (s .pre .0 .taken) _ (here (turn p) .0) _ _ _ _ _ (p .plan-at .result) (planned p),
+      s .pre .4 e .1 .rowed,
+      sets .0,
+      sets .1,
+    )
 
 loop-less : tie.Need-loop-less Inv-loop μ-loop
-loop-less c = ?
+loop-less c =
+    let d : Done = search in
+    let t = turn (plan-of d) in
+    omega (arith, on t .room)
 
 loop-again : tie.Need-loop-again Inv-loop μ-loop
-loop-again c = ?
+loop-again c =
+    let yes : tie.Then2 Inv-loop μ-loop = search in
+    let d : Done = search in
+    let p = plan-of d in
+    let h = head (turn p) in
+    let e = yes .if2 .taken in
+    let f = c .follow .ensures in
+    let r = h .loop .inv .0 .run e .2 in (
+      loop-tracked _ _ _ _ _ _ _ _ _ _ _ _ (from (start h)) _ _ (state h) _ _ _ _ (h .loop .inv .0) (on (turn p)) (p .plan-at .result) (planned p) _
+          (d .perform .ensures) e _ _ _ _ (f .0) (f .1) _ (f .2)
+          (f .3 (state h) _ _ (r .turning .sized) (planned p) (d .perform .ensures)
+          (record { exact = r .turning .exact; past = r .past })),
+      h .loop .inv .1,
+    )
 
 loop-less-2 : tie.Need-loop-less-2 Inv-loop μ-loop
-loop-less-2 c = ?
+loop-less-2 c =
+    let d : Done = search in
+    let t = turn (plan-of d) in
+    omega (arith, on t .room)
 
 loop-again-2 : tie.Need-loop-again-2 Inv-loop μ-loop
-loop-again-2 c = ?
+loop-again-2 c =
+    let d : Done = search in
+    let p = plan-of d in
+    let h = head (turn p) in (
+      loop-single _ _ _ _ _ _ _ _ _ _ _ _ (from (start h)) _ _ (state h) _ _ _ _ (h .loop .inv .0) (on (turn p)) (p .plan-at .result) (planned p) _
+          (d .perform .ensures) (c .if2 .left),
+      h .loop .inv .1,
+    )
 
 returns : tie.Need-returns Inv-loop μ-loop
-returns c = ?
+returns c =
+    let asked : tie.After-going Inv-loop μ-loop = search in
+    let h : Head = search in
+    let s = start h in (
+      loop-followed _ _ _ _ _ _ _ _ _ _ _ _ (from s) _ _ (state h) _ _ _ _ (h .loop .inv .0) _ (asked .going .ensures) (c .if1 .left),
+      loop-made _ _ _ _ _ _ _ _ _ _ _ _ (from s) _ _ (state h) _ _ _ _ (h .loop .inv .0) _ (asked .going .ensures) (c .if1 .left),
+    )
 
 pub go-spec : {M : Type 1} → statement M
 go-spec =

@@ -71,10 +71,11 @@ returns c =
     let placed = places p in
     let s = start-owner o in
     let fair = s .pre .0 .taken in
-    let z = placed .place .ensures in
-    (record { armed = c .gain .ensures .size; waiting = z .0 .waiting; inside = z .0 .inside },
-    λ h. ended-by _ fair _ (s .pre .2) _ (s .pre .1) (sym (parents p) ∙ top .if1 .taken) _ (owners o) (own-in _ fair _ (s .pre .1))
-    _ _ _ _ _ _ _ _ _ h (z .1 h) (row .row .ensures) (common .common .ensures) (c .gain .ensures))
+    let z = placed .place .ensures in (
+      record { armed = c .gain .ensures .size; waiting = z .0 .waiting; inside = z .0 .inside },
+      λ h. ended-by _ fair _ (s .pre .2) _ (s .pre .1) (sym (parents p) ∙ top .if1 .taken) _ (owners o) (own-in _ fair _ (s .pre .1))
+          _ _ _ _ _ _ _ _ _ h (z .1 h) (row .row .ensures) (common .common .ensures) (c .gain .ensures),
+    )
 
 returns-2 : tie.Need-returns-2
 returns-2 c =

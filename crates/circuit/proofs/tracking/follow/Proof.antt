@@ -30,9 +30,12 @@ returns c =
     let none : tie.Then1 = search in
     let u : tie.After-update = search in
     let s : tie.Start = search in
-    let z = u .update .ensures in
-    (z .0, z .1, c .first .ensures _,
-    λ s₀ d e sized q eq tr. follows-none _ (s .pre .0 .taken) _ (s .pre .1) _ s₀ sized q _ eq _ _ tr _ (z .2) (none .if1 .taken))
+    let z = u .update .ensures in (
+      z .0,
+      z .1,
+      c .first .ensures _,
+      λ s₀ d e sized q eq tr. follows-none _ (s .pre .0 .taken) _ (s .pre .1) _ s₀ sized q _ eq _ _ tr _ (z .2) (none .if1 .taken),
+    )
 
 read-anew-requires : tie.Need-read-anew-requires
 read-anew-requires c κs =
@@ -48,9 +51,12 @@ returns-2 c =
     let some : tie.Else1 = search in
     let s = start some in
     let z = updates some .update .ensures in
-    let r = read .read-anew .ensures in
-    (r .0, z .1, c .first2 .ensures _,
-    λ s₀ d e sized q eq tr. follows-anew _ (s .pre .0 .taken) _ (s .pre .1) _ s₀ sized q _ eq _ _ tr _ (z .2) (anew some) _ refl (r .1 d e _))
+    let r = read .read-anew .ensures in (
+      r .0,
+      z .1,
+      c .first2 .ensures _,
+      λ s₀ d e sized q eq tr. follows-anew _ (s .pre .0 .taken) _ (s .pre .1) _ s₀ sized q _ eq _ _ tr _ (z .2) (anew some) _ refl (r .1 d e _),
+    )
 
 pub follow-spec : {M : Type 1} → statement M
 follow-spec =

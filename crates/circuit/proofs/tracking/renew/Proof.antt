@@ -119,23 +119,27 @@ returns c =
     let a : tie.After-mark = search in
     let r = rooted a in
     let l = losses r in
-    let s = start r in
-    (record { armed = a .mark .ensures .size; waiting = w .mark2 .ensures .size; inside = i .mark3 .ensures .size }, c .gain .ensures .size,
-    entered-anew _ (s .pre .0 .taken) _ (s .pre .3) _ (s .pre .2) _ (roots r) _ _ _ (rowed l .row .ensures) (sited l .row2 .ensures) _ _ _
-    (called l .common .ensures) _ _ _ _ _ (first-loss l .lose .ensures) (second-loss l .lose2 .ensures) (a .mark .ensures)
-    (third-loss l .lose3 .ensures) (l .lose4 .ensures) _ (s .pre .1) _ _ _ _ (w .mark2 .ensures) (i .mark3 .ensures) (c .gain .ensures) _
-    (anew .if1 .taken))
+    let s = start r in (
+      record { armed = a .mark .ensures .size; waiting = w .mark2 .ensures .size; inside = i .mark3 .ensures .size },
+      c .gain .ensures .size,
+      entered-anew _ (s .pre .0 .taken) _ (s .pre .3) _ (s .pre .2) _ (roots r) _ _ _ (rowed l .row .ensures) (sited l .row2 .ensures) _ _ _
+          (called l .common .ensures) _ _ _ _ _ (first-loss l .lose .ensures) (second-loss l .lose2 .ensures) (a .mark .ensures)
+          (third-loss l .lose3 .ensures) (l .lose4 .ensures) _ (s .pre .1) _ _ _ _ (w .mark2 .ensures) (i .mark3 .ensures) (c .gain .ensures) _
+          (anew .if1 .taken),
+    )
 
 returns-2 : tie.Need-returns-2
 returns-2 c =
     let a : tie.After-mark = search in
     let r = rooted a in
     let l = losses r in
-    let s = start r in
-    (record { armed = a .mark .ensures .size; waiting = third-loss l .lose3 .ensures .size; inside = l .lose4 .ensures .size }, s .pre .5,
-    renewed _ (s .pre .0 .taken) _ (s .pre .3) _ (s .pre .2) _ (roots r) _ _ _ (rowed l .row .ensures) (sited l .row2 .ensures) _ _ _
-    (called l .common .ensures) _ _ _ _ _ (first-loss l .lose .ensures) (second-loss l .lose2 .ensures) (a .mark .ensures)
-    (third-loss l .lose3 .ensures) (l .lose4 .ensures) _ _ _ (c .if1 .left))
+    let s = start r in (
+      record { armed = a .mark .ensures .size; waiting = third-loss l .lose3 .ensures .size; inside = l .lose4 .ensures .size },
+      s .pre .5,
+      renewed _ (s .pre .0 .taken) _ (s .pre .3) _ (s .pre .2) _ (roots r) _ _ _ (rowed l .row .ensures) (sited l .row2 .ensures) _ _ _
+          (called l .common .ensures) _ _ _ _ _ (first-loss l .lose .ensures) (second-loss l .lose2 .ensures) (a .mark .ensures)
+          (third-loss l .lose3 .ensures) (l .lose4 .ensures) _ _ _ (c .if1 .left),
+    )
 
 pub renew-spec : {M : Type 1} → statement M
 renew-spec =

@@ -75,9 +75,14 @@ enum-known-plan-2 c = search needs
 renew-requires : tie.Need-renew-requires
 renew-requires c κs =
     let enters : tie.After-plan2 = search in
-    let s : tie.Start = search in
-    (s .pre .0, s .pre .1, sound-as s (Plan.Enters (enters .plan2 .given .0 .0) (enters .plan2 .given .0 .1 .0)) (enters .plan2 .given .1),
-    s .pre .3, s .pre .4, s .pre .5)
+    let s : tie.Start = search in (
+      s .pre .0,
+      s .pre .1,
+      sound-as s (Plan.Enters (enters .plan2 .given .0 .0) (enters .plan2 .given .0 .1 .0)) (enters .plan2 .given .1),
+      s .pre .3,
+      s .pre .4,
+      s .pre .5,
+    )
 
 enum-known-plan-3 : tie.Need-enum-known-plan-3
 enum-known-plan-3 c = search needs
@@ -116,9 +121,12 @@ returns-2 c =
     let turns : tie.After-plan = search in
     let s : tie.Start = search in
     let z = c .place .ensures in
-    let e = turns .plan .given .1 in
-    (z .0, s .pre .5, back s _ e _ _ _ (turns-so _ (s .pre .0 .taken) _ _ _ _ _ _ _ _ (turns .plan .given .0 .0)
-    (sound-as s (Plan.Turns (turns .plan .given .0 .0)) e) (z .1 _)))
+    let e = turns .plan .given .1 in (
+      z .0,
+      s .pre .5,
+      back s _ e _ _ _ (turns-so _ (s .pre .0 .taken) _ _ _ _ _ _ _ _ (turns .plan .given .0 .0)
+          (sound-as s (Plan.Turns (turns .plan .given .0 .0)) e) (z .1 _)),
+    )
 
 returns-3 : tie.Need-returns-3
 returns-3 c =
@@ -132,9 +140,12 @@ returns-4 : tie.Need-returns-4
 returns-4 c =
     let enters : tie.After-plan2 = search in
     let s : tie.Start = search in
-    let z = c .renew .ensures in
-    (z .0, z .1, back s _ (enters .plan2 .given .1) _ _ _ (enters-so _ (s .pre .0 .taken) _ _ _ _ _ _ _ (enters .plan2 .given .0 .0)
-    (enters .plan2 .given .0 .1 .0) _ _ (z .2)))
+    let z = c .renew .ensures in (
+      z .0,
+      z .1,
+      back s _ (enters .plan2 .given .1) _ _ _ (enters-so _ (s .pre .0 .taken) _ _ _ _ _ _ _ (enters .plan2 .given .0 .0)
+          (enters .plan2 .given .0 .1 .0) _ _ (z .2)),
+    )
 
 returns-5 : tie.Need-returns-5
 returns-5 c =
@@ -143,9 +154,12 @@ returns-5 c =
     let sites : tie.After-row = search in
     let leaves : tie.After-plan3 = search in
     let s = start2 c in
-    let z = done .end-at2 .ensures in
-    (z .0, held .lose .ensures .size, back s _ (leaves .plan3 .given .1) _ _ _ (leaves-so _ (s .pre .0 .taken) _ _ _ _ _ _ _ _ (parents2 c)
-    _ (s .pre .3) (leaves .plan3 .given .0 .0) (left-in leaves) _ _ _ _ (sites .row .ensures) (held .lose .ensures) (z .1 _)))
+    let z = done .end-at2 .ensures in (
+      z .0,
+      held .lose .ensures .size,
+      back s _ (leaves .plan3 .given .1) _ _ _ (leaves-so _ (s .pre .0 .taken) _ _ _ _ _ _ _ _ (parents2 c)
+          _ (s .pre .3) (leaves .plan3 .given .0 .0) (left-in leaves) _ _ _ _ (sites .row .ensures) (held .lose .ensures) (z .1 _)),
+    )
 
 pub update-spec : {M : Type 1} → statement M
 update-spec =

@@ -2,13 +2,15 @@
 use Rattle.table.proofs.Reading.{told-last}
 use native.Mathlib.Omega.{arith}
 use borrow.Author.Needs.{needs}
+use mathlib.Core.Bool.{true≢false}
 use mathlib.Core.Path.{_≡_, refl, sym, _∙_}
 use Rattle.table.specs.Working.{IsNode}
 use Rattle.rules.specs.State.{State512}
 use Rattle.rules.specs.Step.{Act, Stepped}
 use Rattle.rules.specs.Circuit.{actOf, circuitOf}
 use Rattle.circuit.specs.Meaning.{stateAs}
-use Rattle.circuit.proofs.TurnLaws.{turn-zero, turn-past, turn-over, turn-on, Out, out-stuck, out-held, out-moved}
+use Rattle.circuit.proofs.TurnLaws.{turn-zero, turn-past, turn-over, turn-on, Out, out-refused, out-moved}
+use Rattle.circuit.proofs.WhyLaws.{goes-why}
 use Rattle.circuit.proofs.turn.turn.Statement.{statement}
 use Rattle.circuit.proofs.turn.turn.Tie as tie
 
@@ -86,68 +88,64 @@ returns-3 c =
     turn-over _ _ (s .pre .0 .taken) (state s) _ (some .if1 .left) (node in-table .1) (s .pre .2) _ _ (top .top .ensures .0)
     (at .status-at .ensures) (c .if3 .taken)
 
-go-requires : tie.Need-go-requires
-go-requires c κs =
-    let going : tie.Else3 = search in
-    let at : tie.After-status-at = search in
-    let top : tie.After-top = search in
+why-not-requires : tie.Need-why-not-requires
+why-not-requires c κs =
     let in-table : tie.Else2 = search in
-    let s = start in-table in (
-      s .pre .0,
-      s .pre .1,
-      node in-table,
-      top .top .ensures .2,
-      top .top .ensures .1,
-      λ e. going .if3 .left (at .status-at .ensures ∙ e),
-      omega arith,
-    )
-
-enum-told : tie.Need-enum-told
-enum-told c = search needs
+    (start in-table .pre .0, node in-table)
 
 returns-4 : tie.Need-returns-4
 returns-4 c =
-    let is : tie.After-enum-told = search in
-    let took : tie.After-go = search in
+    let why : tie.After-why-not = search in
     let going : tie.Else3 = search in
     let s = start (there going) in
-    out-stuck _ (s .args .tags .now) (s .pre .0 .taken) (state s) (s .args .n .0) _ _ (act s) (took .go .ensures .once refl)
-    (is .enum-told .given .1)
+    out-refused _ (s .args .tags .now) (s .pre .0 .taken) (state s) (s .args .n .0) (act s) _ (why .why-not .ensures _) (c .if4 .taken)
     ∙ sym (on going)
 
-enum-told-2 : tie.Need-enum-told-2
-enum-told-2 c = search needs
+slice-aggregate-go : tie.Need-slice-aggregate-go
+slice-aggregate-go c = search needs
 
-why-blocked-requires : tie.Need-why-blocked-requires
-why-blocked-requires c κs = search needs
+go-requires : tie.Need-go-requires
+go-requires c κs =
+    let possible : tie.Else4 = search in
+    let why : tie.After-why-not = search in
+    let going : tie.Else3 = search in
+    let at : tie.After-status-at = search in
+    let top : tie.After-top = search in
+    let s = start (there going) in (
+      s .pre .0,
+      s .pre .1,
+      top .top .ensures .2,
+      top .top .ensures .1,
+      λ z. absurd (true≢false (sym z)),
+      λ _. (
+        node (there going),
+        omega arith,
+        λ e. going .if3 .left (at .status-at .ensures ∙ e),
+        goes-why _ (act s) (sym (possible .if4 .left) ∙ why .why-not .ensures _),
+      ),
+    )
+
+abbrev none : tie.After-go → tie.Else4
+none c = search
+
+abbrev goes-on : tie.Else4 → tie.Else3
+goes-on c = search
+
+abbrev tops : tie.Else4 → tie.After-top
+tops c = search
+
+told-requires : tie.Need-told-requires
+told-requires c κs = tops (none (search)) .top .ensures .1
 
 returns-5 : tie.Need-returns-5
 returns-5 c =
-    let is : tie.After-enum-told2 = search in
     let took : tie.After-go = search in
-    let going : tie.Else3 = search in
+    let possible = none took in
+    let going = goes-on possible in
+    let top = tops possible in
     let s = start (there going) in
-    out-held _ (s .args .tags .now) (s .pre .0 .taken) (state s) (s .args .n .0) _ _ (act s) (took .go .ensures .once refl)
-    (is .enum-told2 .given .1) _
-    (c .why-blocked .ensures) ∙ sym (on going)
-
-enum-told-3 : tie.Need-enum-told-3
-enum-told-3 c = search needs
-
-told-requires : tie.Need-told-requires
-told-requires c κs =
-    let top : tie.After-top = search in
-    top .top .ensures .1
-
-returns-6 : tie.Need-returns-6
-returns-6 c =
-    let is : tie.After-enum-told3 = search in
-    let took : tie.After-go = search in
-    let going : tie.Else3 = search in
-    let top : tie.After-top = search in
-    let s = start (there going) in
-    out-moved _ (s .args .tags .now) (s .pre .0 .taken) (state s) (s .args .n .0) _ _ (act s) (took .go .ensures .once refl)
-    (is .enum-told3 .given .1) _
+    let m = took .go .ensures .1 refl in
+    out-moved _ (s .args .tags .now) (s .pre .0 .taken) (state s) (s .args .n .0) (m .0) (m .1) _ (m .2) _
     (top .top .ensures .0) _ (c .told .ensures) ∙ sym (on going)
 
 pub turn-spec : {M : Type 1} → statement M
@@ -160,12 +158,9 @@ turn-spec =
     top-requires
     status-at-requires
     returns-3
-    go-requires
-    enum-told
-    enum-told-2
-    why-blocked-requires
-    enum-told-3
-    told-requires
+    why-not-requires
     returns-4
-    returns-5
-    returns-6)
+    slice-aggregate-go
+    go-requires
+    told-requires
+    returns-5)
