@@ -2,6 +2,9 @@
 use mathlib.Core.List.{List}
 use Prim.Native.Nat.{ℕ}
 use Rattle.rules.specs.State.{State512}
+use Rattle.rules.specs.First.{queryOf, driveOf}
+use Rattle.rules.proofs.FirstFacts.{query-finds}
+use Rattle.rules.proofs.FirstRuns.{drive-drives}
 use Rattle.exports.specs.Numbers.{NumbersTell, AnswersFit}
 use Rattle.exports.proofs.Apart as Apart
 use Rattle.exports.proofs.Ranges as Ranges
@@ -31,7 +34,7 @@ answers-fit t tags s = record {
   extent = Ranges.extent-fits t;
   start = CircuitRanges.start-fits t tags;
   step = λ b w n. CircuitRanges.step-answers t tags s n b w;
-  query = CircuitRanges.query-fits t tags s;
+  query = CircuitRanges.query-fits t tags s (queryOf t tags s) (query-finds t tags s);
   run = CircuitRanges.run-fits t tags s;
-  drive = λ b w. CircuitRanges.drive-fits t tags b s w;
+  drive = λ b w budget. CircuitRanges.drive-fits t tags b s w budget (driveOf t tags s budget) (drive-drives t tags s budget);
 }

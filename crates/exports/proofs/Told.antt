@@ -1,6 +1,6 @@
 -- from what the entries promise to what the C functions promise: of the sheet's number, and of the circuit's lent arrays
 use Prim.Native.Nat.{ℕ}
-use mathlib.Core.Path.{_≡_, refl, sym, ap, _∙_}
+use mathlib.Core.Path.{_≡_, sym, ap, _∙_}
 use mathlib.Core.List.{List}
 use lib.ListN.{length}
 use Rattle.table.specs.Check.{accepted, refused, checkOf}
@@ -8,7 +8,7 @@ use Rattle.pages.specs.Sheet.{sheetBytes}
 use Rattle.rules.specs.State.{State512}
 use Rattle.rules.specs.Step.{Stepped}
 use Rattle.rules.specs.Circuit.{Started}
-use Rattle.rules.specs.Runs.{Finds}
+use Rattle.rules.specs.Runs as Runs
 use Rattle.circuit.specs.declared.types.Opening.{Opening}
 use Rattle.circuit.specs.declared.types.Answer.{Answer}
 use Rattle.circuit.specs.declared.types.Halt.{Halt}
@@ -17,7 +17,7 @@ use Rattle.circuit.specs.declared.types.Found.{Found}
 use Rattle.circuit.specs.Meaning.{openingOf, OpenedAs, replyOf, steppedAs, haltOf, RanLent, endedOf, DrivenLent, foundOf}
 use Rattle.exports.specs.Codes.{valueCode, refusalCode, extentAfter, extentOf, extentCode}
 use Rattle.exports.specs.Answers.{startCode, replyCode, haltCode, endedCode, foundCode}
-use Rattle.exports.specs.Answers.{StartTold, StepTold, QueryTold, RunTold, DriveTold}
+use Rattle.exports.specs.Answers.{StartTold, StepTold, RunTold, DriveTold}
 
 -- a sheet's number, by what the check of the table says
 module _ (t : List ℕ) where
@@ -41,14 +41,7 @@ run-told t tags s ns old h s′ e c = record { code = c ∙ ap haltCode (e .halt
 
 pub drive-told : (t tags : List ℕ) (s : State512) (budget old : ℕ) (h : Ended) (s′ : State512) {r k : ℕ}
     → DrivenLent t tags s budget old h s′ k → r ≡ endedCode (endedOf h) → DriveTold t tags s budget old r k s′
-drive-told t tags s budget old h s′ e c = record {
-  driven = record { steps = e .steps; ended = endedOf h; state = s′ };
-  drives = e .drives;
-  code = c;
-  count = e .count;
-  state = refl;
-}
+drive-told t tags s budget old h s′ e c = record { code = c ∙ ap endedCode (e .ended); count = e .count; state = e .state }
 
-pub query-told : (t tags : List ℕ) (s : State512) (y : Found) {r : ℕ} → Finds t tags s (foundOf y) → r ≡ foundCode (foundOf y)
-    → QueryTold t tags s r
-query-told t tags s y e k = record { found = foundOf y; finds = e; code = k }
+pub query-told : (x : Runs.Found) (y : Found) {r : ℕ} → foundOf y ≡ x → r ≡ foundCode (foundOf y) → r ≡ foundCode x
+query-told x y e k = k ∙ ap foundCode e

@@ -5,8 +5,9 @@ use mathlib.Core.List.{List}
 use Rattle.rules.specs.State.{State512}
 use Rattle.rules.specs.Step.{Reply, taken, answered, denied, Stepped}
 use Rattle.rules.specs.Circuit.{Started, started, turned, stateOf}
-use Rattle.rules.specs.Runs.{Halt, whole, stopped, standing, runOf, Ended, gave, atRest, spent, barred, Driven, Drives}
-use Rattle.rules.specs.Runs.{Found, names, nothing, unasked, Finds}
+use Rattle.rules.specs.Runs.{Halt, whole, stopped, standing, runOf, Ended, gave, atRest, spent, barred}
+use Rattle.rules.specs.Runs.{Found, names, nothing, unasked}
+use Rattle.rules.specs.First.{driveOf}
 use Rattle.table.specs.Check.{ifAccepted}
 use Rattle.exports.specs.Codes.{refusalCode, valueCode}
 
@@ -44,12 +45,6 @@ pub record StepTold (x : Stepped) (r : ℕ) (s′ : State512) : Type 0 where
   pub code : r ≡ replyCode (x .answer)
   pub state : s′ ≡ x .state
 
--- of a query in state s
-pub record QueryTold (t tags : List ℕ) (s : State512) (r : ℕ) : Type 0 where
-  pub found : Found
-  pub finds : Finds t tags s found
-  pub code : r ≡ foundCode found
-
 -- of a run over the list ns from state s: the count that was lent is `old` before and k after; where table, tags or 24 refuse it is kept
 pub record RunTold (t tags : List ℕ) (s : State512) (ns : List ℕ) (old r k : ℕ) (s′ : State512) : Type 0 where
   pub code : r ≡ haltCode (runOf t tags s ns .halt)
@@ -58,8 +53,6 @@ pub record RunTold (t tags : List ℕ) (s : State512) (ns : List ℕ) (old r k :
 
 -- of a run with a budget from state s, the count likewise
 pub record DriveTold (t tags : List ℕ) (s : State512) (budget old r k : ℕ) (s′ : State512) : Type 0 where
-  pub driven : Driven
-  pub drives : Drives t tags s budget driven
-  pub code : r ≡ endedCode (driven .ended)
-  pub count : k ≡ ifAccepted (standing t tags s) (driven .steps) old
-  pub state : s′ ≡ driven .state
+  pub code : r ≡ endedCode (driveOf t tags s budget .ended)
+  pub count : k ≡ ifAccepted (standing t tags s) (driveOf t tags s budget .steps) old
+  pub state : s′ ≡ driveOf t tags s budget .state

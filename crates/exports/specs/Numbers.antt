@@ -8,8 +8,9 @@ use Rattle.list.specs.Records.{recordsVerdict}
 use Rattle.rules.specs.State.{State512}
 use Rattle.rules.specs.Step.{Reply, taken, answered, denied}
 use Rattle.rules.specs.Circuit.{Started, started, turned, startOf, stepOf}
-use Rattle.rules.specs.Runs.{Halt, whole, stopped, runOf, Ended, gave, atRest, spent, barred, Driven, Drives}
-use Rattle.rules.specs.Runs.{Found, names, nothing, unasked, Finds}
+use Rattle.rules.specs.Runs.{Halt, whole, stopped, runOf, Ended, gave, atRest, spent, barred}
+use Rattle.rules.specs.Runs.{Found, names, nothing, unasked}
+use Rattle.rules.specs.First.{queryOf, driveOf}
 use Rattle.rules.specs.Companions.{Bytes, Fits}
 use Rattle.exports.specs.Codes.{codeOf, Item, item, past, unlisted, itemOf, itemCode}
 use Rattle.exports.specs.Codes.{Extent, bytes, unprinted, extentOf, extentCode}
@@ -97,6 +98,6 @@ pub record AnswersFit (t tags : List ℕ) (s : State512) : Type 0 where
   -- circuit_start, circuit_step, circuit_query, circuit_run, circuit_drive
   pub start : (args : List ℕ) → FitsVerdict (verdictOfStart (startOf t tags args))
   pub step : Bytes t → Fits s → (n : ℕ) → FitsReply (stepOf t tags s n .answer)
-  pub query : (f : Found) → Finds t tags s f → FitsFound f
+  pub query : FitsFound (queryOf t tags s)
   pub run : (ns : List ℕ) → FitsHalt (runOf t tags s ns .halt)
-  pub drive : Bytes t → Fits s → (budget : ℕ) (d : Driven) → Drives t tags s budget d → FitsEnded (d .ended)
+  pub drive : Bytes t → Fits s → (budget : ℕ) → FitsEnded (driveOf t tags s budget .ended)

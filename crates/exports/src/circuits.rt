@@ -2,9 +2,11 @@
 use crate::codes;
 use circuit::lent;
 use table::Node;
+ghost use mathlib.Core.Path.{_≡_};
 ghost use Rattle.rules.specs.Circuit.{startOf, stepOf};
+ghost use Rattle.rules.specs.First.{queryOf};
 ghost use Rattle.circuit.specs.Meaning.{stateAs};
-ghost use Rattle.exports.specs.Answers.{StartTold, StepTold, QueryTold, RunTold, DriveTold};
+ghost use Rattle.exports.specs.Answers.{foundCode, StartTold, StepTold, RunTold, DriveTold};
 
 // Starts the circuit; refused, the state stays as it was.
 #[no_mangle]
@@ -96,7 +98,7 @@ pub extern "C" fn circuit_run(
     codes::halt(halt)
 }
 
-// Possible steps up to a budget; their number goes to `count`, unless table, tags or 24 refuse.
+// First steps up to a budget; their number goes to `count`, unless table, tags or 24 refuse.
 #[no_mangle]
 pub extern "C" fn circuit_drive(
     table: &[u8],
@@ -128,7 +130,7 @@ pub extern "C" fn circuit_drive(
     codes::ended(ended)
 }
 
-// A possible step, or none.
+// The first possible step, or none.
 #[no_mangle]
 pub extern "C" fn circuit_query(
     table: &[u8],
@@ -139,8 +141,8 @@ pub extern "C" fn circuit_query(
     registers: &[u32; 256],
     occupant: &[u16; 32],
 ) -> u64
-    ensures { λ r. ⌜ QueryTold (now (table .entry)) (now (tags .entry))
-        (stateAs (now (status .entry)) (now (second .entry)) (now (value .entry)) (now (registers .entry)) (now (occupant .entry))) r ⌝ }
+    ensures { λ r. ⌜ r ≡ foundCode (queryOf (now (table .entry)) (now (tags .entry))
+        (stateAs (now (status .entry)) (now (second .entry)) (now (value .entry)) (now (registers .entry)) (now (occupant .entry)))) ⌝ }
 {
     let found = lent::query(table, tags, status, second, value, registers, occupant);
     codes::found(found)

@@ -13,7 +13,7 @@ found-requires c κs = search needs
 returns : tie.Need-returns
 returns c =
     let called : tie.After-query = search in
-    query-told _ _ _ (called .query .result) (called .query .ensures) (c .found .ensures)
+    query-told _ (called .query .result) (called .query .ensures) (c .found .ensures)
 
 pub circuit-query-spec : {M : Type 1} → statement M
 circuit-query-spec = tie.close (tie.spec query-requires found-requires returns)
