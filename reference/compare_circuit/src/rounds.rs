@@ -5,10 +5,11 @@ use std::fmt::Debug;
 use design::circuit::{self, check_state, possible, step_with, Answer, Ending, State, Steps};
 use design::difference::{ensure, shown, unrefused, Outcome};
 use design::generator::{accepted, accepted_of, accepted_sharing, accepted_sharing_of};
+use design::kinds::Kinds;
 use design::list::tags_of;
 use design::random::Random;
 use design::states::{any_state, arguments, damage_state, tags};
-use design::width_kinds::{is_narrow, WidthKinds};
+use design::width_kinds::{is_narrow, width_kinds};
 use design::{Node, Refusal, Tree};
 
 use crate::lent::Lent;
@@ -74,7 +75,7 @@ pub struct Round {
     /// Whether every step of the last drive was found.
     pub retraced: bool,
     /// What the steps that were asked for one by one did with widths.
-    pub widths: WidthKinds,
+    pub widths: Kinds,
 }
 
 impl Round {
@@ -117,7 +118,7 @@ impl Round {
     pub fn standing(bytes: Vec<u8>, tags: Vec<u8>, own: State) -> Result<Round, String> {
         let tree = tree_of(&bytes)?;
         let lent = Lent::of(&own);
-        Ok(Round { bytes, tags, tree, own, lent, retraced: false, widths: WidthKinds::default() })
+        Ok(Round { bytes, tags, tree, own, lent, retraced: false, widths: Kinds::default() })
     }
 
     fn expect(&self, holds: bool, otherwise: impl FnOnce() -> String) -> Outcome {
@@ -200,7 +201,7 @@ impl Round {
         let before = self.own.clone();
         let wanted = step_with(&self.tree, &self.tags, &mut self.own, node);
         if !matches!(wanted, Answer::Refused(_)) {
-            self.widths.note(&self.tree, &before, Node(node));
+            self.widths.note(width_kinds(&self.tree, &before, Node(node)));
         }
         let found = crate::step(&self.bytes, &self.tags, &mut self.lent, node)?;
         self.agreed(before, found, wanted, || format!("step at {node}"))

@@ -5,11 +5,12 @@ use compare_circuit::seen::Seen;
 use design::asm::assemble;
 use design::circuit::Answer;
 use design::difference::{ensure, Outcome};
+use design::kinds::Kinds;
 use design::random::Random;
 use design::reading::{read, Reading};
 use design::states::{any_state, arguments, damage_state};
 use design::towers::{any_comb, any_deep, any_tower};
-use design::width_kinds::{is_narrow, WidthKinds, ASTRAY, LOSSES, STARTED};
+use design::width_kinds::{is_narrow, ASTRAY, LOSSES, STARTED};
 use design::Node;
 
 /// Schedules from a start. So many of them at least step a design with a narrow function, and so many lose bits on the
@@ -71,7 +72,7 @@ impl Schedule {
 }
 
 /// Asks until main answers and a little on, or until the asks are used up; tells what the steps did with widths.
-fn schedule(random: &mut Random, seen: &mut Seen, bytes: Vec<u8>, mut asks: usize) -> Result<WidthKinds, String> {
+fn schedule(random: &mut Random, seen: &mut Seen, bytes: Vec<u8>, mut asks: usize) -> Result<Kinds, String> {
     let mut schedule = Schedule::started(random, bytes)?;
     let tagging = schedule.round.tagging()?;
     let mut answered = false;
@@ -102,7 +103,7 @@ fn schedule(random: &mut Random, seen: &mut Seen, bytes: Vec<u8>, mut asks: usiz
 
 #[test]
 fn schedules_from_a_start() -> Outcome {
-    let (mut random, mut seen, mut widths) = (Random::new(401), Seen::default(), WidthKinds::default());
+    let (mut random, mut seen, mut widths) = (Random::new(401), Seen::default(), Kinds::default());
     for _ in 0..SCHEDULES {
         let bytes = some_table(&mut random);
         let asks = if bytes.len() > 1000 { 60 } else { random.within(20, 400) };
@@ -140,7 +141,7 @@ fn towers_and_deep_chains() -> Outcome {
 /// States that no start leads to: asked at many nodes each, and some steps on from there.
 #[test]
 fn steps_from_any_state() -> Outcome {
-    let (mut random, mut seen, mut widths) = (Random::new(403), Seen::default(), WidthKinds::default());
+    let (mut random, mut seen, mut widths) = (Random::new(403), Seen::default(), Kinds::default());
     for _ in 0..STANDINGS {
         let bytes = some_table(&mut random);
         let tree = tree_of(&bytes)?;

@@ -138,7 +138,7 @@ pub fn check_state(tree: &Tree, state: &State) -> Result<(), Refusal> {
 }
 
 /// What a step at a node would change.
-enum Change {
+pub(crate) enum Change {
     Done(u32),
     Busy { opens: Vec<Node> },
     SecondPhase { opens: Node },
@@ -148,7 +148,7 @@ enum Change {
 }
 
 /// The change a step would bring, or 21, 22 or 23.
-fn decide(tree: &Tree, tags: &[u8], state: &State, node: Node) -> Result<Change, u16> {
+pub(crate) fn decide(tree: &Tree, tags: &[u8], state: &State, node: Node) -> Result<Change, u16> {
     let (children, owner) = (tree.children(node), tree.owner(node));
     match (state.node(node).status, tree.kind(node)) {
         (OPEN, Kind::Constant(value)) => Ok(Change::Done(value)),
@@ -252,17 +252,22 @@ fn checked(bytes: &[u8], tags: &[u8], state: &State) -> Result<Tree, Refusal> {
     Ok(tree)
 }
 
-/// The nodes at which a step is possible, none once main has answered; the state is known to be in order.
+/// The nodes at which a step is possible by rising number, none once main has answered; the state is known to be in
+/// order.
 pub fn possible<'a>(tree: &'a Tree, tags: &'a [u8], state: &'a State) -> impl Iterator<Item = Node> + 'a {
     let answered = state.done(tree.root(tree.main()));
     tree.nodes().filter(move |node| !answered && decide(tree, tags, state, *node).is_ok())
 }
 
-/// Names a possible step, or none exactly if there is none.
+/// The possible node with the lowest number.
+pub fn first(tree: &Tree, tags: &[u8], state: &State) -> Option<Node> {
+    possible(tree, tags, state).next()
+}
+
+/// Names the first possible node, or none exactly if there is none.
 pub fn query(bytes: &[u8], tags: &[u8], state: &State) -> Result<Option<Node>, Refusal> {
     let tree = checked(bytes, tags, state)?;
-    let lowest = possible(&tree, tags, state).next();
-    Ok(lowest)
+    Ok(first(&tree, tags, state))
 }
 
 /// Steps that were taken, and the refusal that ended them.
@@ -280,24 +285,30 @@ pub fn run_list(bytes: &[u8], tags: &[u8], state: &mut State, nodes: &[u16]) -> 
     Ok((nodes.len(), None))
 }
 
-/// Takes possible steps up to the budget; tells how many, and why it ended.
+/// Takes the first possible step, then the first after it and so on, up to the budget; tells how many, and why it
+/// ended.
 pub fn run_budget(bytes: &[u8], tags: &[u8], state: &mut State, budget: u32) -> Result<(u32, Ending), Refusal> {
+    let (nodes, ending) = run_traced(bytes, tags, state, budget)?;
+    Ok((nodes.len() as u32, ending))
+}
+
+/// The same, telling the node of each step.
+pub fn run_traced(bytes: &[u8], tags: &[u8], state: &mut State, budget: u32) -> Result<(Vec<Node>, Ending), Refusal> {
     let tree = checked(bytes, tags, state)?;
     let main_root = tree.root(tree.main());
-    let mut taken = 0;
+    let mut nodes = Vec::new();
     loop {
         if state.done(main_root) {
-            return Ok((taken, Ending::Answered(state.node(main_root).value)));
+            return Ok((nodes, Ending::Answered(state.node(main_root).value)));
         }
-        let lowest = possible(&tree, tags, state).next();
-        let Some(node) = lowest else {
-            return Ok((taken, Ending::AtRest));
+        let Some(node) = first(&tree, tags, state) else {
+            return Ok((nodes, Ending::AtRest));
         };
-        if taken == budget {
-            return Ok((taken, Ending::Spent));
+        if nodes.len() == budget as usize {
+            return Ok((nodes, Ending::Spent));
         }
         let answer = step_with(&tree, tags, state, node.0);
         debug_assert!(!matches!(answer, Answer::Refused(_)));
-        taken += 1;
+        nodes.push(node);
     }
 }

@@ -1,11 +1,8 @@
 //! What a taken step does with widths, so that tests can count how often it occurs.
 
-use std::collections::BTreeMap;
-
 use numbers::{MOST_WIDTH, OPEN};
 
 use crate::circuit::State;
-use crate::difference::{ensure, Outcome};
 use crate::table::{compute, Function, Node};
 use crate::tree::{Kind, Tree};
 
@@ -37,55 +34,13 @@ pub const ASTRAY: [&str; 7] = [
     "operands cut first would come to another result",
 ];
 
-/// How often each kind occurred.
-#[derive(Default)]
-pub struct WidthKinds {
-    counts: BTreeMap<&'static str, usize>,
-}
-
-impl WidthKinds {
-    /// A step at this node, which is taken in this state.
-    pub fn note(&mut self, tree: &Tree, state: &State, node: Node) {
-        for kind in kinds(tree, state, node) {
-            *self.counts.entry(kind).or_insert(0) += 1;
-        }
-    }
-
-    pub fn add(&mut self, other: WidthKinds) {
-        for (kind, count) in other.counts {
-            *self.counts.entry(kind).or_insert(0) += count;
-        }
-    }
-
-    fn count(&self, kind: &str) -> usize {
-        self.counts.get(kind).copied().unwrap_or(0)
-    }
-
-    /// Whether one of these kinds occurred.
-    pub fn any(&self, kinds: &[&str]) -> bool {
-        kinds.iter().any(|kind| self.count(kind) > 0)
-    }
-
-    /// Prints all counts; fails if one of these kinds occurred less often than wanted.
-    pub fn often(&self, wanted: &[&str], fewest: usize) -> Outcome {
-        println!("{:#?}", self.counts);
-        let rare: Vec<&&str> = wanted.iter().filter(|kind| self.count(kind) < fewest).collect();
-        ensure(rare.is_empty(), || format!("rare, {fewest} wanted: {rare:?}"))
-    }
-
-    /// Fails if one of these kinds occurred.
-    pub fn never(&self, kinds: &[&str]) -> Outcome {
-        let met: Vec<&&str> = kinds.iter().filter(|kind| self.count(kind) > 0).collect();
-        ensure(met.is_empty(), || format!("met, none wanted: {met:?}"))
-    }
-}
-
 /// Whether a function has fewer bits than a value.
 pub fn is_narrow(tree: &Tree) -> bool {
     tree.functions().any(|function| tree.width(function) < MOST_WIDTH)
 }
 
-fn kinds(tree: &Tree, state: &State, node: Node) -> Vec<&'static str> {
+/// What a step at this node does, which is taken in this state.
+pub fn width_kinds(tree: &Tree, state: &State, node: Node) -> Vec<&'static str> {
     let mut found = Vec::new();
     let mut note = |kind, there: bool| {
         if there {

@@ -5,13 +5,14 @@ use design::circuit::{possible, query, run_budget, run_list, start, step, step_w
 use design::damage::too_wide;
 use design::difference::Outcome;
 use design::generator::{accepted, accepted_of};
+use design::kinds::Kinds;
 use design::list::{arbiter_list, program, tags_of};
 use design::random::Random;
 use design::reading::{read, Reading};
 use design::states::{any_state, arguments, tags};
 use design::table::{compute, narrow};
 use design::width_cases::{standings, CASES};
-use design::width_kinds::{is_narrow, WidthKinds, ASTRAY, STARTED};
+use design::width_kinds::{is_narrow, width_kinds, ASTRAY, STARTED};
 use design::{check, Node, Refusal, Tree};
 
 fn table(text: &str) -> Vec<u8> {
@@ -95,7 +96,7 @@ fn all_fit(tree: &Tree, state: &State) -> bool {
 
 #[test]
 fn steps_from_a_start_keep_to_the_widths() -> Outcome {
-    let (mut random, mut kinds) = (Random::new(22), WidthKinds::default());
+    let (mut random, mut kinds) = (Random::new(22), Kinds::default());
     let (mut narrow, mut cut_at_start) = (0, 0);
     for _ in 0..1200 {
         let bytes = accepted(&mut random);
@@ -112,7 +113,7 @@ fn steps_from_a_start_keep_to_the_widths() -> Outcome {
                 break;
             }
             let node = random.pick(&nodes);
-            kinds.note(&tree, &state, node);
+            kinds.note(width_kinds(&tree, &state, node));
             step_with(&tree, &tags, &mut state, node.0);
         }
     }
@@ -123,7 +124,7 @@ fn steps_from_a_start_keep_to_the_widths() -> Outcome {
 
 #[test]
 fn steps_from_any_state_meet_wide_values() -> Outcome {
-    let (mut random, mut kinds) = (Random::new(23), WidthKinds::default());
+    let (mut random, mut kinds) = (Random::new(23), Kinds::default());
     for _ in 0..5000 {
         let nodes = random.within(1, 60);
         let bytes = accepted_of(&mut random, nodes);
@@ -131,7 +132,7 @@ fn steps_from_any_state_meet_wide_values() -> Outcome {
         let tags = tags(&mut random, &tree);
         let state = any_state(&mut random, &tree);
         for node in possible(&tree, &tags, &state) {
-            kinds.note(&tree, &state, node);
+            kinds.note(width_kinds(&tree, &state, node));
         }
     }
     kinds.often(&ASTRAY, 30)

@@ -5,13 +5,14 @@ use design::circuit::{self, Answer, NodeState};
 use design::damage::{damaged, too_wide};
 use design::difference::{code, shown, Outcome};
 use design::generator::{accepted, accepted_of, accepted_sharing};
+use design::kinds::Kinds;
 use design::list::tags_of;
 use design::random::Random;
 use design::reading::read;
 use design::states::{any_state, arguments, damage_state, damaged_tags, tags};
 use design::towers::{any_comb, any_deep, any_tower};
 use design::width_cases::{standings, CASES};
-use design::width_kinds::{WidthKinds, ASTRAY, STARTED};
+use design::width_kinds::{width_kinds, ASTRAY, STARTED};
 use design::{check, Node, Tree};
 use fast::{run_watched, Ending, State};
 
@@ -160,7 +161,7 @@ fn from_fast(state: &State) -> circuit::State {
 }
 
 /// Runs from this state and has the reference take the same steps one by one.
-fn replay(kinds: &mut WidthKinds, bytes: &[u8], tags: &[u8], begun: &circuit::State, budget: u32) -> (u32, Ending) {
+fn replay(kinds: &mut Kinds, bytes: &[u8], tags: &[u8], begun: &circuit::State, budget: u32) -> (u32, Ending) {
     let tree = Tree::read(bytes).expect("an accepted table");
     let mut state = to_fast(begun);
     let mut steps = Vec::new();
@@ -171,7 +172,7 @@ fn replay(kinds: &mut WidthKinds, bytes: &[u8], tags: &[u8], begun: &circuit::St
     let mut answer = Answer::Taken;
     for node in steps {
         assert_eq!(answer, Answer::Taken);
-        kinds.note(&tree, &own, Node(node));
+        kinds.note(width_kinds(&tree, &own, Node(node)));
         answer = circuit::step_with(&tree, tags, &mut own, node);
         assert!(!matches!(answer, Answer::Refused(_)), "{node}: {answer:?}");
     }
@@ -189,7 +190,7 @@ fn replay(kinds: &mut WidthKinds, bytes: &[u8], tags: &[u8], begun: &circuit::St
 
 #[test]
 fn runs_from_a_start_agree() -> Outcome {
-    let (mut random, mut kinds) = (Random::new(13), WidthKinds::default());
+    let (mut random, mut kinds) = (Random::new(13), Kinds::default());
     for round in 0..1500 {
         let bytes = accepted(&mut random);
         let tree = Tree::read(&bytes).expect("an accepted table");
@@ -242,7 +243,7 @@ fn named_steps_agree() {
 
 #[test]
 fn runs_from_any_state_agree() -> Outcome {
-    let (mut random, mut kinds) = (Random::new(14), WidthKinds::default());
+    let (mut random, mut kinds) = (Random::new(14), Kinds::default());
     let mut endings = [0; 3];
     for _ in 0..3000 {
         let nodes = random.within(1, 60);
