@@ -3,6 +3,7 @@
 mod check;
 mod list;
 mod net;
+mod nodes;
 mod packed;
 mod rules;
 mod run;

@@ -1,6 +1,6 @@
-//! A design laid out for running: the nodes of a function lie side by side, and a cell has what a step needs of a node.
+//! A design laid out for running: a cell has what a step needs of its node, which is at its number less 1.
 
-use numbers::{BOUND, CALL, MOST_FUNCTIONS, MOST_NODES, PARAMETER};
+use numbers::{BOUND, CALL, IF, LET, MOST_FUNCTIONS, MOST_NODES, PARAMETER};
 
 use crate::check::Survey;
 use crate::{first, next, spare, word, Parts};
@@ -20,17 +20,22 @@ pub const fn cell(number: u16) -> usize {
 pub struct Cell {
     /// The value of a constant, the register of a parameter, the cell of a definiens, the callee from 0.
     pub word: u32,
+    /// The first child and the last, none if there are none.
     pub first: u16,
+    pub last: u16,
     pub next: u16,
     /// None for a root.
     pub holder: u16,
-    pub node: u16,
     pub kind: u8,
     pub operation: u8,
     /// The node's function, from 0.
     pub owner: u8,
     /// The bits that this function lacks.
     pub spare: u8,
+    /// The children that it opens when it begins: all but the branches of an if and the body of a let.
+    pub opens: u8,
+    /// Whether it is such a branch or body.
+    pub is_last_part: bool,
 }
 
 impl Cell {
@@ -40,14 +45,26 @@ impl Cell {
     }
 }
 
-const EMPTY: Cell =
-    Cell { word: 0, first: NONE, next: NONE, holder: NONE, node: 0, kind: 0, operation: 0, owner: 0, spare: 0 };
+const EMPTY: Cell = Cell {
+    word: 0,
+    first: NONE,
+    last: NONE,
+    next: NONE,
+    holder: NONE,
+    kind: 0,
+    operation: 0,
+    owner: 0,
+    spare: 0,
+    opens: 0,
+    is_last_part: false,
+};
 
 pub struct Net {
     pub cells: [Cell; MOST_NODES],
-    /// By function from 0; its nodes are from `begin` on, up to the next function's.
+    /// By function from 0; its nodes are in `members` from `begin` on, up to the next function's.
     pub roots: [u16; MOST_FUNCTIONS],
     pub begin: [u16; MOST_FUNCTIONS + 1],
+    pub members: [u16; MOST_NODES],
     pub nodes: usize,
     pub main: usize,
 }
@@ -56,45 +73,62 @@ impl Net {
     /// Of an accepted table.
     pub fn of(parts: &Parts, known: &Survey) -> Net {
         let (nodes, functions) = (parts.nodes(), parts.functions());
-        let mut begin = [0; MOST_FUNCTIONS + 1];
-        for node in 1..=nodes {
-            begin[usize::from(known.above[node].owner())] += 1;
+        let mut net = Net {
+            cells: [EMPTY; MOST_NODES],
+            roots: [NONE; MOST_FUNCTIONS],
+            begin: [0; MOST_FUNCTIONS + 1],
+            members: [0; MOST_NODES],
+            nodes,
+            main: functions - 1,
+        };
+        // Number 0, which stands for none, becomes no cell.
+        let at = |number: usize| (number as u16).wrapping_sub(1);
+        for (root, function) in net.roots.iter_mut().zip(1..=functions) {
+            *root = at(parts.root(function));
         }
-        for function in 0..MOST_FUNCTIONS {
-            begin[function + 1] += begin[function];
-        }
-        let mut free = begin;
-        let mut at = [NONE; MOST_NODES + 1];
-        for node in 1..=nodes {
-            let free = &mut free[usize::from(known.above[node].owner()) - 1];
-            at[node] = *free;
-            *free += 1;
-        }
-        let mut cells = [EMPTY; MOST_NODES];
         for (record, node) in parts.records.iter().zip(1..) {
             let above = known.above[node];
             let (kind, word, owner) = (record[0], word(record), above.owner() - 1);
-            cells[cell(at[node])] = Cell {
+            // Its last child and what it opens are found when those come, which is later.
+            net.cells[node - 1] = Cell {
                 word: match kind {
                     PARAMETER => u32::from(owner) * 8 + u32::from(record[1]),
-                    BOUND => at[word as usize].into(),
-                    CALL => word - 1,
+                    BOUND | CALL => word - 1,
                     _ => word,
                 },
-                first: at[first(record)],
-                next: at[next(record)],
-                holder: at[above.holder()],
-                node: node as u16,
+                first: at(first(record)),
+                next: at(next(record)),
+                holder: at(above.holder()),
                 kind: if kind == CALL && word - 1 == owner.into() { SELF_CALL } else { kind },
                 operation: record[1],
                 owner,
                 spare: spare(parts.heads[usize::from(owner)][1]),
+                ..EMPTY
             };
+            if above.holder() != 0 {
+                net.hang(node - 1, above.holder() - 1);
+            }
+            net.begin[usize::from(owner) + 1] += 1;
         }
-        let mut roots = [NONE; MOST_FUNCTIONS];
-        for (root, function) in roots.iter_mut().zip(1..=functions) {
-            *root = at[parts.root(function)];
+        for function in 0..MOST_FUNCTIONS {
+            net.begin[function + 1] += net.begin[function];
         }
-        Net { cells, roots, begin, nodes, main: functions - 1 }
+        let mut free = net.begin;
+        for node in 0..nodes {
+            let free = &mut free[usize::from(net.cells[node].owner)];
+            net.members[cell(*free)] = node as u16;
+            *free += 1;
+        }
+        net
+    }
+
+    /// Tells a holder of a child, which comes after those before it.
+    fn hang(&mut self, child: usize, holder: usize) {
+        let Cell { kind, first, .. } = self.cells[holder];
+        let is_last = self.cells[child].next == NONE;
+        let is_last_part = kind == IF && cell(first) != child || kind == LET && is_last;
+        self.cells[child].is_last_part = is_last_part;
+        self.cells[holder].last = child as u16;
+        self.cells[holder].opens += u8::from(!is_last_part);
     }
 }

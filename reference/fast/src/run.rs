@@ -1,10 +1,12 @@
-//! The run on a budget. A step costs what its node needs: nodes that it may have made ready wait on a stack.
+//! The run on a budget, always at the first possible node. Packed sets tell it, and a step changes them by a few words:
+//! no node is looked at but the step's own, those it opens or resets, and its holder.
 
 use numbers::{BOUND, CALL, CONSTANT, IF, LET, PARAMETER, PRIMITIVE};
 use numbers::{MOST_FUNCTIONS, MOST_NODES};
 
 use crate::check::Survey;
 use crate::net::{cell, Cell, Net, NONE, SELF_CALL};
+use crate::nodes::{Rows, Standing};
 use crate::state::State;
 use crate::tags::checked;
 use crate::{compute, refusal};
@@ -20,7 +22,7 @@ pub enum Ending {
     Spent,
 }
 
-/// Takes possible steps up to the budget; tells how many and why it ended, or a refusal.
+/// Takes the first possible step again and again, up to the budget; tells how many and why it ended, or a refusal.
 pub fn run(table: &[u8], tags: &[u8], state: &mut State, budget: u32) -> Result<(u32, Ending), u32> {
     run_watched(table, tags, state, budget, |_| {})
 }
@@ -39,353 +41,311 @@ pub fn run_watched(
         return Err(refusal(24, 0));
     }
     let net = Net::of(&parts, &known);
-    let (mut runner, mut top) = Runner::of(&net, state);
-    let taken = runner.go(&mut top, budget, watch);
-    runner.put(state);
-    let ending = match runner.answer() {
-        Some(value) => Ending::Answered(value),
-        // Tried on the copy alone.
-        None if runner.step(&mut top).is_some() => Ending::Spent,
-        None => Ending::AtRest,
-    };
-    Ok((taken, ending))
+    // Sets of no more words than there are nodes for, so that those of a small design fit into registers.
+    Ok(match net.nodes.div_ceil(64) {
+        1 => Runner::<1>::run(&net, state, budget, watch),
+        2 => Runner::<2>::run(&net, state, budget, watch),
+        3 | 4 => Runner::<4>::run(&net, state, budget, watch),
+        _ => Runner::<8>::run(&net, state, budget, watch),
+    })
 }
 
-/// How a node stands, in a byte: its kind, its status, its second phase, and whether it is on the stack.
-const KIND: u8 = 7;
-const STATUS: u8 = 3 << 3;
-const OPEN: u8 = numbers::OPEN << 3;
-const BUSY: u8 = numbers::BUSY << 3;
-const DONE: u8 = numbers::DONE << 3;
-const SECOND: u8 = 1 << 5;
-const QUEUED: u8 = 1 << 6;
+/// How a node stands, in a number: its status, its second phase, and above them how many of the children that it opened
+/// first are not done. While it isn't busy that count says nothing.
+const STATUS: u32 = 3 << 3;
+const OPEN: u32 = (numbers::OPEN as u32) << 3;
+const BUSY: u32 = (numbers::BUSY as u32) << 3;
+const DONE: u32 = (numbers::DONE as u32) << 3;
+const SECOND: u32 = 1 << 5;
+const CHILD: u32 = 1 << 8;
 
-const OPEN_CONSTANT: u8 = OPEN | CONSTANT;
-const OPEN_PARAMETER: u8 = OPEN | PARAMETER;
-const OPEN_BOUND: u8 = OPEN | BOUND;
-const OPEN_PRIMITIVE: u8 = OPEN | PRIMITIVE;
-const OPEN_CALL: u8 = OPEN | CALL;
-const OPEN_SELF_CALL: u8 = OPEN | SELF_CALL;
-const OPEN_IF: u8 = OPEN | IF;
-const OPEN_LET: u8 = OPEN | LET;
-const BUSY_PRIMITIVE: u8 = BUSY | PRIMITIVE;
-const BUSY_CALL: u8 = BUSY | CALL;
-const BUSY_SELF_CALL: u8 = BUSY | SELF_CALL;
-const BUSY_IF: u8 = BUSY | IF;
-const BUSY_LET: u8 = BUSY | LET;
+// With a kind in the lowest bits.
+const OPEN_CONSTANT: u32 = OPEN | CONSTANT as u32;
+const OPEN_PARAMETER: u32 = OPEN | PARAMETER as u32;
+const OPEN_BOUND: u32 = OPEN | BOUND as u32;
+const BUSY_PRIMITIVE: u32 = BUSY | PRIMITIVE as u32;
+const BUSY_CALL: u32 = BUSY | CALL as u32;
+const BUSY_SELF_CALL: u32 = BUSY | SELF_CALL as u32;
+const BUSY_IF: u32 = BUSY | IF as u32;
+const BUSY_LET: u32 = BUSY | LET as u32;
+const FLAGGED_PRIMITIVE: u32 = BUSY_PRIMITIVE | SECOND;
+const FLAGGED_SELF_CALL: u32 = BUSY_SELF_CALL | SECOND;
+const SECOND_IF: u32 = BUSY_IF | SECOND;
 
-/// A state in the order of the net, and the nodes to look at next.
-struct Runner<'a> {
+#[derive(Clone, Copy)]
+struct Live {
+    value: u32,
+    mode: u32,
+}
+
+const IDLE: Live = Live { value: 0, mode: 0 };
+
+/// A state laid out as the net is; how its nodes stand to their steps is kept beside it.
+struct Runner<'a, const WORDS: usize> {
     net: &'a Net,
-    modes: [u8; MOST_NODES],
-    values: [u32; MOST_NODES],
+    rows: Rows<WORDS>,
+    live: [Live; MOST_NODES],
     registers: [u32; 8 * MOST_FUNCTIONS],
     occupant: [u16; MOST_FUNCTIONS],
-    /// Every node with a step is in here once; others may be too.
-    stack: [u16; MOST_NODES],
-    /// Calls in second phase, waiting for their callee's root.
-    inside: Waiting,
-    /// Calls with their arguments done, waiting for their callee to be free.
-    blocked: Waiting,
 }
 
-/// Calls that wait for a function, as one chain each. One that no longer waits may stay until the next waking.
-struct Waiting {
-    head: [u16; MOST_FUNCTIONS],
-    next: [u16; MOST_NODES],
-    has: [bool; MOST_NODES],
-}
-
-impl Waiting {
-    const NOBODY: Waiting =
-        Waiting { head: [NONE; MOST_FUNCTIONS], next: [NONE; MOST_NODES], has: [false; MOST_NODES] };
-
-    #[cold]
-    fn add(&mut self, function: usize, at: usize) {
-        if !self.has[at] {
-            self.has[at] = true;
-            self.next[at] = self.head[function];
-            self.head[function] = at as u16;
-        }
+impl<'a, const WORDS: usize> Runner<'a, WORDS> {
+    fn run(net: &'a Net, state: &mut State, budget: u32, watch: impl FnMut(u16)) -> (u32, Ending) {
+        let mut runner = Runner::<WORDS>::of(net, state);
+        let told = runner.go(budget, watch);
+        runner.put(state);
+        told
     }
 
-    /// The latest that waits; all of them no longer do, once those after it are asked for one by one.
-    fn take(&mut self, function: usize) -> Option<usize> {
-        let latest = std::mem::replace(&mut self.head[function % MOST_FUNCTIONS], NONE);
-        self.woken(latest)
-    }
-
-    fn after(&mut self, at: usize) -> Option<usize> {
-        self.woken(self.next[at])
-    }
-
-    fn woken(&mut self, at: u16) -> Option<usize> {
-        (at != NONE).then(|| {
-            self.has[cell(at)] = false;
-            cell(at)
-        })
-    }
-}
-
-impl<'a> Runner<'a> {
-    fn of(net: &'a Net, state: &State) -> (Runner<'a>, usize) {
+    fn of(net: &'a Net, state: &State) -> Self {
         let mut runner = Runner {
             net,
-            modes: [0; MOST_NODES],
-            values: [0; MOST_NODES],
+            rows: Rows::of(net),
+            live: [IDLE; MOST_NODES],
             registers: [0; 8 * MOST_FUNCTIONS],
             occupant: state.occupant,
-            stack: [0; MOST_NODES],
-            inside: Waiting::NOBODY,
-            blocked: Waiting::NOBODY,
         };
         runner.registers.copy_from_slice(state.registers.as_flattened());
-        let mut top = 0;
-        for (at, cell) in net.cells[..net.nodes].iter().enumerate().rev() {
-            let node = usize::from(cell.node) - 1;
-            let status = state.status[node] << 3;
-            runner.modes[at] = cell.kind | status | if state.second[node] { SECOND } else { 0 };
-            runner.values[at] = state.value[node];
-            if status == OPEN || status == BUSY {
-                runner.push(&mut top, at);
+        for at in 0..net.nodes {
+            let second = if state.second[at] { SECOND } else { 0 };
+            runner.live[at].value = state.value[at];
+            runner.live[at].mode += u32::from(state.status[at]) << 3 | second;
+            let Cell { holder, is_last_part, .. } = net.cells[at];
+            if holder != NONE && !is_last_part && state.status[at] != numbers::DONE {
+                runner.live[cell(holder)].mode += CHILD;
             }
         }
-        (runner, top)
+        runner
+    }
+
+    /// All nodes as they stand.
+    fn standing(&self) -> Standing<WORDS> {
+        let mut standing = Standing::NOTHING;
+        for function in 0..=self.net.main {
+            if self.occupant[function] != 0 {
+                standing.occupied(&self.rows.sites[function]);
+            }
+        }
+        for at in 0..self.net.nodes {
+            self.read(&mut standing, at);
+        }
+        standing
     }
 
     fn put(&self, state: &mut State) {
-        for (at, cell) in self.net.cells[..self.net.nodes].iter().enumerate() {
-            let node = usize::from(cell.node) - 1;
-            state.status[node] = (self.modes[at] & STATUS) >> 3;
-            state.second[node] = self.modes[at] & SECOND != 0;
-            state.value[node] = self.values[at];
+        for (at, live) in self.live[..self.net.nodes].iter().enumerate() {
+            state.status[at] = ((live.mode & STATUS) >> 3) as u8;
+            state.second[at] = live.mode & SECOND != 0;
+            state.value[at] = live.value;
         }
         state.registers.as_flattened_mut().copy_from_slice(&self.registers);
         state.occupant = self.occupant;
     }
 
-    fn answer(&self) -> Option<u32> {
+    fn go(&mut self, budget: u32, mut watch: impl FnMut(u16)) -> (u32, Ending) {
         let root = cell(self.net.roots[self.net.main]);
-        self.is_done(root).then(|| self.values[root])
-    }
-
-    /// Takes steps up to the budget, the answer or rest; tells how many.
-    fn go(&mut self, top: &mut usize, budget: u32, mut watch: impl FnMut(u16)) -> u32 {
-        let root = cell(self.net.roots[self.net.main]);
-        let (mut taken, mut count) = (0, *top);
-        while taken < budget && !self.is_done(root) {
-            let Some(at) = self.step(&mut count) else {
-                break;
+        let mut standing = self.standing();
+        let mut taken = 0;
+        loop {
+            if self.is_done(root) {
+                return (taken, Ending::Answered(self.live[root].value));
+            }
+            let Some(at) = standing.first() else {
+                return (taken, Ending::AtRest);
             };
-            watch(self.net.cells[at].node);
+            if taken == budget {
+                return (taken, Ending::Spent);
+            }
+            self.step(&mut standing, at % MOST_NODES);
+            watch(at as u16 + 1);
             taken += 1;
         }
-        *top = count;
-        taken
     }
 
-    /// Takes a possible step, if there is one.
+    /// Takes the step at a node, which has one.
     #[inline(always)]
-    fn step(&mut self, top: &mut usize) -> Option<usize> {
-        loop {
-            let at = cell(self.stack[top.checked_sub(1)? % MOST_NODES]);
-            if self.take(top, at) {
-                return Some(at);
-            }
-            self.drop_top(top, at);
-        }
-    }
-
-    /// Takes the step at the node on top of the stack, if it has one. A node that goes on stays where it is, below
-    /// those that it opens; a call that has to wait is put where it will be woken.
-    #[inline(always)]
-    fn take(&mut self, top: &mut usize, at: usize) -> bool {
-        let Cell { word, first, operation, owner, .. } = self.net.cells[at];
-        match self.modes[at] & (STATUS | KIND) {
-            OPEN_CONSTANT => self.finish(top, at, word),
-            OPEN_PARAMETER => self.finish(top, at, self.registers[word as usize % (8 * MOST_FUNCTIONS)]),
-            OPEN_BOUND => self.finish(top, at, self.values[word as usize % MOST_NODES]),
-            OPEN_PRIMITIVE | OPEN_CALL | OPEN_SELF_CALL => {
-                self.wait(at);
-                let mut child = first;
-                while child != NONE {
-                    self.open(top, cell(child));
-                    child = self.net.cells[cell(child)].next;
-                }
-            }
-            OPEN_IF => {
-                self.wait(at);
-                self.open(top, cell(first));
-            }
-            OPEN_LET => {
-                self.wait(at);
-                let mut child = cell(first);
-                while self.net.cells[child].next != NONE {
-                    self.open(top, child);
-                    child = cell(self.net.cells[child].next);
-                }
-            }
+    fn step(&mut self, standing: &mut Standing<WORDS>, at: usize) {
+        let Cell { word, first, last, kind, operation, .. } = self.net.cells[at];
+        let mode = self.live[at].mode;
+        match mode & STATUS | u32::from(kind) {
+            OPEN_CONSTANT => self.finish(standing, at, word),
+            OPEN_PARAMETER => self.finish(standing, at, self.registers[word as usize % (8 * MOST_FUNCTIONS)]),
+            OPEN_BOUND => self.finish(standing, at, self.live[word as usize % MOST_NODES].value),
             BUSY_PRIMITIVE => {
-                let Some(last) = self.last_if_done(first) else {
-                    return false;
-                };
-                let values = [self.values[cell(first)], self.values[last]];
-                self.finish(top, at, self.net.cells[at].keep(compute(operation, values)));
+                let values = [self.live[cell(first)].value, self.live[cell(last)].value];
+                self.finish(standing, at, self.net.cells[at].keep(compute(operation, values)));
             }
-            BUSY_IF => {
-                let condition = cell(first);
-                let mut branch = self.net.cells[condition].next;
-                if self.values[condition] == 0 {
-                    branch = self.net.cells[cell(branch)].next;
+            BUSY_IF | BUSY_LET => {
+                let part = self.last_part(at);
+                if mode & SECOND != 0 {
+                    self.finish(standing, at, self.live[part].value);
+                } else {
+                    self.live[at].mode |= SECOND;
+                    standing.armed.remove(at);
+                    self.open(standing, part);
                 }
-                return self.last_part(top, at, cell(branch), self.is_done(condition));
             }
-            BUSY_LET => {
-                let (mut child, mut is_ready) = (cell(first), true);
-                while self.net.cells[child].next != NONE {
-                    is_ready &= self.is_done(child);
-                    child = cell(self.net.cells[child].next);
-                }
-                return self.last_part(top, at, child, is_ready);
-            }
-            BUSY_SELF_CALL => {
-                if first != NONE && self.last_if_done(first).is_none() {
-                    return false;
-                }
-                self.drop_top(top, at);
-                self.enter(owner.into(), first);
-                self.open(top, cell(self.net.roots[usize::from(owner) % MOST_FUNCTIONS]));
-            }
-            BUSY_CALL => return self.take_call(top, at, word as usize % MOST_FUNCTIONS, first),
-            _ => return false,
+            BUSY_SELF_CALL => self.restart(standing, at),
+            BUSY_CALL if mode & SECOND != 0 => self.leave(standing, at),
+            BUSY_CALL => self.enter(standing, at),
+            _ => self.begin(standing, at),
         }
-        true
-    }
-
-    /// The branch or body: opened once what comes before it is done, and then waited for.
-    #[inline(always)]
-    fn last_part(&mut self, top: &mut usize, at: usize, last: usize, is_ready: bool) -> bool {
-        if self.modes[at] & SECOND != 0 {
-            if !self.is_done(last) {
-                return false;
-            }
-            self.finish(top, at, self.values[last]);
-        } else {
-            if !is_ready {
-                return false;
-            }
-            self.modes[at] |= SECOND;
-            self.open(top, last);
-        }
-        true
-    }
-
-    #[inline(always)]
-    fn take_call(&mut self, top: &mut usize, at: usize, callee: usize, first: u16) -> bool {
-        if self.modes[at] & SECOND != 0 {
-            let root = cell(self.net.roots[callee]);
-            if !self.is_done(root) {
-                self.inside.add(callee, at);
-                return false;
-            }
-            self.finish(top, at, self.net.cells[at].keep(self.values[root]));
-            self.occupant[callee] = 0;
-            let mut waiting = self.blocked.take(callee);
-            while let Some(at) = waiting {
-                self.push(top, at);
-                waiting = self.blocked.after(at);
-            }
-            return true;
-        }
-        if first != NONE && self.last_if_done(first).is_none() {
-            return false;
-        }
-        if self.occupant[callee] != 0 {
-            self.blocked.add(callee, at);
-            return false;
-        }
-        self.enter(callee, first);
-        self.open(top, cell(self.net.roots[callee]));
-        self.modes[at] |= SECOND;
-        self.occupant[callee] = self.net.cells[at].node;
-        true
     }
 
     fn is_done(&self, at: usize) -> bool {
-        self.modes[at] & STATUS == DONE
+        self.live[at].mode & STATUS == DONE
     }
 
-    /// The last of a chain of siblings, if all are done.
-    fn last_if_done(&self, first: u16) -> Option<usize> {
-        let mut child = cell(first);
-        while self.is_done(child) {
-            match self.net.cells[child].next {
-                NONE => return Some(child),
-                next => child = cell(next),
-            }
-        }
-        None
+    /// The body of a let, or the branch that an if's condition chooses as it is.
+    #[inline(always)]
+    fn last_part(&self, at: usize) -> usize {
+        let Cell { first, last, kind, .. } = self.net.cells[at];
+        let is_then = kind == IF && self.live[cell(first)].value != 0;
+        cell(if is_then { self.net.cells[cell(first)].next } else { last })
     }
 
     #[inline(always)]
-    fn push(&mut self, top: &mut usize, at: usize) {
-        // A branch, which is well foreseen, so that the next step need not wait for the mode.
-        if self.modes[at] & QUEUED == 0 {
-            self.stack[*top % MOST_NODES] = at as u16;
-            *top += 1;
-            self.modes[at] |= QUEUED;
-        }
-    }
-
-    #[inline(always)]
-    fn drop_top(&mut self, top: &mut usize, at: usize) {
-        *top -= 1;
-        self.modes[at] &= !QUEUED;
-    }
-
-    /// Makes an open node busy.
-    fn wait(&mut self, at: usize) {
-        self.modes[at] ^= OPEN ^ BUSY;
-    }
-
-    #[inline(always)]
-    fn open(&mut self, top: &mut usize, at: usize) {
-        self.push(top, at);
-        self.modes[at] = self.modes[at] & !STATUS | OPEN;
-    }
-
-    #[inline(always)]
-    fn finish(&mut self, top: &mut usize, at: usize, value: u32) {
-        *top -= 1;
-        self.modes[at] = self.modes[at] & KIND | DONE;
-        self.values[at] = value;
-        let Cell { holder, owner, .. } = self.net.cells[at];
-        if holder != NONE {
-            self.push(top, cell(holder));
-        } else {
-            let mut caller = self.inside.take(owner.into());
-            while let Some(at) = caller {
-                self.push(top, at);
-                caller = self.inside.after(at);
-            }
-        }
-    }
-
-    /// Makes a function's body ready for these arguments; its root is to be opened.
-    fn enter(&mut self, function: usize, first: u16) {
-        let mut arguments = [0; 8];
-        let root = self.net.cells[cell(self.net.roots[function % MOST_FUNCTIONS])];
+    fn begin(&mut self, standing: &mut Standing<WORDS>, at: usize) {
+        let Cell { first, opens, .. } = self.net.cells[at];
+        let second = self.live[at].mode & SECOND;
+        self.live[at].mode = BUSY | second | (u32::from(opens) * CHILD);
+        standing.armed.remove(at);
         let mut child = first;
+        for _ in 0..opens {
+            self.open(standing, cell(child));
+            child = self.net.cells[cell(child)].next;
+        }
+        // A call without arguments may go on, and so may one that has the flag.
+        if opens == 0 || second != 0 {
+            self.read(standing, at);
+        }
+    }
+
+    #[inline(always)]
+    fn open(&mut self, standing: &mut Standing<WORDS>, at: usize) {
+        let mode = self.live[at].mode;
+        self.live[at].mode = mode & SECOND | OPEN;
+        standing.armed.add(at);
+        // From a start no node is opened that is busy.
+        if mode & STATUS == BUSY {
+            standing.waiting.remove(at);
+            standing.inside.remove(at);
+        }
+    }
+
+    /// Puts a node that is in none of the sets where it belongs.
+    #[inline(always)]
+    fn read(&self, standing: &mut Standing<WORDS>, at: usize) {
+        let Cell { kind, word, .. } = self.net.cells[at];
+        let mode = self.live[at].mode;
+        let (is_second, is_ready) = (mode & SECOND != 0, mode < CHILD);
+        let is_armed = match mode & STATUS | u32::from(kind) {
+            BUSY_PRIMITIVE | BUSY_SELF_CALL => is_ready,
+            BUSY_IF | BUSY_LET if is_second => self.is_done(self.last_part(at)),
+            BUSY_IF | BUSY_LET => is_ready,
+            BUSY_CALL if is_second => {
+                standing.inside.add(at);
+                self.is_done(cell(self.net.roots[word as usize % MOST_FUNCTIONS]))
+            }
+            BUSY_CALL => {
+                if is_ready {
+                    standing.waiting.add(at);
+                }
+                false
+            }
+            _ => mode & STATUS == OPEN,
+        };
+        if is_armed {
+            standing.armed.add(at);
+        }
+    }
+
+    #[inline(always)]
+    fn finish(&mut self, standing: &mut Standing<WORDS>, at: usize, value: u32) {
+        let Cell { holder, owner, is_last_part, .. } = self.net.cells[at];
+        self.live[at] = Live { value, mode: DONE };
+        standing.armed.remove(at);
+        if holder == NONE {
+            standing.root_done(&self.rows.sites[usize::from(owner) % MOST_FUNCTIONS]);
+        } else if is_last_part {
+            self.last_part_done(standing, cell(holder), at);
+        } else {
+            self.child_done(standing, cell(holder));
+        }
+    }
+
+    /// One of the children that a node opened first is done.
+    #[inline(always)]
+    fn child_done(&mut self, standing: &mut Standing<WORDS>, at: usize) {
+        let mode = self.live[at].mode.wrapping_sub(CHILD);
+        self.live[at].mode = mode;
+        match mode | u32::from(self.net.cells[at].kind) {
+            BUSY_PRIMITIVE | BUSY_IF | BUSY_LET | BUSY_SELF_CALL => standing.armed.add(at),
+            BUSY_CALL => standing.waiting.add(at),
+            FLAGGED_PRIMITIVE | FLAGGED_SELF_CALL => standing.armed.add(at),
+            // From a start no condition is done while its if is in second phase.
+            stands if stands % CHILD == SECOND_IF => {
+                standing.armed.remove(at);
+                self.read(standing, at);
+            }
+            _ => {}
+        }
+    }
+
+    /// A branch or body is done.
+    #[inline(always)]
+    fn last_part_done(&mut self, standing: &mut Standing<WORDS>, at: usize, part: usize) {
+        if self.live[at].mode & (STATUS | SECOND) == BUSY | SECOND && self.last_part(at) == part {
+            standing.armed.add(at);
+        }
+    }
+
+    #[inline(always)]
+    fn leave(&mut self, standing: &mut Standing<WORDS>, at: usize) {
+        let callee = self.net.cells[at].word as usize % MOST_FUNCTIONS;
+        let answer = self.live[cell(self.net.roots[callee])].value;
+        self.occupant[callee] = 0;
+        standing.inside.remove(at);
+        standing.freed(&self.rows.sites[callee]);
+        self.finish(standing, at, self.net.cells[at].keep(answer));
+    }
+
+    #[inline(always)]
+    fn enter(&mut self, standing: &mut Standing<WORDS>, at: usize) {
+        let callee = self.net.cells[at].word as usize % MOST_FUNCTIONS;
+        self.reset(standing, callee, at);
+        self.occupant[callee] = at as u16 + 1;
+        self.live[at].mode |= SECOND;
+        standing.waiting.remove(at);
+        standing.inside.add(at);
+        standing.occupied(&self.rows.sites[callee]);
+    }
+
+    #[inline(always)]
+    fn restart(&mut self, standing: &mut Standing<WORDS>, at: usize) {
+        self.reset(standing, usize::from(self.net.cells[at].owner) % MOST_FUNCTIONS, at);
+    }
+
+    /// Makes a function's body ready for the arguments of a call, and opens its root.
+    #[inline(always)]
+    fn reset(&mut self, standing: &mut Standing<WORDS>, function: usize, call: usize) {
+        let root = cell(self.net.roots[function]);
+        let mut arguments = [0; 8];
+        let mut child = self.net.cells[call].first;
         for argument in &mut arguments {
             if child == NONE {
                 break;
             }
-            *argument = root.keep(self.values[cell(child)]);
+            *argument = self.net.cells[root].keep(self.live[cell(child)].value);
             child = self.net.cells[cell(child)].next;
         }
         self.registers[8 * function..8 * function + 8].copy_from_slice(&arguments);
-        let body = self.net.begin[function].into()..self.net.begin[function + 1].into();
-        self.modes[body.clone()].iter_mut().for_each(|mode| *mode &= KIND | QUEUED);
-        self.values[body].fill(0);
+        let members = self.net.begin[function].into()..self.net.begin[function + 1].into();
+        for member in &self.net.members[members] {
+            self.live[cell(*member)] = IDLE;
+        }
+        standing.reset(&self.rows.members[function], &self.rows.sites[function]);
+        self.live[root].mode = OPEN;
+        standing.armed.add(root);
     }
 }

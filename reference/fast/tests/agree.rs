@@ -1,20 +1,20 @@
-//! The fast baseline gives the same answers as the reference.
+//! The fast baseline gives the same answers as the reference: the checks, the lists, a start and a step.
+
+mod states;
 
 use design::asm::assemble;
-use design::circuit::{self, Answer, NodeState};
+use design::circuit::{self, Answer};
 use design::damage::{damaged, too_wide};
-use design::difference::{code, shown, Outcome};
+use design::difference::{code, shown};
 use design::generator::{accepted, accepted_of, accepted_sharing};
-use design::kinds::Kinds;
 use design::list::tags_of;
 use design::random::Random;
-use design::reading::read;
-use design::states::{any_state, arguments, damage_state, damaged_tags, tags};
+use design::states::{any_state, damage_state, damaged_tags, tags};
 use design::towers::{any_comb, any_deep, any_tower};
-use design::width_cases::{standings, CASES};
-use design::width_kinds::{width_kinds, ASTRAY, STARTED};
-use design::{check, Node, Tree};
-use fast::{run_watched, Ending, State};
+use design::width_cases::standings;
+use design::{check, Tree};
+use fast::State;
+use states::to_fast;
 
 type Check = fn(&[u8]) -> u32;
 
@@ -139,95 +139,6 @@ fn the_two_lists_agree() {
     assert!(listed > 20000 && refused > 5000, "{listed} with a list, {refused} refused");
 }
 
-fn to_fast(state: &circuit::State) -> State {
-    State {
-        status: std::array::from_fn(|i| state.nodes[i].status),
-        second: std::array::from_fn(|i| state.nodes[i].second),
-        value: std::array::from_fn(|i| state.nodes[i].value),
-        registers: std::array::from_fn(|i| state.functions[i].registers),
-        occupant: std::array::from_fn(|i| state.functions[i].occupant.0),
-    }
-}
-
-fn from_fast(state: &State) -> circuit::State {
-    let mut found = circuit::State::zero();
-    for (i, node) in found.nodes.iter_mut().enumerate() {
-        *node = NodeState { status: state.status[i], second: state.second[i], value: state.value[i] };
-    }
-    for (i, function) in found.functions.iter_mut().enumerate() {
-        *function = circuit::FunctionState { registers: state.registers[i], occupant: Node(state.occupant[i]) };
-    }
-    found
-}
-
-/// Runs from this state and has the reference take the same steps one by one.
-fn replay(kinds: &mut Kinds, bytes: &[u8], tags: &[u8], begun: &circuit::State, budget: u32) -> (u32, Ending) {
-    let tree = Tree::read(bytes).expect("an accepted table");
-    let mut state = to_fast(begun);
-    let mut steps = Vec::new();
-    let (taken, ending) =
-        run_watched(bytes, tags, &mut state, budget, |node| steps.push(node)).expect("a state in order");
-    assert_eq!(taken as usize, steps.len());
-    let mut own = begun.clone();
-    let mut answer = Answer::Taken;
-    for node in steps {
-        assert_eq!(answer, Answer::Taken);
-        kinds.note(width_kinds(&tree, &own, Node(node)));
-        answer = circuit::step_with(&tree, tags, &mut own, node);
-        assert!(!matches!(answer, Answer::Refused(_)), "{node}: {answer:?}");
-    }
-    assert!(from_fast(&state) == own);
-    let at_end = circuit::run_budget(bytes, tags, &mut own, 0).expect("a state in order").1;
-    let expected = match ending {
-        Ending::Answered(value) => circuit::Ending::Answered(value),
-        Ending::AtRest => circuit::Ending::AtRest,
-        Ending::Spent => circuit::Ending::Spent,
-    };
-    assert_eq!(at_end, expected);
-    assert!(ending != Ending::Spent || taken == budget);
-    (taken, ending)
-}
-
-#[test]
-fn runs_from_a_start_agree() -> Outcome {
-    let (mut random, mut kinds) = (Random::new(13), Kinds::default());
-    for round in 0..1500 {
-        let bytes = accepted(&mut random);
-        let tree = Tree::read(&bytes).expect("an accepted table");
-        let (tags, arguments) = (tags(&mut random, &tree), arguments(&mut random, &tree));
-        let mut begun = circuit::State::zero();
-        circuit::start(&bytes, &tags, &arguments, &mut begun).expect("a start");
-        for start in STARTS {
-            let mut own = to_fast(&any_state(&mut random, &tree));
-            assert_eq!(start(&bytes, &tags, &arguments, &mut own), 0);
-            assert!(own == to_fast(&begun));
-        }
-        let budget = if round % 4 == 0 { random.below(200) as u32 } else { 800 };
-        let found = replay(&mut kinds, &bytes, &tags, &begun, budget);
-        match read(&tree, &arguments, budget.into()) {
-            Some(reading) => assert_eq!(found, (reading.count as u32, Ending::Answered(reading.value))),
-            None => assert_eq!(found, (budget, Ending::Spent)),
-        }
-    }
-    kinds.often(&STARTED, 200)?;
-    kinds.never(&ASTRAY)
-}
-
-/// The named designs of narrow functions: both starts and the run.
-#[test]
-fn named_widths_agree() {
-    for (text, arguments, value, count) in CASES {
-        let bytes = assemble(text).expect(text);
-        let tags = tags_of(&bytes).expect(text);
-        for start in STARTS {
-            let mut state = State::zero();
-            assert_eq!(start(&bytes, &tags, arguments, &mut state), 0, "{text}");
-            let told = fast::run(&bytes, &tags, &mut state, 1000);
-            assert_eq!(told, Ok((count, Ending::Answered(value))), "{text} of {arguments:?}");
-        }
-    }
-}
-
 #[test]
 fn named_steps_agree() {
     for case in standings() {
@@ -236,62 +147,43 @@ fn named_steps_agree() {
         for step in STEPS {
             let mut state = to_fast(&case.before);
             step(&bytes, &[0], &mut state, case.node);
-            assert!(from_fast(&state) == case.after, "{}", case.text);
+            assert!(state == to_fast(&case.after), "{}", case.text);
         }
     }
 }
 
 #[test]
-fn runs_from_any_state_agree() -> Outcome {
-    let (mut random, mut kinds) = (Random::new(14), Kinds::default());
-    let mut endings = [0; 3];
-    for _ in 0..3000 {
-        let nodes = random.within(1, 60);
-        let bytes = accepted_of(&mut random, nodes);
-        let tree = Tree::read(&bytes).expect("an accepted table");
-        let tags = tags(&mut random, &tree);
-        let mut begun = any_state(&mut random, &tree);
-        let (_, ending) = replay(&mut kinds, &bytes, &tags, &begun, 300);
-        endings[match ending {
-            Ending::Answered(_) => 0,
-            Ending::AtRest => 1,
-            Ending::Spent => 2,
-        }] += 1;
-        damage_state(&mut random, &tree, &mut begun);
-        let mut state = to_fast(&begun);
-        assert_eq!(fast::run(&bytes, &tags, &mut state, 300), Err(24 << 16));
-        assert!(state == to_fast(&begun));
-    }
-    assert!(endings.iter().all(|count| *count > 100), "{endings:?}");
-    kinds.often(&ASTRAY, 30)
-}
-
-#[test]
-fn starts_are_refused_alike() {
+fn starts_agree() {
     let mut random = Random::new(15);
     let mut refused = [0; 26];
-    for _ in 0..2000 {
+    for _ in 0..3000 {
         let bytes = match random.below(12) {
             0..=4 => damaged(&mut random),
             5 => too_wide(&mut random),
             _ => accepted(&mut random),
         };
-        let tags = match Tree::read(&bytes) {
-            Ok(tree) if random.once_in(2) => damaged_tags(&mut random, &tree),
-            Ok(tree) => tags(&mut random, &tree),
-            Err(_) => vec![0],
+        let (tags, before) = match Tree::read(&bytes) {
+            Ok(tree) if random.once_in(2) => (damaged_tags(&mut random, &tree), any_state(&mut random, &tree)),
+            Ok(tree) => (tags(&mut random, &tree), any_state(&mut random, &tree)),
+            Err(_) => (vec![0], circuit::State::zero()),
         };
-        let count = random.below(4);
-        let mut wanted = circuit::State::zero();
-        let answer = circuit::start(&bytes, &tags, &vec![1; count], &mut wanted);
+        // Mostly as many as main has parameters.
+        let count = match Tree::read(&bytes) {
+            Ok(tree) if !random.once_in(4) => tree.parameters(tree.main()),
+            _ => random.below(4),
+        };
+        let arguments: Vec<u32> = (0..count).map(|_| random.word()).collect();
+        let mut wanted = before.clone();
+        let answer = circuit::start(&bytes, &tags, &arguments, &mut wanted);
         for start in STARTS {
-            let mut found = State::zero();
-            assert_eq!(start(&bytes, &tags, &vec![1; count], &mut found), code(answer));
+            let mut found = to_fast(&before);
+            assert_eq!(start(&bytes, &tags, &arguments, &mut found), code(answer));
             assert!(found == to_fast(&wanted));
         }
         refused[answer.map_or_else(|refusal| usize::from(refusal.number), |()| 0)] += 1;
     }
-    assert!([0, 5, 9, 10, 11, 25].iter().all(|number| refused[*number] > 20), "{refused:?}");
+    assert!(refused[0] > 200, "{refused:?}");
+    assert!([5, 9, 10, 11, 25].iter().all(|number| refused[*number] > 20), "{refused:?}");
 }
 
 type Start = fn(&[u8], &[u8], &[u32], &mut State) -> u32;
@@ -316,7 +208,7 @@ fn same_step(bytes: &[u8], tags: &[u8], begun: &circuit::State, node: u16) -> u6
     for step in STEPS {
         let mut found = to_fast(begun);
         assert_eq!(step(bytes, tags, &mut found, node), answer, "{node}: {}", shown(bytes));
-        assert!(from_fast(&found) == wanted, "{node}: {}", shown(bytes));
+        assert!(found == to_fast(&wanted), "{node}: {}", shown(bytes));
     }
     answer
 }

@@ -67,7 +67,7 @@ fn is_clean(parts: &Parts) -> bool {
         above[next] = named.next();
         ends |= above[0].0;
         // The next node may wait for this: what comes late goes in late, and mixed operators keep that order.
-        above[first] = Above((below + (named.0 & OWNER) ^ tail) | named.inner(is_last));
+        above[first] = Above(((below + (named.0 & OWNER)) ^ tail) | named.inner(is_last));
         ends |= above[0].0;
         // Out of tail position the own function is one too many.
         let used = asked + (u32::from(!in_tail) << 16) + room[named.owner()];
