@@ -47,10 +47,10 @@ impl Cell {
 
 const EMPTY: Cell = Cell {
     word: 0,
-    first: NONE,
-    last: NONE,
-    next: NONE,
-    holder: NONE,
+    first: 0,
+    last: 0,
+    next: 0,
+    holder: 0,
     kind: 0,
     operation: 0,
     owner: 0,
@@ -70,27 +70,31 @@ pub struct Net {
 }
 
 impl Net {
-    /// Of an accepted table.
-    pub fn of(parts: &Parts, known: &Survey) -> Net {
-        let (nodes, functions) = (parts.nodes(), parts.functions());
-        let mut net = Net {
+    pub fn empty() -> Net {
+        Net {
             cells: [EMPTY; MOST_NODES],
-            roots: [NONE; MOST_FUNCTIONS],
+            roots: [0; MOST_FUNCTIONS],
             begin: [0; MOST_FUNCTIONS + 1],
             members: [0; MOST_NODES],
-            nodes,
-            main: functions - 1,
-        };
+            nodes: 0,
+            main: 0,
+        }
+    }
+
+    /// Lays out an accepted table where nothing is yet.
+    pub fn fill(&mut self, parts: &Parts, known: &Survey) {
+        let (nodes, functions) = (parts.nodes(), parts.functions());
+        (self.nodes, self.main) = (nodes, functions - 1);
         // Number 0, which stands for none, becomes no cell.
         let at = |number: usize| (number as u16).wrapping_sub(1);
-        for (root, function) in net.roots.iter_mut().zip(1..=functions) {
+        for (root, function) in self.roots.iter_mut().zip(1..=functions) {
             *root = at(parts.root(function));
         }
         for (record, node) in parts.records.iter().zip(1..) {
             let above = known.above[node];
             let (kind, word, owner) = (record[0], word(record), above.owner() - 1);
             // Its last child and what it opens are found when those come, which is later.
-            net.cells[node - 1] = Cell {
+            self.cells[node - 1] = Cell {
                 word: match kind {
                     PARAMETER => u32::from(owner) * 8 + u32::from(record[1]),
                     BOUND | CALL => word - 1,
@@ -103,23 +107,23 @@ impl Net {
                 operation: record[1],
                 owner,
                 spare: spare(parts.heads[usize::from(owner)][1]),
+                last: NONE,
                 ..EMPTY
             };
             if above.holder() != 0 {
-                net.hang(node - 1, above.holder() - 1);
+                self.hang(node - 1, above.holder() - 1);
             }
-            net.begin[usize::from(owner) + 1] += 1;
+            self.begin[usize::from(owner) + 1] += 1;
         }
         for function in 0..MOST_FUNCTIONS {
-            net.begin[function + 1] += net.begin[function];
+            self.begin[function + 1] += self.begin[function];
         }
-        let mut free = net.begin;
+        let mut free = self.begin;
         for node in 0..nodes {
-            let free = &mut free[usize::from(net.cells[node].owner)];
-            net.members[cell(*free)] = node as u16;
+            let free = &mut free[usize::from(self.cells[node].owner)];
+            self.members[cell(*free)] = node as u16;
             *free += 1;
         }
-        net
     }
 
     /// Tells a holder of a child, which comes after those before it.

@@ -1,15 +1,15 @@
-//! Packed sets of nodes, as many words as a design needs.
+//! How the nodes of a state stand to their steps: packed sets of nodes, of as many words as a design needs.
 
 use numbers::{CALL, MOST_FUNCTIONS};
 
 use crate::net::Net;
 
-/// Nodes of a set of so many words: the node of cell n is bit n % 64 of word n / 64.
+/// A set: the node of cell n is bit n % 64 of word n / 64.
 #[derive(Clone, Copy)]
-pub struct Nodes<const WORDS: usize>(pub [u64; WORDS]);
+pub struct Nodes<const WORDS: usize>([u64; WORDS]);
 
 impl<const WORDS: usize> Nodes<WORDS> {
-    pub const NONE: Self = Nodes([0; WORDS]);
+    const NONE: Self = Nodes([0; WORDS]);
 
     #[inline(always)]
     pub fn add(&mut self, at: usize) {
@@ -22,86 +22,123 @@ impl<const WORDS: usize> Nodes<WORDS> {
     }
 }
 
-/// The nodes of each function and the calls of each, which are no self calls.
+/// What belongs to each function.
 pub struct Rows<const WORDS: usize> {
+    /// Its nodes.
     pub members: [Nodes<WORDS>; MOST_FUNCTIONS],
+    /// The calls of it, no self calls.
     pub sites: [Nodes<WORDS>; MOST_FUNCTIONS],
 }
 
 impl<const WORDS: usize> Rows<WORDS> {
     pub fn of(net: &Net) -> Self {
         let mut rows = Rows { members: [Nodes::NONE; MOST_FUNCTIONS], sites: [Nodes::NONE; MOST_FUNCTIONS] };
-        for (at, node) in net.cells[..net.nodes].iter().enumerate() {
-            rows.members[usize::from(node.owner) % MOST_FUNCTIONS].add(at);
-            if node.kind == CALL {
-                rows.sites[node.word as usize % MOST_FUNCTIONS].add(at);
+        for (at, cell) in net.cells[..net.nodes].iter().enumerate() {
+            rows.members[usize::from(cell.owner) % MOST_FUNCTIONS].add(at);
+            if cell.kind == CALL {
+                rows.sites[cell.word as usize % MOST_FUNCTIONS].add(at);
             }
         }
         rows
     }
 }
 
-/// How the nodes of a state stand to their steps, exactly.
+/// Sets that say exactly how each node stands, in any state.
 #[derive(Clone, Copy)]
 pub struct Standing<const WORDS: usize> {
     /// Nodes with a step that is no entering.
     pub armed: Nodes<WORDS>,
-    /// Calls in first phase with their arguments done.
+    /// Busy calls in first phase with their arguments done.
     pub waiting: Nodes<WORDS>,
     /// Busy calls in second phase.
     pub inside: Nodes<WORDS>,
     /// Calls of occupied functions.
     pub held: Nodes<WORDS>,
+    /// No possible node is in a word before this one.
+    low: usize,
 }
 
+/// Changes of many nodes pass over the words in which a function has none: most functions are in few.
 impl<const WORDS: usize> Standing<WORDS> {
     pub const NOTHING: Self =
-        Standing { armed: Nodes::NONE, waiting: Nodes::NONE, inside: Nodes::NONE, held: Nodes::NONE };
+        Standing { armed: Nodes::NONE, waiting: Nodes::NONE, inside: Nodes::NONE, held: Nodes::NONE, low: 0 };
 
-    /// The first possible node: one that is armed, or waits and isn't held.
+    /// The first possible node: it is armed, or waits and isn't held.
     #[inline(always)]
-    pub fn first(&self) -> Option<usize> {
-        for word in 0..WORDS {
+    pub fn first(&mut self) -> Option<usize> {
+        while self.low < WORDS {
+            let word = self.low;
             let possible = self.armed.0[word] | self.waiting.0[word] & !self.held.0[word];
             if possible != 0 {
                 return Some(64 * word + possible.trailing_zeros() as usize);
             }
+            self.low += 1;
         }
         None
     }
 
-    /// Calls inside have a step once their callee's root is done.
+    #[inline(always)]
+    pub fn arm(&mut self, at: usize) {
+        self.armed.add(at);
+        self.low = self.low.min(at / 64);
+    }
+
+    #[inline(always)]
+    pub fn wait(&mut self, at: usize) {
+        self.waiting.add(at);
+        self.low = self.low.min(at / 64);
+    }
+
+    /// For a call that is busy no longer, though it was not done. By value, so that sets in registers stay there.
+    #[cold]
+    pub fn without_call(mut self, at: usize) -> Self {
+        self.waiting.remove(at);
+        self.inside.remove(at);
+        self
+    }
+
+    /// A root is done: the calls inside its function have a step.
     #[inline(always)]
     pub fn root_done(&mut self, sites: &Nodes<WORDS>) {
+        self.low = 0;
         for word in 0..WORDS {
-            self.armed.0[word] |= self.inside.0[word] & sites.0[word];
+            if sites.0[word] != 0 {
+                self.armed.0[word] |= self.inside.0[word] & sites.0[word];
+            }
         }
     }
 
-    /// The callee is free.
+    /// A function is free.
     #[inline(always)]
     pub fn freed(&mut self, sites: &Nodes<WORDS>) {
+        self.low = 0;
         for word in 0..WORDS {
-            self.held.0[word] &= !sites.0[word];
+            if sites.0[word] != 0 {
+                self.held.0[word] &= !sites.0[word];
+            }
         }
     }
 
-    /// The callee is occupied.
+    /// A function is occupied.
     #[inline(always)]
     pub fn occupied(&mut self, sites: &Nodes<WORDS>) {
         for word in 0..WORDS {
-            self.held.0[word] |= sites.0[word];
+            if sites.0[word] != 0 {
+                self.held.0[word] |= sites.0[word];
+            }
         }
     }
 
-    /// A body is idle, and its root not done; `held` is about callees and stays.
+    /// The nodes of a function are idle, and no call inside has a step. Whether its own calls are held doesn't change.
     #[inline(always)]
     pub fn reset(&mut self, members: &Nodes<WORDS>, sites: &Nodes<WORDS>) {
         for word in 0..WORDS {
-            let others = !members.0[word];
-            self.armed.0[word] &= others & !(self.inside.0[word] & sites.0[word]);
-            self.waiting.0[word] &= others;
-            self.inside.0[word] &= others;
+            if members.0[word] | sites.0[word] != 0 {
+                let others = !members.0[word];
+                self.armed.0[word] &= others & !(self.inside.0[word] & sites.0[word]);
+                self.waiting.0[word] &= others;
+                self.inside.0[word] &= others;
+            }
         }
     }
 }

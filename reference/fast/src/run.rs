@@ -40,7 +40,8 @@ pub fn run_watched(
     if !state.is_in_order(parts.nodes(), parts.functions()) {
         return Err(refusal(24, 0));
     }
-    let net = Net::of(&parts, &known);
+    let mut net = Net::empty();
+    net.fill(&parts, &known);
     // Sets of no more words than there are nodes for, so that those of a small design fit into registers.
     Ok(match net.nodes.div_ceil(64) {
         1 => Runner::<1>::run(&net, state, budget, watch),
@@ -225,11 +226,10 @@ impl<'a, const WORDS: usize> Runner<'a, WORDS> {
     fn open(&mut self, standing: &mut Standing<WORDS>, at: usize) {
         let mode = self.live[at].mode;
         self.live[at].mode = mode & SECOND | OPEN;
-        standing.armed.add(at);
+        standing.arm(at);
         // From a start no node is opened that is busy.
         if mode & STATUS == BUSY {
-            standing.waiting.remove(at);
-            standing.inside.remove(at);
+            *standing = standing.without_call(at);
         }
     }
 
@@ -249,15 +249,23 @@ impl<'a, const WORDS: usize> Runner<'a, WORDS> {
             }
             BUSY_CALL => {
                 if is_ready {
-                    standing.waiting.add(at);
+                    standing.wait(at);
                 }
                 false
             }
             _ => mode & STATUS == OPEN,
         };
         if is_armed {
-            standing.armed.add(at);
+            standing.arm(at);
         }
+    }
+
+    /// The same for one that may be armed. By value, so that sets in registers stay there.
+    #[cold]
+    fn read_anew(&self, mut standing: Standing<WORDS>, at: usize) -> Standing<WORDS> {
+        standing.armed.remove(at);
+        self.read(&mut standing, at);
+        standing
     }
 
     #[inline(always)]
@@ -280,14 +288,11 @@ impl<'a, const WORDS: usize> Runner<'a, WORDS> {
         let mode = self.live[at].mode.wrapping_sub(CHILD);
         self.live[at].mode = mode;
         match mode | u32::from(self.net.cells[at].kind) {
-            BUSY_PRIMITIVE | BUSY_IF | BUSY_LET | BUSY_SELF_CALL => standing.armed.add(at),
-            BUSY_CALL => standing.waiting.add(at),
-            FLAGGED_PRIMITIVE | FLAGGED_SELF_CALL => standing.armed.add(at),
+            BUSY_PRIMITIVE | BUSY_IF | BUSY_LET | BUSY_SELF_CALL => standing.arm(at),
+            BUSY_CALL => standing.wait(at),
+            FLAGGED_PRIMITIVE | FLAGGED_SELF_CALL => standing.arm(at),
             // From a start no condition is done while its if is in second phase.
-            stands if stands % CHILD == SECOND_IF => {
-                standing.armed.remove(at);
-                self.read(standing, at);
-            }
+            stands if stands % CHILD == SECOND_IF => *standing = self.read_anew(*standing, at),
             _ => {}
         }
     }
@@ -296,7 +301,7 @@ impl<'a, const WORDS: usize> Runner<'a, WORDS> {
     #[inline(always)]
     fn last_part_done(&mut self, standing: &mut Standing<WORDS>, at: usize, part: usize) {
         if self.live[at].mode & (STATUS | SECOND) == BUSY | SECOND && self.last_part(at) == part {
-            standing.armed.add(at);
+            standing.arm(at);
         }
     }
 
@@ -346,6 +351,6 @@ impl<'a, const WORDS: usize> Runner<'a, WORDS> {
         }
         standing.reset(&self.rows.members[function], &self.rows.sites[function]);
         self.live[root].mode = OPEN;
-        standing.armed.add(root);
+        standing.arm(root);
     }
 }
