@@ -168,6 +168,7 @@ impl<'a, const WORDS: usize> Runner<'a, WORDS> {
     fn step(&mut self, standing: &mut Standing<WORDS>, at: usize) {
         let Cell { word, first, last, kind, operation, .. } = self.net.cells[at];
         let mode = self.live[at].mode;
+        standing.disarm_first(at);
         match mode & STATUS | u32::from(kind) {
             OPEN_CONSTANT => self.finish(standing, at, word),
             OPEN_PARAMETER => self.finish(standing, at, self.registers[word as usize % (8 * MOST_FUNCTIONS)]),
@@ -182,7 +183,6 @@ impl<'a, const WORDS: usize> Runner<'a, WORDS> {
                     self.finish(standing, at, self.live[part].value);
                 } else {
                     self.live[at].mode |= SECOND;
-                    standing.armed.remove(at);
                     self.open(standing, part);
                 }
             }
@@ -210,7 +210,6 @@ impl<'a, const WORDS: usize> Runner<'a, WORDS> {
         let Cell { first, opens, .. } = self.net.cells[at];
         let second = self.live[at].mode & SECOND;
         self.live[at].mode = BUSY | second | (u32::from(opens) * CHILD);
-        standing.armed.remove(at);
         let mut child = first;
         for _ in 0..opens {
             self.open(standing, cell(child));
@@ -263,7 +262,7 @@ impl<'a, const WORDS: usize> Runner<'a, WORDS> {
     /// The same for one that may be armed. By value, so that sets in registers stay there.
     #[cold]
     fn read_anew(&self, mut standing: Standing<WORDS>, at: usize) -> Standing<WORDS> {
-        standing.armed.remove(at);
+        standing.disarm(at);
         self.read(&mut standing, at);
         standing
     }
@@ -272,7 +271,6 @@ impl<'a, const WORDS: usize> Runner<'a, WORDS> {
     fn finish(&mut self, standing: &mut Standing<WORDS>, at: usize, value: u32) {
         let Cell { holder, owner, is_last_part, .. } = self.net.cells[at];
         self.live[at] = Live { value, mode: DONE };
-        standing.armed.remove(at);
         if holder == NONE {
             standing.root_done(&self.rows.sites[usize::from(owner) % MOST_FUNCTIONS]);
         } else if is_last_part {
