@@ -6,6 +6,7 @@ pub mod lent;
 mod raw;
 pub mod rounds;
 pub mod seen;
+pub mod traces;
 
 // Brings the library of the proved code, which that crate links.
 use compare as _;

@@ -3,6 +3,7 @@
 pub mod asm;
 pub mod check;
 pub mod circuit;
+pub mod crowds;
 pub mod damage;
 pub mod difference;
 pub mod draft;

@@ -5,6 +5,7 @@ mod states;
 
 use design::asm::assemble;
 use design::circuit::{self, step_with};
+use design::crowds::{callers, chain};
 use design::difference::{shown, Outcome};
 use design::first_kinds::{self, first_kinds, ENABLED, MOVES, NEVER, PICKED};
 use design::generator::{accepted, accepted_of, accepted_sharing, accepted_sharing_of};
@@ -149,6 +150,21 @@ fn runs_from_any_state_agree() -> Outcome {
     done.widths.often(&width_kinds::ASTRAY, 50)?;
     done.firsts.often(&[&MOVES[..], &PICKED, &ENABLED, &first_kinds::ASTRAY].concat(), 50)?;
     done.firsts.never(&NEVER)
+}
+
+/// Very many calls under way at once.
+#[test]
+fn runs_of_crowds_agree() -> Outcome {
+    let mut done = Done::default();
+    for (bytes, arguments) in [(callers(), &[2][..]), (chain(), &[2, 9])] {
+        let tags = tags_of(&bytes).expect("an accepted table");
+        let begun = started(&bytes, &tags, arguments);
+        for budget in [300, u32::MAX] {
+            same_run(&mut done, &bytes, &tags, &begun, budget);
+        }
+    }
+    assert_eq!(done.endings, [2, 0, 2]);
+    done.firsts.often(&["callee left by another call, and so several calls", PICKED[2]], 400)
 }
 
 /// The named designs of narrow functions.
