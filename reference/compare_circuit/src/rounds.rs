@@ -2,7 +2,7 @@
 
 use std::fmt::Debug;
 
-use design::circuit::{self, check_state, possible, step_with, Answer, Ending, State, Steps};
+use design::circuit::{self, check_state, first, possible, step_with, Answer, Ending, State, Steps};
 use design::difference::{ensure, shown, unrefused, Outcome};
 use design::generator::{accepted, accepted_of, accepted_sharing, accepted_sharing_of};
 use design::kinds::Kinds;
@@ -14,10 +14,7 @@ use design::{Node, Refusal, Tree};
 
 use crate::lent::Lent;
 use crate::seen::Seen;
-
-/// Most states kept at once, and most steps, when looking for the steps of a run.
-const MOST_STATES: usize = 100;
-const MOST_STEPS: u32 = 6;
+use crate::traces::traced;
 
 /// How tags stand to the arbiter list.
 pub const EMPTY_LIST: &str = "the list is empty";
@@ -72,8 +69,6 @@ pub struct Round {
     pub tree: Tree,
     pub own: State,
     pub lent: Lent,
-    /// Whether every step of the last drive was found.
-    pub retraced: bool,
     /// What the steps that were asked for one by one did with widths.
     pub widths: Kinds,
 }
@@ -118,7 +113,7 @@ impl Round {
     pub fn standing(bytes: Vec<u8>, tags: Vec<u8>, own: State) -> Result<Round, String> {
         let tree = tree_of(&bytes)?;
         let lent = Lent::of(&own);
-        Ok(Round { bytes, tags, tree, own, lent, retraced: false, widths: Kinds::default() })
+        Ok(Round { bytes, tags, tree, own, lent, widths: Kinds::default() })
     }
 
     fn expect(&self, holds: bool, otherwise: impl FnOnce() -> String) -> Outcome {
@@ -148,7 +143,7 @@ impl Round {
 
     /// The lowest node with a step, in a state that 24 lets pass.
     pub fn lowest_step(&self) -> Option<Node> {
-        possible(&self.tree, &self.tags, &self.own).next()
+        first(&self.tree, &self.tags, &self.own)
     }
 
     /// A node to ask at: mostly one with a step, often a call that may have to wait or another node,
@@ -207,21 +202,12 @@ impl Round {
         self.agreed(before, found, wanted, || format!("step at {node}"))
     }
 
-    /// The node that the proved query names has to have a step, and it has to name one if there is any.
+    /// The node that the query names.
     pub fn query(&self) -> Result<Result<Option<Node>, Refusal>, String> {
         let found = crate::query(&self.bytes, &self.tags, &self.lent).map_err(|message| self.told(message))?;
-        if let Err(refusal) = check_state(&self.tree, &self.own) {
-            self.expect(found == Err(refusal), || format!("query said {found:?}, wanted {refusal:?}"))?;
-            return Ok(found);
-        }
-        let nodes: Vec<Node> = possible(&self.tree, &self.tags, &self.own).collect();
-        let fits = match found {
-            Ok(None) => nodes.is_empty(),
-            Ok(Some(node)) => nodes.contains(&node),
-            Err(_) => false,
-        };
-        self.expect(fits, || format!("query said {found:?}, possible are {nodes:?}"))?;
-        Ok(found)
+        let wanted = circuit::query(&self.bytes, &self.tags, &self.own);
+        self.expect(found == wanted, || format!("query said {found:?}, wanted {wanted:?}"))?;
+        Ok(wanted)
     }
 
     /// The run over a list of nodes. Its count holds anything before.
@@ -237,67 +223,28 @@ impl Round {
         Ok(wanted)
     }
 
-    /// The run on a budget. Its steps are not fixed, so it is held against what is true of any such steps;
-    /// the reference goes on from where it came to.
+    /// The run on a budget. Its count holds anything before.
     pub fn drive(&mut self, random: &mut Random, budget: u32) -> Result<Result<(u32, Ending), Refusal>, String> {
+        let before = self.own.clone();
+        let wanted = circuit::run_budget(&self.bytes, &self.tags, &mut self.own, budget);
         let noise = random.number() as u32;
-        let mut taken = noise;
-        let told = crate::drive(&self.bytes, &self.tags, &mut self.lent, budget, &mut taken)?;
-        if let Err(refusal) = check_state(&self.tree, &self.own) {
-            let wanted = (Err(refusal), noise);
-            self.expect((told, taken) == wanted, || format!("drive said {:?}, wanted {wanted:?}", (told, taken)))?;
-            self.same_state("a refused drive")?;
-            return Ok(Err(refusal));
-        }
-        let ending = told.map_err(|refusal| self.told(format!("drive said {refusal:?}")))?;
-        let after = self.lent.state().map_err(|difference| self.told(difference))?;
-        self.lent.same_as(&after).map_err(|difference| self.told(format!("after a drive: {difference}")))?;
-        let what = || format!("drive on {budget} took {taken} and said {ending:?}; came to");
-        let wrong = |message: &str| self.told(format!("{} {}: {message}", what(), standing(&self.tree, &after)));
-        let (nodes, functions) = (self.tree.node_count(), self.tree.function_count());
-        let past_kept = after.nodes[nodes..] == self.own.nodes[nodes..]
-            && after.functions[functions..] == self.own.functions[functions..];
-        ensure(past_kept, || wrong("entries past N or F changed"))?;
-        ensure(check_state(&self.tree, &after).is_ok(), || wrong("24 now"))?;
-        let root = after.node(self.tree.root(self.tree.main()));
-        let steps_left = possible(&self.tree, &self.tags, &after).next().is_some();
-        let fits = match ending {
-            Ending::Answered(value) => root.status == numbers::DONE && root.value == value && taken <= budget,
-            Ending::AtRest => root.status != numbers::DONE && !steps_left && taken <= budget,
-            Ending::Spent => steps_left && taken == budget,
-        };
-        ensure(fits, || wrong("that isn't so"))?;
-        let reached = reach(&self.tree, &self.tags, &self.own, &after, taken);
-        ensure(reached != Some(false), || wrong("no such steps lead there"))?;
-        self.retraced = reached == Some(true);
-        self.own = after;
-        Ok(Ok((taken, ending)))
+        let mut count = noise;
+        let ending = crate::drive(&self.bytes, &self.tags, &mut self.lent, budget, &mut count)?;
+        // A refusal keeps the count.
+        let told = wanted.map_or_else(|refusal| (noise, Err(refusal)), |(taken, ending)| (taken, Ok(ending)));
+        self.agreed(before, (count, ending), told, || format!("drive on {budget}")).map(|_| wanted)
     }
-}
 
-/// Whether some steps, just so many, lead from one state to the other; none where there are too many ways.
-pub fn reach(tree: &Tree, tags: &[u8], from: &State, to: &State, steps: u32) -> Option<bool> {
-    if steps > MOST_STEPS {
-        return None;
+    /// The nodes of the run on a budget, asked for one by one; both states stay as they are.
+    pub fn trace(&self, budget: u32) -> Result<Result<(Vec<Node>, Ending), Refusal>, String> {
+        let (mut own, mut lent) = (self.own.clone(), self.lent.clone());
+        let wanted = circuit::run_traced(&self.bytes, &self.tags, &mut own, budget);
+        let found = traced(&self.bytes, &self.tags, &mut lent, budget).map_err(|message| self.told(message))?;
+        self.expect(found == wanted, || format!("the steps on {budget} are {found:?}, wanted {wanted:?}"))?;
+        let same = lent.same_as(&own);
+        same.map_err(|difference| self.told(format!("after {wanted:?} one by one: {difference}")))?;
+        Ok(wanted)
     }
-    let mut states = vec![from.clone()];
-    for _ in 0..steps {
-        let mut later: Vec<State> = Vec::new();
-        for state in &states {
-            for node in possible(tree, tags, state) {
-                let mut next = state.clone();
-                step_with(tree, tags, &mut next, node.0);
-                if !later.contains(&next) {
-                    later.push(next);
-                }
-            }
-            if later.len() > MOST_STATES {
-                return None;
-            }
-        }
-        states = later;
-    }
-    Some(states.contains(to))
 }
 
 /// A state's entries up to N and F, short.

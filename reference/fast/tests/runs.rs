@@ -7,13 +7,14 @@ use design::asm::assemble;
 use design::circuit::{self, step_with};
 use design::crowds::{callers, chain};
 use design::difference::{shown, Outcome};
+use design::first_cases::cases;
 use design::first_kinds::{self, first_kinds, ENABLED, MOVES, NEVER, PICKED};
 use design::generator::{accepted, accepted_of, accepted_sharing, accepted_sharing_of};
 use design::kinds::Kinds;
 use design::list::tags_of;
 use design::random::Random;
 use design::reading::read;
-use design::states::{any_state, arguments, damage_state, tags};
+use design::states::{any_state, arguments, damage_state, odd_state, tags};
 use design::towers::{any_comb, any_deep, any_tower};
 use design::width_cases::CASES;
 use design::width_kinds::{self, width_kinds, STARTED};
@@ -137,7 +138,7 @@ fn runs_from_any_state_agree() -> Outcome {
         let bytes = some_table(&mut random);
         let tree = Tree::read(&bytes).expect("an accepted table");
         let tags = tags(&mut random, &tree);
-        let mut begun = any_state(&mut random, &tree);
+        let mut begun = random.pick(&[any_state, odd_state])(&mut random, &tree);
         let budget = if random.once_in(8) { random.below(4) as u32 } else { 100 };
         same_run(&mut done, &bytes, &tags, &begun, budget);
         damage_state(&mut random, &tree, &mut begun);
@@ -150,6 +151,25 @@ fn runs_from_any_state_agree() -> Outcome {
     done.widths.often(&width_kinds::ASTRAY, 50)?;
     done.firsts.often(&[&MOVES[..], &PICKED, &ENABLED, &first_kinds::ASTRAY].concat(), 50)?;
     done.firsts.never(&NEVER)
+}
+
+#[test]
+fn named_states_agree() {
+    for case in cases() {
+        let (bytes, tags) = case.table();
+        for budget in 0..case.nodes.len() as u32 + 2 {
+            let taken = case.nodes.len().min(budget as usize);
+            let mut nodes = Vec::new();
+            let told = run_watched(&bytes, &tags, &mut to_fast(&case.before), budget, |node| nodes.push(node));
+            assert_eq!(
+                (told.map(|told| told.0), &nodes[..]),
+                (Ok(taken as u32), &case.nodes[..taken]),
+                "{}",
+                case.name
+            );
+            same_run(&mut Done::default(), &bytes, &tags, &case.before, budget);
+        }
+    }
 }
 
 /// Very many calls under way at once.
