@@ -5,6 +5,7 @@ use numbers::{BUSY, DONE, IDLE, OPEN};
 use crate::asm::assemble;
 use crate::circuit::{run_list, start, Ending, NodeState, State};
 use crate::list::tags_of;
+use crate::table::Node;
 
 pub struct FirstCase {
     pub name: &'static str,
@@ -31,6 +32,9 @@ const THREE: &str = "fun f(x) = x  fun main(x) = beside(f(x), f(x), f(x))";
 
 /// Nodes 1; 2 call of f, 3; 4 beside; 5 call of g, 6; 7 call of f, 8.
 const HELD: &str = "fun f(x) = x  fun g(x) = f(x)  fun main(x) = beside(g(x), f(x))";
+
+/// Nodes 1; 2 call of g, 3; 4 beside; 5 call of f, 6; 7 call of f, 8.
+const STUCK: &str = "fun g(x) = x  fun f(x) = g(x)  fun main(x) = beside(f(x), f(x))";
 
 /// Nodes 1 if; 2; 3 self call, 4 halve, 5; 6.
 const HALVED: &str = "fun main(x) = if x then main(halve(x)) else 9";
@@ -92,6 +96,12 @@ pub fn cases() -> Vec<FirstCase> {
     case("two calls inside wait for one root", BESIDE, state, &[1, 3, 5, 2], Ending::Answered(8));
     let state = standing(&[done(8), busy, busy, done(6), inside, done(1), inside, done(2)], 0);
     case("two calls inside lose it to a third", THREE, state, &[3, 1, 3, 5, 7, 2], Ending::Answered(6));
+    // Function 1 stays occupied, so that the body of function 2 never comes to its end again.
+    let mut state = standing(&[idle, done(8), idle, busy, busy, done(6), inside, done(1)], 0);
+    state.functions[0].occupant = Node(7);
+    case("a call inside loses it for good", STUCK, state.clone(), &[5, 2, 3], rest);
+    state.node_mut(Node(5)).second = true;
+    case("two calls inside of a root that is done", STUCK, state, &[5, 7, 4], Ending::Answered(8));
     let state = standing(&[done(5), busy, flagged, idle, done(2), done(3)], 0);
     case("a flagged call leaves once it has begun", BESIDE, state, &[3, 3, 2], Ending::Answered(2));
     let state = standing(&[open, busy, flagged, idle, done(2), done(3)], 0);

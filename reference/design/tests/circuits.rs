@@ -100,7 +100,7 @@ fn any_state_is_settled() {
         if random.once_in(8) {
             damage_state(&mut random, &tree, &mut state);
         }
-        let mut possible = false;
+        let mut lowest = None;
         for node in 0..=tree.node_count() as u16 + 1 {
             let mut after = state.clone();
             match step_with(&tree, &tags, &mut after, node) {
@@ -110,7 +110,7 @@ fn any_state_is_settled() {
                 }
                 _ => {
                     assert!(after != state);
-                    possible = true;
+                    lowest = lowest.or(Some(Node(node)));
                     assert_eq!(after.nodes[tree.node_count()..], state.nodes[tree.node_count()..]);
                     assert_eq!(after.functions[tree.function_count()..], state.functions[tree.function_count()..]);
                 }
@@ -118,10 +118,10 @@ fn any_state_is_settled() {
         }
         match query(&bytes, &tags, &state) {
             Ok(found) => {
-                assert_eq!(found.is_some(), possible);
+                assert_eq!(found, lowest);
                 let ending = run_budget(&bytes, &tags, &mut state.clone(), 0).expect("a state in order");
                 let main_done = state.node(tree.root(tree.main())).status == 3;
-                assert_eq!(ending == (0, Ending::Spent), possible);
+                assert_eq!(ending == (0, Ending::Spent), lowest.is_some());
                 assert_eq!(matches!(ending, (0, Ending::Answered(_))), main_done);
             }
             Err(refusal) => assert_eq!(refusal, Refusal { number: 24, place: Node(0) }),
