@@ -13,10 +13,10 @@ pub const CROWD: usize = 250;
 /// Children of a beside.
 const ARMS: usize = 8;
 
-/// main(n) = if n then main(beside(f(), .., f(), sub(n, 1))) else 0, with 250 calls. A beside has eight children, so they
-/// are below a tree of besides; they have no arguments, since with one each they would not fit into a table. The number
-/// of f's one node is the highest, so that all calls have begun, and wait, before f goes on: at every entering and
-/// leaving there are up to 249 others.
+/// main(n) = if n then main(beside(f(), .., f(), sub(n, 1))) else 0, with 250 calls. A beside has eight children, so
+/// they are below a tree of besides; they have no arguments, since with one each they would not fit into a table. The
+/// number of f's one node is the highest, so that all calls have begun, and wait, before f goes on: at every entering
+/// and leaving there are up to 249 others.
 pub fn callers() -> Vec<u8> {
     let mut draft = Draft::default();
     let f = draft.add(CONSTANT, 0, 1);
@@ -59,8 +59,8 @@ fn last_first(draft: &Draft) -> Vec<u8> {
     draft.bytes_with(&numbers)
 }
 
-/// main(n, x) = if n then main(sub(n, 1), f(f(.. f(x)))) else x, with 250 calls one in another. There are 32 functions at
-/// most, so a chain of so many is one of arguments: all of its calls have begun before the innermost enters.
+/// main(n, x) = if n then main(sub(n, 1), f(f(.. f(x)))) else x, with 250 calls one in another. There are 32 functions
+/// at most, so a chain of so many is one of arguments: all of its calls have begun before the innermost enters.
 pub fn chain() -> Vec<u8> {
     let calls = "f(".repeat(CROWD) + "x" + &")".repeat(CROWD);
     let text = format!("fun f(x) = x  fun main(n, x) = if n then main(sub(n, 1), {calls}) else x");

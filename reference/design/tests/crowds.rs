@@ -7,8 +7,8 @@ use design::reading::read;
 use design::{Function, Tree};
 use numbers::{BUSY, DONE};
 
-/// Follows the first steps to the answer, and tells the steps and the most calls of function 1 that were at once busy in
-/// first phase, and that waited with their arguments done.
+/// Follows the first steps to the answer, and tells the steps and the most calls of function 1 that were at once busy
+/// in first phase, and that waited with their arguments done.
 fn crowded(bytes: &[u8], arguments: &[u32]) -> (u64, usize, usize) {
     let tree = Tree::read(bytes).expect("an accepted table");
     let tags = tags_of(bytes).expect("an accepted table");
