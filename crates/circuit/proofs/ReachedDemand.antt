@@ -1,6 +1,6 @@
 -- the third demand of what the entries return in a state that was reached from a start
 use Prim.Native.Nat.{ℕ, _+_, _≤_}
-use mathlib.Core.Path.{_≡_, refl, subst, sym, ap, _∙_}
+use mathlib.Core.Path.{_≡_, refl, subst, sym, ap, ap₂, _∙_}
 use mathlib.Core.Logic.{inl, inr, ⊎-elim}
 use mathlib.Core.List.{List, [], _∷_, _++_}
 use lib.ListN.{length, take, getD, length-append}
@@ -13,6 +13,9 @@ use Rattle.rules.specs.Circuit.{stepOf, playOf, entriesOf, leavingsOf, Possible
 use Rattle.rules.specs.Reading.{ReadsTo}
 use Rattle.rules.specs.Runs.{standing, runOf, RunPlays, MainDone, mainValue, Drives, DrivesAfter, Picks, Says, names, nothing, unasked}
 use Rattle.rules.specs.Runs.{Finds, FindsAfter}
+use Rattle.rules.specs.First.{firstsOf, queryOf, driveOf, Traced}
+use Rattle.rules.proofs.FirstFacts.{query-finds}
+use Rattle.rules.proofs.FirstRuns.{drive-drives, first-steps}
 use Rattle.rules.specs.Runs as Runs
 use Rattle.rules.specs.Companions as Companions
 use Rattle.circuit.specs.Meaning.{listsOf, steppedOf, replyOf, ranOf, drivenOf, foundOf}
@@ -23,7 +26,7 @@ use Rattle.circuit.specs.declared.types.Ran.{Ran}
 use Rattle.circuit.specs.declared.types.Driven.{Driven}
 use Rattle.circuit.specs.declared.types.Found.{Found}
 use Rattle.rules.proofs.Demands as Demands
-use Rattle.rules.proofs.RunFacts.{query-over, main-said, start-stands, start-run, run-demand, drive-demand}
+use Rattle.rules.proofs.RunFacts.{query-over, main-said, start-stands, start-run, run-demand, drive-demand, play-nodes, play-state}
 use Rattle.rules.proofs.TakenSteps.{taken-alone, taken-prefix, next-nodes, next-state, next-answer, never-held}
 use Rattle.circuit.proofs.EntryDemand.{takes}
 
@@ -105,23 +108,28 @@ module _ (t tags args : List ℕ) (holds : Holding t tags) where
         (start-stands t tags args s₀ (x .start) steps)
 
     -- a run with a budget
-    of-drive : (budget : ℕ) (r : Driven) → Drives t tags (listsOf s) budget (drivenOf r) → DriveEntry t tags args steps budget r
-    of-drive budget r h =
+    of-drive : (budget : ℕ) (r : Driven) → drivenOf r ≡ driveOf t tags (listsOf s) budget → DriveEntry t tags args steps s budget r
+    of-drive budget r e =
+        let h : Drives t tags (listsOf s) budget (drivenOf r) =
+        subst (Drives t tags (listsOf s) budget) (sym e) (drive-drives t tags (listsOf s) budget) in
         let d = drive-demand t tags args s₀ (x .start) steps budget (drivenOf r)
         (subst (λ z. Drives t tags z budget (drivenOf r)) (sym (x .state)) h) in
         let p : Picks t tags (listsOf s) budget (drivenOf r) = subst (λ c. DrivesAfter c t tags (listsOf s) budget (drivenOf r)) stands h in
-        let y : Reached t tags args (steps ++ d .picked) (r .state) = record {
+        let ns = firstsOf t tags (listsOf s) (r .steps) in
+        let z : Traced t tags (listsOf s) (drivenOf r) =
+        subst (Traced t tags (listsOf s)) (sym e) (first-steps t tags (listsOf s) .traced budget) in
+        let y : Reached t tags args (steps ++ ns) (r .state) = record {
           first = s₀;
           start = x .start;
-          taken = d .steps ∙ ap (λ l. l ++ d .picked) (x .taken);
-          state = sym (d .state);
+          taken = play-nodes t tags s₀ steps ns
+              ∙ ap₂ (λ l u. l ++ playOf t tags u ns .nodes) (x .taken) (x .state) ∙ ap (λ l. steps ++ l) (z .taken);
+          state = play-state t tags s₀ steps ns ∙ ap (λ u. playOf t tags u ns .state) (x .state) ∙ z .state;
         } in
         record {
-          picked = d .picked;
-          number = d .number;
+          number = z .number;
           within = p .within;
           reached = y;
-          demand = state-demand (steps ++ d .picked) (r .state) y;
+          demand = state-demand (steps ++ ns) (r .state) y;
           right = λ v q. subst (λ l. ReadsTo t args v (length l + r .steps)) (x .taken) (d .right v q);
           never-rests = d .never-rests;
           never-barred = d .never-barred;
@@ -129,8 +137,9 @@ module _ (t tags args : List ℕ) (holds : Holding t tags) where
         }
 
     -- a query
-    of-query : (r : Found) → Finds t tags (listsOf s) (foundOf r) → QueryEntry t tags args steps s r
-    of-query r h =
+    of-query : (r : Found) → foundOf r ≡ queryOf t tags (listsOf s) → QueryEntry t tags args steps s r
+    of-query r e =
+        let h : Finds t tags (listsOf s) (foundOf r) = subst (Finds t tags (listsOf s)) (sym e) (query-finds t tags (listsOf s)) in
         let f : FindsAfter (accepted (functions t) (nodes t)) t tags (listsOf s) (foundOf r) =
         subst (λ c. FindsAfter c t tags (listsOf s) (foundOf r)) stands h in
         let by : (y : Runs.Found) → foundOf r ≡ y → FindsAfter (accepted (functions t) (nodes t)) t tags (listsOf s) y =
@@ -138,6 +147,7 @@ module _ (t tags args : List ℕ) (holds : Holding t tags) where
         let d = state-demand steps s x in
         record {
           named = λ n q. takes t tags s n (by (names n) q);
+          lowest = λ n m q w. first-steps t tags (listsOf s) .named n (sym e ∙ q) .lowest m (w .0);
           none = λ q. ⊎-elim (λ m. (m, d .right m)) (λ y. absurd (by nothing q (y .0) (y .1 .0))) (d .lively);
           over = λ m. query-over t tags (listsOf s) (functions t) (nodes t) stands m (foundOf r) h;
           never-refused = λ k p q. by (unasked k p) q;

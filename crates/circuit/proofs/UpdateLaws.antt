@@ -5,11 +5,11 @@ use mathlib.Core.Path.{_≡_, refl, subst, sym, ap, ap₂, _∙_}
 use mathlib.Core.List.{List}
 use native.Mathlib.Omega.{arith}
 use native.Mathlib.Decide.{ℕ-discrete}
-use lib.Dec.{eqb, ltb}
+use lib.Dec.{eqb}
 use borrow.Author.Tests.{eq-eqb, ne-eqb, lt-ltb}
 use Rattle.table.specs.Pick.{pick, Range}
 use Rattle.table.specs.Syntax.{id}
-use Rattle.table.specs.Bytes.{functions, nodes, root}
+use Rattle.table.specs.Bytes.{nodes, root}
 use Rattle.table.specs.Naming.{owner, parent}
 use Rattle.table.specs.Expressions.{exprAt, bodyOf}
 use Rattle.table.specs.Working.{Taken, IsNode, IsFunction}

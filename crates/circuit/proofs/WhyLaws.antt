@@ -1,7 +1,7 @@
 -- why a node has no step, by the sort of its step and whether its callee is occupied
 use Prim.Native.Nat.{ℕ}
 use mathlib.Core.Bool.{Bool, true, false, _&&_, _||_, not, true≢false}
-use mathlib.Core.Path.{_≡_, refl, sym, ap, ap₂, _∙_}
+use mathlib.Core.Path.{_≡_, refl, sym, ap₂, _∙_}
 use mathlib.Core.List.{List}
 use native.Mathlib.Omega.{arith}
 use lib.Dec.{eqb}
@@ -9,7 +9,7 @@ use Rattle.table.specs.Pick.{pick}
 use Rattle.table.specs.Naming.{owner}
 use Rattle.table.specs.Expressions.{exprAt, bodyOf}
 use Rattle.rules.specs.State.{State512, view}
-use Rattle.rules.specs.Step.{Act, stuck, blocked, does, Move, begins, turns, finishes, enters, leaves, restarts}
+use Rattle.rules.specs.Step.{Act, stuck, blocked, does, begins, turns, finishes, enters, leaves, restarts}
 use Rattle.rules.specs.Arithmetic.{arithmetic}
 use Rattle.rules.specs.Circuit.{actOf}
 use Rattle.rules.specs.Sets.{goes, sort, setsOf, ready}

@@ -10,8 +10,8 @@ use Rattle.rules.specs.State.{State512, In}
 use Rattle.rules.specs.Step.{Reply, answered, denied, refusal}
 use Rattle.rules.specs.Play.{IsTaken, noted}
 use Rattle.rules.specs.Circuit.{started, startOf, stepOf, playOf, entriesOf, leavingsOf, Possible}
-use Rattle.rules.specs.Runs.{whole, stopped, runOf, MainDone, mainValue, gave, atRest, spent, barred, Drives, names, nothing, unasked}
-use Rattle.rules.specs.Runs.{Finds}
+use Rattle.rules.specs.Runs.{whole, stopped, runOf, MainDone, mainValue, gave, atRest, spent, barred, names, nothing, unasked}
+use Rattle.rules.specs.First.{firstsOf, queryOf, driveOf}
 use Rattle.rules.specs.Reading.{ReadsTo}
 use Rattle.rules.specs.Demand.{DemandThree}
 use Rattle.circuit.specs.Meaning.{listsOf, replyOf, steppedOf, StartedAs, haltOf, ranOf, endedOf, drivenOf, foundOf}
@@ -109,14 +109,13 @@ pub record RunEntry (t tags args steps ms : List ℕ) (r : Ran) : Type 0 where
   pub next : (k p : ℕ) → haltOf (r .halt) ≡ stopped k p
       → (r .steps < length ms) × (stepOf t tags (listsOf (r .state)) (getD ms (r .steps) 0) ≡ refusal (listsOf (r .state)) k p)
 
--- of a run with a budget; it picks the steps `picked`
-pub record DriveEntry (t tags args steps : List ℕ) (budget : ℕ) (r : Driven) : Type 0 where
-  pub picked : List ℕ
-  -- it took as many steps as it tells, and its state is again one that demand 3 speaks of
-  pub number : r .steps ≡ length picked
+-- of a run with a budget there
+pub record DriveEntry (t tags args steps : List ℕ) (s : State) (budget : ℕ) (r : Driven) : Type 0 where
+  -- it took as many first steps as it tells, and its state is again one that demand 3 speaks of
+  pub number : length (firstsOf t tags (listsOf s) (r .steps)) ≡ r .steps
   pub within : r .steps ≤ budget
-  pub reached : Reached t tags args (steps ++ picked) (r .state)
-  pub demand : StateDemand t tags args (steps ++ picked) (r .state)
+  pub reached : Reached t tags args (steps ++ firstsOf t tags (listsOf s) (r .steps)) (r .state)
+  pub demand : StateDemand t tags args (steps ++ firstsOf t tags (listsOf s) (r .steps)) (r .state)
   -- its answer is the reading's, and all steps since the start are its count
   pub right : (v : ℕ) → endedOf (r .ended) ≡ gave v → ReadsTo t args v (length steps + r .steps)
   -- else the budget is spent: no such state is at rest, and none is refused
@@ -126,8 +125,9 @@ pub record DriveEntry (t tags args steps : List ℕ) (budget : ℕ) (r : Driven)
 
 -- of a query
 pub record QueryEntry (t tags args steps : List ℕ) (s : State) (r : Found) : Type 0 where
-  -- the step that it names would be taken
+  -- the step that it names would be taken, and none at a lower node
   pub named : (n : ℕ) → foundOf r ≡ names n → Takes t tags s n
+  pub lowest : (n m : ℕ) → foundOf r ≡ names n → Takes t tags s m → n ≤ m
   -- none only if main has answered, with the reading's value and count; and then none
   pub none : foundOf r ≡ nothing → MainDone t (listsOf s) × ReadsTo t args (mainValue t (listsOf s)) (length steps)
   pub over : MainDone t (listsOf s) → foundOf r ≡ nothing
@@ -138,8 +138,8 @@ pub record ReachedDemand (t tags args steps : List ℕ) (s : State) : Type 0 whe
   pub state : StateDemand t tags args steps s
   pub of-step : (n : ℕ) (r : Stepped) → steppedOf r ≡ stepOf t tags (listsOf s) n → StepEntry t tags args steps n r
   pub of-run : (ms : List ℕ) (r : Ran) → ranOf r ≡ runOf t tags (listsOf s) ms → RunEntry t tags args steps ms r
-  pub of-drive : (budget : ℕ) (r : Driven) → Drives t tags (listsOf s) budget (drivenOf r) → DriveEntry t tags args steps budget r
-  pub of-query : (r : Found) → Finds t tags (listsOf s) (foundOf r) → QueryEntry t tags args steps s r
+  pub of-drive : (budget : ℕ) (r : Driven) → drivenOf r ≡ driveOf t tags (listsOf s) budget → DriveEntry t tags args steps s budget r
+  pub of-query : (r : Found) → foundOf r ≡ queryOf t tags (listsOf s) → QueryEntry t tags args steps s r
 
 abbrev pub DemandOfReached : Type 0
 DemandOfReached = (t tags args steps : List ℕ) (s : State) → Reached t tags args steps s → Holding t tags

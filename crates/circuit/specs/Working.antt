@@ -1,12 +1,12 @@
 -- working definitions: what the parts of a step ask of each other, and the nodes of each function in a chain
-use Prim.Native.Nat.{ℕ, zero, suc, _+_, _-_, _/_, _%_, _≤_}
+use Prim.Native.Nat.{ℕ, zero, suc, _-_, _/_, _%_, _≤_}
 use mathlib.Core.Bool.{Bool, true, false, _&&_, _||_}
 use mathlib.Core.Path.{_≡_}
 use mathlib.Core.List.{List, [], _∷_, map}
 use lib.Dec.{eqb}
-use lib.ListN.{getD, length}
+use lib.ListN.{getD}
 use Rattle.table.specs.Pick.{pick}
-use Rattle.table.specs.Bytes.{functions, nodes, root, kind, first}
+use Rattle.table.specs.Bytes.{functions, nodes, kind, first}
 use Rattle.table.specs.Naming.{owner, children, initial}
 use Rattle.table.specs.Check.{accepted}
 use Rattle.table.specs.Expressions.{bodyOf}

@@ -7,14 +7,14 @@ use Rattle.table.specs.Designs.{header, function, node, twice, pair, mult}
 use Rattle.table.specs.Find.{lowest}
 use Rattle.rules.specs.State.{State512, write}
 use Rattle.rules.specs.Circuit.{stepOf, playOf}
-use Rattle.rules.specs.Runs.{gave, spent, barred, names}
-use Rattle.rules.specs.First.{firstOf, onward, afterFirst, queryOf, driveFrom, driveOf}
+use Rattle.rules.specs.Runs.{gave, atRest, spent, barred, names, nothing, unasked}
+use Rattle.rules.specs.First.{firstOf, onward, afterFirst, firstsOf, queryOf, driveFrom, driveOf}
 use Rattle.rules.specs.Sets.{Sets, setsOf, firstIn}
 use Rattle.rules.proofs.Cases.{from, circuit-open}
 use Rattle.rules.proofs.OddStates.{status-at, second-at}
 
 unfoldable pub first-open : Unit {0}
-unfolding circuit-open lowest firstOf onward afterFirst queryOf driveFrom driveOf firstIn
+unfolding circuit-open lowest firstOf onward afterFirst firstsOf queryOf driveFrom driveOf firstIn
 first-open = tt
 
 -- a state with another value at node n
@@ -52,7 +52,40 @@ short : (driveOf pair tags start 11 .steps ≡ 11) × (driveOf pair tags start 1
 unfolding first-open
 short = (refl, refl)
 
--- refused before anything else
+-- just enough: the answer is looked at before the budget
+enough : (driveOf pair tags start 12 .steps ≡ 12) × (driveOf pair tags start 12 .ended ≡ gave 9)
+unfolding first-open
+enough = (refl, refl)
+
+-- no budget: before the first step it is spent, after the answer it tells the answer; then the query says none
+no-budget : (driveOf pair tags start 0 .steps ≡ 0) × (driveOf pair tags start 0 .ended ≡ spent)
+unfolding first-open
+no-budget = (refl, refl)
+
+afterwards : (driveOf pair tags (afterFirst pair tags start 12) 0 .steps ≡ 0)
+    × (driveOf pair tags (afterFirst pair tags start 12) 0 .ended ≡ gave 9) × (queryOf pair tags (afterFirst pair tags start 12) ≡ nothing)
+unfolding first-open
+afterwards = (refl, refl, refl)
+
+-- at rest, with no budget too: nothing is open
+resting : (driveOf pair tags (status-at 2 0 start) 0 .ended ≡ atRest) × (queryOf pair tags (status-at 2 0 start) ≡ nothing)
+unfolding first-open
+resting = (refl, refl)
+
+-- the trace: main begins, then both calls are open, and the lower one goes first
+trace : firstsOf pair tags start 12 ≡ (2 ∷ 3 ∷ 4 ∷ 3 ∷ 1 ∷ 3 ∷ 5 ∷ 6 ∷ 5 ∷ 1 ∷ 5 ∷ 2 ∷ [])
+unfolding first-open
+trace = refl
+
+-- refused before anything else, the tags before 24
+tags-first : queryOf pair [] (status-at 4 4 start) ≡ unasked 10 0
+unfolding first-open
+tags-first = refl
+
+no-query : queryOf pair tags (status-at 4 4 start) ≡ unasked 24 0
+unfolding first-open
+no-query = refl
+
 stray : driveOf pair tags (status-at 4 4 start) 0 .ended ≡ barred 24 0
 unfolding first-open
 stray = refl

@@ -17,8 +17,8 @@ use Rattle.rules.specs.Step.{Reply, taken, answered, denied, does, Move,
 use Rattle.rules.specs.Play.{IsTaken}
 use Rattle.rules.specs.Arithmetic.{arithmetic}
 use Rattle.rules.specs.Circuit.{actOf, stepOf, Possible}
-use Rattle.rules.specs.Runs.{standing, MainDone, Finds, FindsAfter}
-use Rattle.rules.specs.First.{isTaken, firstOf, onward, foundAt, queryAfter, queryOf}
+use Rattle.rules.specs.Runs.{standing, MainDone, names, Finds, FindsAfter}
+use Rattle.rules.specs.First.{isTaken, firstOf, First, onward, foundAt, queryAfter, queryOf}
 use Rattle.rules.proofs.StepCases.{step-cases}
 use Rattle.rules.proofs.AnyState.{by-check, done-none}
 use Rattle.rules.proofs.LowestLaws.{lowest-fails}
@@ -62,15 +62,10 @@ module _ (t tags : List ℕ) (s : State512) where
       Moved : ℕ → State512 → Type 0
       Moved n s′ = (a : Move) × (actOf t s n ≡ does a) × (s′ ≡ perform (nodes t) (owner t) (bodyOf t) s n a)
 
-  pub record First (r : ℕ) : Type 0 where
-    pub node : IsNode t r
-    pub possible : Possible t tags s r
-    pub lowest : (n : ℕ) → Possible t tags s n → r ≤ n
-
   abbrev test : ℕ → Bool
   test n = not (isTaken (stepOf t tags s n .answer))
 
-  pub first-some : (firstOf t tags s ≡ 0 → ⊥) → First (firstOf t tags s)
+  pub first-some : (firstOf t tags s ≡ 0 → ⊥) → First t tags s (firstOf t tags s)
   unfolding firstOf
   first-some h =
       let l = lowest-fails test (nodes t) h in
@@ -110,6 +105,18 @@ module _ (t tags : List ℕ) (s : State512) where
       ∙ by-check t tags (λ f. f s 0 .state ≡ s) (λ k p. refl)
       (λ F N c. step-cases (arithmetic t) (functions t) (nodes t) (bodyOf t) (exprAt t) (owner t) (tagged tags) s 0 (λ r. r .state ≡ s)
       (λ c. refl) (λ r e m h. absurd (omega (arith, r .0))))
+
+  pub query-named : (n : ℕ) → queryOf t tags s ≡ names n → First t tags s n
+  unfolding queryOf
+  query-named n = go (standing t tags s) (firstOf t tags s) refl
+    where
+      one : (m : ℕ) → names m ≡ names n → m ≡ n
+      one m e = cc
+
+      go : (c : Verdict) (m : ℕ) → firstOf t tags s ≡ m → queryAfter c m ≡ names n → First t tags s n
+      go (accepted F N) zero e q = let z : _≡_ {A = ℕ} 0 1 = cc in absurd (omega arith)
+      go (accepted F N) (suc m) e q = subst (First t tags s) (e ∙ one (suc m) q) (first-some (λ z. omega (arith, z, e)))
+      go (refused k p) m e q = let z : _≡_ {A = ℕ} 0 1 = cc in absurd (omega arith)
 
   pub query-finds : Finds t tags s (queryOf t tags s)
   unfolding queryOf

@@ -1,9 +1,11 @@
 -- the first possible step: the query names it, and the run with a budget follows it; both results are fixed
-use Prim.Native.Nat.{ℕ, zero, suc}
+use Prim.Native.Nat.{ℕ, zero, suc, _+_, _≤_}
+use mathlib.Core.Path.{_≡_}
 use mathlib.Core.Bool.{Bool, true, false, not}
-use mathlib.Core.List.{List}
+use mathlib.Core.List.{List, [], _∷_}
 use lib.Dec.{eqb}
-use Rattle.table.specs.Pick.{pick}
+use lib.ListN.{length}
+use Rattle.table.specs.Pick.{pick, Range}
 use Rattle.table.specs.Find.{lowest}
 use Rattle.table.specs.Syntax.{id}
 use Rattle.table.specs.Bytes.{functions, nodes}
@@ -11,19 +13,21 @@ use Rattle.table.specs.Check.{Verdict, accepted, refused}
 use Rattle.table.specs.Expressions.{bodyOf}
 use Rattle.rules.specs.State.{State512, view}
 use Rattle.rules.specs.Step.{Reply, taken, answered, denied, done}
-use Rattle.rules.specs.Circuit.{stepOf}
-use Rattle.rules.specs.Runs.{standing, mainValue, Ended, gave, atRest, spent, barred, Driven, Found, names, nothing, unasked}
+use Rattle.rules.specs.Circuit.{stepOf, playOf, Possible}
+use Rattle.rules.specs.Runs.{standing, mainValue, Ended, gave, atRest, spent, barred, Driven, Drives}
+use Rattle.rules.specs.Runs.{Found, names, nothing, unasked, Finds}
 
--- "A step is taken if it isn't refused"
+-- the test beside `IsTaken`
 abbrev pub isTaken : Reply → Bool
 isTaken taken = true
 isTaken (answered v) = true
 isTaken (denied k p) = false
 
--- "the possible node with the lowest number", 0 if there is none
+-- the lowest node whose step isn't refused, 0 if there is none
 unfoldable pub firstOf : (t tags : List ℕ) → State512 → ℕ
 firstOf t tags s = lowest (λ n. not (isTaken (stepOf t tags s n .answer))) (nodes t)
 
+-- a node is named, 0 is none
 abbrev pub foundAt : ℕ → Found
 foundAt zero = nothing
 foundAt (suc n) = names (suc n)
@@ -32,7 +36,7 @@ abbrev pub queryAfter : Verdict → ℕ → Found
 queryAfter (accepted F N) n = foundAt n
 queryAfter (refused number place) n = unasked number place
 
--- "The query names the possible node with the lowest number"
+-- what a query says: the refusals come first
 unfoldable pub queryOf : (t tags : List ℕ) → State512 → Found
 queryOf t tags s = queryAfter (standing t tags s) (firstOf t tags s)
 
@@ -44,20 +48,25 @@ unfoldable pub afterFirst : (t tags : List ℕ) → State512 → ℕ → State51
 afterFirst t tags s zero = s
 afterFirst t tags s (suc k) = afterFirst t tags (onward t tags s) k
 
--- no step; one step before what r says
+-- the nodes of the first k of those steps: the trace that two benches compare
+unfoldable pub firstsOf : (t tags : List ℕ) → State512 → (k : ℕ) → List ℕ
+firstsOf t tags s zero = []
+firstsOf t tags s (suc k) = firstOf t tags s ∷ firstsOf t tags (onward t tags s) k
+
+-- a run that takes no step and ends as e says; one that takes a step before it goes on as r does
 abbrev pub stays : State512 → Ended → Driven
 stays s e = record { steps = 0; ended = e; state = s }
 
 abbrev pub oneMore : Driven → Driven
 oneMore r = record { steps = suc (r .steps); ended = r .ended; state = r .state }
 
--- "answered (looked at first, also before any step), at rest (looked at second, exactly if no step is possible)", else as r says
+-- main's answer ends a run; else that no step is possible does; else it goes on as r says
 abbrev pub unlessOver : (t tags : List ℕ) → State512 → Driven → Driven
 unlessOver t tags s r =
     pick (done (view s) (id (bodyOf t (functions t)))) (stays s (gave (mainValue t s)))
     (pick (eqb (firstOf t tags s) 0) (stays s atRest) r)
 
--- "or spent, the last only after exactly that many steps"
+-- turn by turn; with nothing left of the budget it is spent
 unfoldable pub driveFrom : (t tags : List ℕ) → State512 → (budget : ℕ) → Driven
 driveFrom t tags s zero = unlessOver t tags s (stays s spent)
 driveFrom t tags s (suc b) = unlessOver t tags s (oneMore (driveFrom t tags (onward t tags s) b))
@@ -66,6 +75,33 @@ abbrev pub driveAfter : Verdict → State512 → Driven → Driven
 driveAfter (accepted F N) s r = r
 driveAfter (refused number place) s r = stays s (barred number place)
 
--- "The budgeted run follows it"
+-- a run with a budget: the refusals come first
 unfoldable pub driveOf : (t tags : List ℕ) → State512 → (budget : ℕ) → Driven
 driveOf t tags s budget = driveAfter (standing t tags s) s (driveFrom t tags s budget)
+
+-- r is the first possible node: it is possible, and none below it is
+pub record First (t tags : List ℕ) (s : State512) (r : ℕ) : Type 0 where
+  pub node : Range (nodes t) r
+  pub possible : Possible t tags s r
+  pub lowest : (n : ℕ) → Possible t tags s n → r ≤ n
+
+-- the trace of a run is steps that are taken, one by one, as many as it tells, and leads to its state
+pub record Traced (t tags : List ℕ) (s : State512) (r : Driven) : Type 0 where
+  pub taken : playOf t tags s (firstsOf t tags s (r .steps)) .nodes ≡ firstsOf t tags s (r .steps)
+  pub number : length (firstsOf t tags s (r .steps)) ≡ r .steps
+  pub state : playOf t tags s (firstsOf t tags s (r .steps)) .state ≡ r .state
+
+-- of every state s, also one that no start leads to
+pub record FirstSteps (t tags : List ℕ) (s : State512) : Type 0 where
+  -- 0 exactly if nothing is possible
+  pub some : (firstOf t tags s ≡ 0 → ⊥) → First t tags s (firstOf t tags s)
+  pub none : firstOf t tags s ≡ 0 → (n : ℕ) → Possible t tags s n → ⊥
+  -- the node that a query names
+  pub named : (n : ℕ) → queryOf t tags s ≡ names n → First t tags s n
+  -- what was true of query and run, whichever possible step they named or took, is true of them
+  pub finds : Finds t tags s (queryOf t tags s)
+  pub drives : (budget : ℕ) → Drives t tags s budget (driveOf t tags s budget)
+  pub traced : (budget : ℕ) → Traced t tags s (driveOf t tags s budget)
+  -- a run leaves the state that as many first steps make as it tells; those of two runs add up
+  pub state : (budget : ℕ) → driveOf t tags s budget .state ≡ afterFirst t tags s (driveOf t tags s budget .steps)
+  pub more : (k j : ℕ) → afterFirst t tags s (k + j) ≡ afterFirst t tags (afterFirst t tags s k) j

@@ -1,5 +1,5 @@
--- the query and the two runs (document 01, "The circuit"): a run over a list is fixed; of a query and of a run with a budget
--- it is said what is true of their results
+-- the query and the two runs (document 01, "The circuit"): a run over a list is fixed here; of a query and of a run with
+-- a budget it is said what is true whichever possible steps they name and take: which ones they are is in `First`
 use Prim.Native.Nat.{ℕ, suc, _≤_, _<_}
 use mathlib.Core.Bool.{not}
 use mathlib.Core.Path.{_≡_}
@@ -87,7 +87,7 @@ Says t tags budget k s atRest = (MainDone t s → ⊥) × ((n : ℕ) → Possibl
 Says t tags budget k s spent = (MainDone t s → ⊥) × ((n : ℕ) × Possible t tags s n) × (k ≡ budget)
 Says t tags budget k s (barred number place) = ⊥
 
--- a run with a budget: the steps picked are possible, at most so many, and as many as it tells; which ones is left open
+-- a run with a budget: the steps picked are possible, at most so many, and as many as it tells, whichever they are
 pub record Picks (t tags : List ℕ) (s : State512) (budget : ℕ) (r : Driven) : Type 0 where
   pub picked : List ℕ
   pub possible : playOf t tags s picked .nodes ≡ picked

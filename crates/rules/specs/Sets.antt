@@ -1,5 +1,5 @@
--- four sets of nodes from which the first possible step is read off, and what each move makes of them: for the code, which keeps them
--- from step to step
+-- four sets of nodes from which the first possible step is read off in a state that passes 24, main's root not done, and what each move
+-- makes of them: for the code, which keeps them from step to step; no promise of an entry speaks of them
 use Prim.Native.Nat.{ℕ}
 use mathlib.Core.Bool.{Bool, true, false, _&&_, _||_, not}
 use mathlib.Core.Path.{_≡_}
@@ -57,7 +57,7 @@ pub record Sets : Type 0 where
   pub armed : ℕ → Bool
   -- a call in first phase, its arguments done
   pub waiting : ℕ → Bool
-  -- a call in second phase
+  -- a busy call in second phase
   pub inside : ℕ → Bool
   -- a call whose callee is occupied
   pub held : ℕ → Bool

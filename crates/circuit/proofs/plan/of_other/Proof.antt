@@ -3,7 +3,6 @@ use native.Mathlib.Omega.{arith}
 use mathlib.Core.Path.{_≡_, refl, subst, sym, ap, _∙_}
 use Rattle.table.specs.Bytes.{root}
 use Rattle.table.proofs.Reading.{told-root}
-use Prim.Native.Nat.{_≤_}
 use Rattle.table.specs.Working.{IsFunction}
 use Rattle.rules.specs.State.{entry}
 use Rattle.circuit.proofs.ActBy.{callee-in}

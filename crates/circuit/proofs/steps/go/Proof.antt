@@ -12,7 +12,6 @@ use Rattle.circuit.specs.Working.{Planned}
 use Rattle.circuit.proofs.PerformLaws.{sound}
 use Rattle.circuit.proofs.StepsLaws.{Going, goes-on}
 use Rattle.circuit.proofs.LoopLaws.{Loop, From, loop-start, loop-node, loop-tracked, loop-single, loop-followed, loop-made}
-use borrow.Author.Needs.{needs}
 use Rattle.circuit.proofs.steps.go.Statement.{statement}
 use Rattle.circuit.proofs.steps.go.Tie as tie
 

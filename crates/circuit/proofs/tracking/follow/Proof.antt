@@ -1,6 +1,5 @@
 -- `tracking::follow` meets its contract, by whether a node is read anew.
-use native.Mathlib.Omega.{arith}
-use mathlib.Core.Path.{_≡_, refl}
+use mathlib.Core.Path.{refl}
 use Rattle.table.specs.Working.{IsNode}
 use Rattle.circuit.proofs.FollowLaws.{follows-none, follows-anew, again-in}
 use borrow.Author.Needs.{needs}
