@@ -110,7 +110,8 @@ again-in t fair n i p k e z = go p (e [])
 module _ (t : List ℕ) (fair : Taken t) (n : ℕ) (i : IsNode t n) (p : Plan) (s : State512) (sized : Sized s) (q : Planned t s n p)
     (s′ : State512) (e : s′ ≡ performed t s n p) (x y : Sets) (tr : Tracks t s x) (again : ℕ) (u : Updates t n p again x y) where
   placed : (m : ℕ) → Range (nodes t) m → (m ≡ again → Stays (setsOf t s′) y m) → Stays (setsOf t s′) y m
-  placed m r k = subst (λ v. Stays (setsOf t v) y m) (sym e) (placed-next t (functions t) (nodes t) fair s sized x (tr .exact) n i _ (sym q) y
+  placed m r k = subst (λ v. Stays (setsOf t v) y m) (sym e)
+      (placed-next t (functions t) (nodes t) fair s sized x (tr .exact) n i _ (sym q) y
       (u .updated (s .value)) m r (λ j. subst (λ v. Stays (setsOf t v) y m) e (k (j ∙ sym (u .again (s .value))))))
 
   held : (m : ℕ) → Range (nodes t) m → y .held m ≡ setsOf t s′ .held m

@@ -88,7 +88,8 @@ module _ (t : List ℕ) (fair : Taken t) (n : ℕ) (i : IsNode t n) (a : List �
           of = unfold callBy in rw z (door (allDone (entry a 0) (children t n)) (eqb (entry e 0 (word t n)) 0) _)
 
     pub cond-pass-done : kind t n ≡ 5 → entry b false n ≡ true → entry a 0 (branchBy t c n) ≡ 3
-    cond-pass-done k z = eqb-true (entry a 0 (branchBy t c n)) 3 (of (goes-as (condBy t a b c n) (acts-cond t fair n i a b c d e _ busy k refl)))
+    cond-pass-done k z =
+        eqb-true (entry a 0 (branchBy t c n)) 3 (of (goes-as (condBy t a b c n) (acts-cond t fair n i a b c d e _ busy k refl)))
       where
         of : goes (condBy t a b c n) ≡ true → eqb (entry a 0 (branchBy t c n)) 3 ≡ true
         of = unfold condBy in rw z (went (eqb (entry a 0 (branchBy t c n)) 3) _)

@@ -54,7 +54,8 @@ module _ (t : List ℕ) (fair : Taken t) (n : ℕ) (i : IsNode t n) (x y : Sets)
     ending = record {
       own = p .here;
       armed = λ m r e f. p .others m (node-bit t fair m r) e .0
-          ∙ sym (ap (λ b. x .armed m || (b && (x .inside m && calls (exprAt t m) (owner t n)))) (ne-eqb (parent t n) 0 d) ∙ or-no (x .armed m));
+          ∙ sym (ap (λ b. x .armed m || (b && (x .inside m && calls (exprAt t m) (owner t n)))) (ne-eqb (parent t n) 0 d)
+          ∙ or-no (x .armed m));
       others = λ m r e f. let s = p .others m (node-bit t fair m r) e in (s .1, s .2);
     };
     past = λ q m h k. let s = past-others m h k in let z = q m h k in (s .0 ∙ z .0, s .1 ∙ z .1);

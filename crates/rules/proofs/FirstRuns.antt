@@ -17,7 +17,8 @@ use Rattle.rules.specs.Play.{IsTaken, noted}
 use Rattle.rules.specs.Circuit.{stepOf, playOf}
 use Rattle.rules.specs.Runs.{standing, MainDone, mainValue, Ended, gave, atRest, spent, barred, Driven, Says, Picks, DrivesAfter}
 use Rattle.rules.specs.Runs.{Drives}
-use Rattle.rules.specs.First.{firstOf, First, onward, afterFirst, firstsOf, stays, oneMore, unlessOver, driveFrom, driveAfter, driveOf, Traced, FirstSteps}
+use Rattle.rules.specs.First.{firstOf, First, onward, afterFirst, firstsOf, stays, oneMore, unlessOver, driveFrom, driveAfter}
+use Rattle.rules.specs.First.{driveOf, Traced, FirstSteps}
 use Rattle.rules.proofs.FirstFacts.{first-some, first-none, query-named, query-finds}
 
 noted-taken : (r : Reply) (n : ℕ) (ns : List ℕ) → IsTaken r → noted r n ns ≡ n ∷ ns
@@ -117,7 +118,8 @@ module _ (t tags : List ℕ) where
   unfolding playOf firstsOf
   no-trace s e = record { taken = refl; number = refl; state = refl }
 
-  a-trace : (s : State512) (r : Driven) → First t tags s (firstOf t tags s) → Traced t tags (onward t tags s) r → Traced t tags s (oneMore r)
+  a-trace : (s : State512) (r : Driven) → First t tags s (firstOf t tags s)
+      → Traced t tags (onward t tags s) r → Traced t tags s (oneMore r)
   unfolding playOf onward firstsOf
   a-trace s r f p = record {
     taken = noted-taken (stepOf t tags s (firstOf t tags s) .answer) (firstOf t tags s) _ (f .possible)

@@ -96,7 +96,8 @@ returns-2 c =
     let at = asked-main undone in
     let top = tops undone in
     let s = start h in
-    query-found _ _ (s .pre .1) (state s) (s .pre .2) _ _ (top .top .ensures .0) (at .status-at .ensures) (undone .if1 .left) _ (omega arith)
+    query-found _ _ (s .pre .1) (state s) (s .pre .2) _ _ (top .top .ensures .0) (at .status-at .ensures) (undone .if1 .left) _
+    (omega arith)
     (one-more _ (state s) _ _ (h .loop .inv .0) _ (asked .why-not .ensures _) (c .if2 .taken)
     (omega (arith, on .loop-test .taken, h .loop .inv .2)))
 

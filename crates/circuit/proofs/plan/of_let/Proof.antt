@@ -48,7 +48,8 @@ returns c =
     let last : tie.After-last-of = search in
     let f = firsts last in
     let p = start f .pre in
-    λ a d e busy h. acts-bind _ (p .0 .taken) _ (p .1) a _ _ d e _ busy (p .2) (bind-pass _ a _ _ _ _ (read f) _ (last .last-of .ensures .0) _
+    λ a d e busy h. acts-bind _ (p .0 .taken) _ (p .1) a _ _ d e _ busy (p .2)
+    (bind-pass _ a _ _ _ _ (read f) _ (last .last-of .ensures .0) _
     (second .second-at .ensures) _ (then .if1 .taken) (pass-yes a _ _ _ refl _ (c .value-at .ensures)
     (ap (entry a 0) (body-is _ a _ (start f .args .value .now) _ _ (read f) _ (last .last-of .ensures .0) _ (second .second-at .ensures))
     ∙ bind-pass-done _ (p .0 .taken) _ (p .1) a _ _ d e h busy (p .2) (sym (second .second-at .ensures) ∙ then .if1 .taken))))
@@ -59,7 +60,8 @@ returns-2 c =
     let last : tie.After-last-of = search in
     let f = firsts last in
     let p = start f .pre in
-    λ a d e busy h. acts-bind _ (p .0 .taken) _ (p .1) a _ _ d e _ busy (p .2) (bind-turn _ a _ _ _ _ (read f) _ (last .last-of .ensures .0) _
+    λ a d e busy h. acts-bind _ (p .0 .taken) _ (p .1) a _ _ d e _ busy (p .2)
+    (bind-turn _ a _ _ _ _ (read f) _ (last .last-of .ensures .0) _
     (second .second-at .ensures) (c .if1 .left) _ refl (defs-done _ a _ _ (read f)
     (bind-turn-done _ (p .0 .taken) _ (p .1) a _ _ d e h busy (p .2) (sym (second .second-at .ensures) ∙ c .if1 .left))))
 

@@ -32,14 +32,16 @@ returns c =
     let a : tie.After-all-done = search in
     let f : tie.After-first = search in
     let p = start f .pre in
-    λ b c′ d e. sort-prim _ (p .0 .taken) _ (p .1) _ b c′ d e (p .2) _ (p .3) (ap sort (prim-yes _ _ _ _ (read f) _ (a .all-done .ensures) c′ _ _ _ _ (c .if1 .taken) refl refl refl refl))
+    λ b c′ d e. sort-prim _ (p .0 .taken) _ (p .1) _ b c′ d e (p .2) _ (p .3)
+    (ap sort (prim-yes _ _ _ _ (read f) _ (a .all-done .ensures) c′ _ _ _ _ (c .if1 .taken) refl refl refl refl))
 
 returns-2 : tie.Need-returns-2
 returns-2 c =
     let a : tie.After-all-done = search in
     let f : tie.After-first = search in
     let p = start f .pre in
-    λ b c′ d e. sort-prim _ (p .0 .taken) _ (p .1) _ b c′ d e (p .2) _ (p .3) (ap sort (prim-no _ _ _ _ (read f) _ (a .all-done .ensures) c′ (c .if1 .left)))
+    λ b c′ d e. sort-prim _ (p .0 .taken) _ (p .1) _ b c′ d e (p .2) _ (p .3)
+    (ap sort (prim-no _ _ _ _ (read f) _ (a .all-done .ensures) c′ (c .if1 .left)))
 
 pub of-primitive-spec : {M : Type 1} → statement M
 of-primitive-spec = tie.close (tie.spec first-requires all-done-requires returns returns-2)

@@ -23,8 +23,8 @@ Inv-loop table cells tags grouped heads links tracked rows armed₀ waiting₀ i
     × (budget ≤ 4294967295)
 
 abbrev μ-loop : tie.MeasureT-loop
-μ-loop table cells tags grouped heads links tracked rows armed₀ waiting₀ inside₀ held₀ status₀ second₀ value₀ registers₀ occupant₀ top budget
-    at₀ taken₀ armed waiting inside held status second value registers occupant at taken = budget - taken
+μ-loop table cells tags grouped heads links tracked rows armed₀ waiting₀ inside₀ held₀ status₀ second₀ value₀ registers₀ occupant₀ top
+    budget at₀ taken₀ armed waiting inside held status second value registers occupant at taken = budget - taken
 
 abbrev Start : Type 0
 Start = tie.Start Inv-loop μ-loop
@@ -54,7 +54,8 @@ from : (s : Start) → let a = s .args in
 from s = record { follows = s .pre .4; single = s .pre .5 }
 
 -- in a turn there is a node, there is budget left, and main's root isn't done
-on : (c : Turn) → let h = head c in Going (h .loop .at) (h .loop .taken) (start h .args .budget) (entry (h .loop .status) 0 (start h .args .top .0))
+on : (c : Turn) → let h = head c in
+    Going (h .loop .at) (h .loop .taken) (start h .args .budget) (entry (h .loop .status) 0 (start h .args .top .0))
 on c =
     let asked : tie.After-going Inv-loop μ-loop = search in
     goes-on _ _ _ _ _ (asked .going .ensures) (c .if1 .taken)
@@ -141,8 +142,8 @@ loop-again c =
     let e = yes .if2 .taken in
     let f = c .follow .ensures in
     let r = h .loop .inv .0 .run e .2 in (
-      loop-tracked _ _ _ _ _ _ _ _ _ _ _ _ (from (start h)) _ _ (state h) _ _ _ _ (h .loop .inv .0) (on (turn p)) (p .plan-at .result) (planned p) _
-          (d .perform .ensures) e _ _ _ _ (f .0) (f .1) _ (f .2)
+      loop-tracked _ _ _ _ _ _ _ _ _ _ _ _ (from (start h)) _ _ (state h) _ _ _ _ (h .loop .inv .0) (on (turn p))
+          (p .plan-at .result) (planned p) _ (d .perform .ensures) e _ _ _ _ (f .0) (f .1) _ (f .2)
           (f .3 (state h) _ _ (r .turning .sized) (planned p) (d .perform .ensures)
           (record { exact = r .turning .exact; past = r .past })),
       h .loop .inv .1,
@@ -159,8 +160,8 @@ loop-again-2 c =
     let d : Done = search in
     let p = plan-of d in
     let h = head (turn p) in (
-      loop-single _ _ _ _ _ _ _ _ _ _ _ _ (from (start h)) _ _ (state h) _ _ _ _ (h .loop .inv .0) (on (turn p)) (p .plan-at .result) (planned p) _
-          (d .perform .ensures) (c .if2 .left),
+      loop-single _ _ _ _ _ _ _ _ _ _ _ _ (from (start h)) _ _ (state h) _ _ _ _ (h .loop .inv .0) (on (turn p))
+          (p .plan-at .result) (planned p) _ (d .perform .ensures) (c .if2 .left),
       h .loop .inv .1,
     )
 

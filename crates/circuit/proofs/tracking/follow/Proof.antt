@@ -54,7 +54,8 @@ returns-2 c =
       r .0,
       z .1,
       c .first2 .ensures _,
-      λ s₀ d e sized q eq tr. follows-anew _ (s .pre .0 .taken) _ (s .pre .1) _ s₀ sized q _ eq _ _ tr _ (z .2) (anew some) _ refl (r .1 d e _),
+      λ s₀ d e sized q eq tr. follows-anew
+          _ (s .pre .0 .taken) _ (s .pre .1) _ s₀ sized q _ eq _ _ tr _ (z .2) (anew some) _ refl (r .1 d e _),
     )
 
 pub follow-spec : {M : Type 1} → statement M

@@ -124,8 +124,8 @@ returns c =
       c .gain .ensures .size,
       entered-anew _ (s .pre .0 .taken) _ (s .pre .3) _ (s .pre .2) _ (roots r) _ _ _ (rowed l .row .ensures) (sited l .row2 .ensures) _ _ _
           (called l .common .ensures) _ _ _ _ _ (first-loss l .lose .ensures) (second-loss l .lose2 .ensures) (a .mark .ensures)
-          (third-loss l .lose3 .ensures) (l .lose4 .ensures) _ (s .pre .1) _ _ _ _ (w .mark2 .ensures) (i .mark3 .ensures) (c .gain .ensures) _
-          (anew .if1 .taken),
+          (third-loss l .lose3 .ensures) (l .lose4 .ensures) _ (s .pre .1) _ _ _ _ (w .mark2 .ensures) (i .mark3 .ensures)
+          (c .gain .ensures) _ (anew .if1 .taken),
     )
 
 returns-2 : tie.Need-returns-2

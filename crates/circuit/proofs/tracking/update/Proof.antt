@@ -133,8 +133,12 @@ returns-3 c =
     let done : tie.After-end-at = search in
     let finishes : tie.After-enum-told2 = search in
     let s = start c in
-    let z = done .end-at .ensures in
-    (z .0, s .pre .5, back s _ (finishes .enum-told2 .given .1) _ _ _ (finishes-so _ (s .pre .0 .taken) _ _ _ _ _ _ _ _ (parents c) _ _ (z .1 _)))
+    let z = done .end-at .ensures in (
+      z .0,
+      s .pre .5,
+      back s _ (finishes .enum-told2 .given .1) _ _ _
+          (finishes-so _ (s .pre .0 .taken) _ _ _ _ _ _ _ _ (parents c) _ _ (z .1 _)),
+    )
 
 returns-4 : tie.Need-returns-4
 returns-4 c =

@@ -43,8 +43,10 @@ returns-3 c =
     let stands : tie.Else1 = search in
     let k : tie.After-sort-at = search in
     let s : tie.Start = search in
-    λ d. why-held _ (state s d) _ _ (λ e. stands .if1 .left (k .sort-at .ensures d _ ∙ e)) (λ e. waits .if2 .left (k .sort-at .ensures d _ ∙ e))
-    _ (occupied .barred .ensures (s .args .status .now) (s .args .second .now) (s .args .value .now) d) (held .if3 .taken) _ (c .why-blocked .ensures)
+    λ d. why-held _ (state s d) _ _ (λ e. stands .if1 .left (k .sort-at .ensures d _ ∙ e))
+    (λ e. waits .if2 .left (k .sort-at .ensures d _ ∙ e)) _
+    (occupied .barred .ensures (s .args .status .now) (s .args .second .now) (s .args .value .now) d) (held .if3 .taken) _
+    (c .why-blocked .ensures)
 
 returns-4 : tie.Need-returns-4
 returns-4 c =
@@ -54,7 +56,8 @@ returns-4 c =
     let k : tie.After-sort-at = search in
     let s : tie.Start = search in
     λ d. why-enters _ (state s d) _ _ (λ e. stands .if1 .left (k .sort-at .ensures d _ ∙ e))
-    (λ e. waits .if2 .left (k .sort-at .ensures d _ ∙ e)) _ (occupied .barred .ensures (s .args .status .now) (s .args .second .now) (s .args .value .now) d) (c .if3 .left)
+    (λ e. waits .if2 .left (k .sort-at .ensures d _ ∙ e)) _
+    (occupied .barred .ensures (s .args .status .now) (s .args .second .now) (s .args .value .now) d) (c .if3 .left)
 
 pub why-not-spec : {M : Type 1} → statement M
 why-not-spec =
