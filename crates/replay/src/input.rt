@@ -6,6 +6,13 @@ ghost use Prim.Native.Nat.{_≤_};
 ghost use lib.ListN.{length};
 ghost use Rattle.io.specs.Counts.{Counts};
 
+// A log of asked nodes, a run, or a run that tells its nodes.
+pub enum Form {
+    Log,
+    Run,
+    Trace,
+}
+
 // Main's arguments; a count of 10 says that one of them is no number, and 9 stands for any count above 8.
 pub struct Numbers {
     pub values: [u32; 9],
@@ -17,33 +24,31 @@ pub(crate) fn asked(low: u8, high: u8) -> Node {
     Node((low as u16) + 256 * (high as u16))
 }
 
-// Whether the first argument is --run.
-pub(crate) fn runs() -> bool {
-    let mut word = [0u8; 5];
-    let n = os::arg(1, &mut word);
+// What the first argument asks for: --run, --trace, or, where it is neither, a log.
+pub(crate) fn chosen() -> Form {
+    let mut word = [0u8; 7];
+    os::arg(1, &mut word);
     if os::errno() != 0 {
-        return false;
+        return Form::Log;
     }
-    is_run(n, word)
+    if same(&word, b"--run\0\0") {
+        return Form::Run;
+    }
+    if same(&word, b"--trace") {
+        return Form::Trace;
+    }
+    Form::Log
 }
 
-fn is_run(n: usize, word: [u8; 5]) -> bool {
-    if n != 5 {
-        return false;
+fn same(word: &[u8; 7], other: &[u8; 7]) -> bool {
+    let mut i: usize = 0;
+    while i < 7 {
+        if word[i] != other[i] {
+            return false;
+        }
+        i += 1;
     }
-    if word[0] != b'-' {
-        return false;
-    }
-    if word[1] != b'-' {
-        return false;
-    }
-    if word[2] != b'r' {
-        return false;
-    }
-    if word[3] != b'u' {
-        return false;
-    }
-    word[4] == b'n'
+    true
 }
 
 // Whether argument i is there and is no option. Its first two bytes are looked at, which stand in the word also where it is longer.

@@ -1,30 +1,32 @@
 // Plays a log of asked nodes on the circuit of a table file, under the table's own arbiter list, and prints each answer and the state.
-// With --run first it reads no log and takes possible steps instead.
+// With --run or --trace first it reads no log and takes the first possible step again and again; with --trace it prints their nodes.
 mod input;
 mod output;
 
+use circuit::types::Found;
 use circuit::types::Opening;
 use circuit::types::Started;
 use circuit::types::State;
+use input::Form;
 use table::Function;
 use table::Node;
 use table::read;
 ghost use Prim.Native.Nat.{_≤_};
 
 fn main() {
-    if input::runs() {
-        prepare(2, true);
-    } else {
-        prepare(1, false);
+    let form = input::chosen();
+    match form {
+        Form::Log => prepare(1, form),
+        _ => prepare(2, form),
     }
 }
 
 // The table is named by argument `first`, main's arguments follow it.
-fn prepare(first: usize, running: bool)
+fn prepare(first: usize, form: Form)
     requires { ⌜ first ≤ 2 ⌝ }
 {
     if !input::names_file(first) {
-        output::fail(b"usage: replay [--run] FILE.table ARGUMENTS..\n");
+        output::fail(b"usage: replay [--run | --trace] FILE.table ARGUMENTS..\n");
         return;
     }
     let mut file = [0u8; 5253];
@@ -41,28 +43,28 @@ fn prepare(first: usize, running: bool)
         output::fail(b"replay: an argument is no number from 0 to 4294967295\n");
         return;
     }
-    equip(&file[..size], values, count, running);
+    equip(&file[..size], values, count, form);
 }
 
 // A tag list as long as the table's, to be lent.
-fn equip(table: &[u8], values: [u32; 9], count: usize, running: bool)
+fn equip(table: &[u8], values: [u32; 9], count: usize, form: Form)
     requires { ⌜ count ≤ 9 ⌝ }
 {
     let mut tags = [0u8; 64];
     let len = tag_length(table);
-    begin(table, &mut tags[..len], values, count, running);
+    begin(table, &mut tags[..len], values, count, form);
 }
 
 // The circuit's start under the table's own list.
-fn begin(table: &[u8], tags: &mut [u8], values: [u32; 9], count: usize, running: bool)
+fn begin(table: &[u8], tags: &mut [u8], values: [u32; 9], count: usize, form: Form)
     requires { ⌜ count ≤ 9 ⌝ }
 {
     list::fill_tags(table, tags);
     let s = circuit::start(table, tags, &values[..count], blank());
-    if running {
-        drive(table, tags, s);
-    } else {
-        log(table, tags, s);
+    match form {
+        Form::Log => log(table, tags, s),
+        Form::Run => run(table, tags, s),
+        Form::Trace => trace(table, tags, s),
     }
 }
 
@@ -193,8 +195,8 @@ fn show_function(s: State, f: Function) {
     output::function(f, occupant, &registers);
 }
 
-// Possible steps, as many as there may be.
-fn drive(table: &[u8], tags: &[u8], s: Started) {
+// First steps, as many as there may be.
+fn run(table: &[u8], tags: &[u8], s: Started) {
     let opening = s.opening;
     let state = s.state;
     match opening {
@@ -205,5 +207,49 @@ fn drive(table: &[u8], tags: &[u8], s: Started) {
             output::ended(ended);
             output::count(r.steps as u64);
         }
+    }
+}
+
+// The same steps one by one, each at the node that the query names.
+fn trace(table: &[u8], tags: &[u8], s: Started) {
+    let opening = s.opening;
+    let state = s.state;
+    match opening {
+        Opening::Refused(number, place) => output::refused(number, place),
+        Opening::Opened => follow(table, tags, state),
+    }
+}
+
+// Up to where no step is possible, or until the highest budget is spent.
+fn follow(table: &[u8], tags: &[u8], start: State) {
+    let mut state = start;
+    let mut taken: u64 = 0;
+    while taken < 4294967295 {
+        let n = first(table, tags, state);
+        if n.0 == 0 {
+            return close(table, tags, state, taken);
+        }
+        output::step(n);
+        let r = circuit::step(table, tags, state, n);
+        state = r.state;
+        taken += 1;
+    }
+    close(table, tags, state, taken);
+}
+
+// A run with nothing to spend tells how the circuit stands.
+fn close(table: &[u8], tags: &[u8], s: State, taken: u64) {
+    let r = circuit::drive(table, tags, s, 0);
+    let ended = r.ended;
+    output::ended(ended);
+    output::count(taken);
+}
+
+// The node that the query names, 0 where there is none.
+fn first(table: &[u8], tags: &[u8], s: State) -> Node {
+    let found = circuit::query(table, tags, s);
+    match found {
+        Found::Possible(n) => n,
+        _ => Node(0),
     }
 }

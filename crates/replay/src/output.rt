@@ -67,6 +67,12 @@ pub(crate) fn ended(e: Ended) {
     }
 }
 
+// The node of a step that is taken.
+pub(crate) fn step(n: Node) {
+    number(n.0 as u64);
+    text(b"\n");
+}
+
 pub(crate) fn count(n: u64) {
     text(b"steps ");
     number(n);

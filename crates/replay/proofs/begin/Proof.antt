@@ -25,11 +25,23 @@ blank-requires c κs = search needs
 start-requires : tie.Need-start-requires
 start-requires c κs = search needs
 
-drive-requires : tie.Need-drive-requires
-drive-requires c κs = search needs
+enum-told : tie.Need-enum-told
+enum-told c = search needs
 
 log-requires : tie.Need-log-requires
 log-requires c κs = search needs
+
+enum-told-2 : tie.Need-enum-told-2
+enum-told-2 c = search needs
+
+run-requires : tie.Need-run-requires
+run-requires c κs = search needs
+
+enum-told-3 : tie.Need-enum-told-3
+enum-told-3 c = search needs
+
+trace-requires : tie.Need-trace-requires
+trace-requires c κs = search needs
 
 same-length : tie.Need-same-length
 same-length c = search needs
@@ -43,6 +55,12 @@ same-length-2 c = search needs
 returns-2 : tie.Need-returns-2
 returns-2 c = search needs
 
+same-length-3 : tie.Need-same-length-3
+same-length-3 c = search needs
+
+returns-3 : tie.Need-returns-3
+returns-3 c = search needs
+
 pub begin-spec : {M : Type 1} → statement M
 begin-spec =
     tie.close
@@ -52,9 +70,15 @@ begin-spec =
     slice-aggregate-start
     blank-requires
     start-requires
-    drive-requires
+    enum-told
     log-requires
+    enum-told-2
+    run-requires
+    enum-told-3
+    trace-requires
     same-length
     returns
     same-length-2
-    returns-2)
+    returns-2
+    same-length-3
+    returns-3)
