@@ -1,27 +1,31 @@
 -- each plan makes of the sets what its move makes of them; and the sets, updated and read anew at one node, are those of the next state
-use Prim.Native.Nat.{ℕ, _+_, _*_}
-use mathlib.Core.Bool.{Bool, true, false, _&&_, not}
+use Prim.Native.Nat.{ℕ}
+use mathlib.Core.Bool.{Bool, true, false, true≢false}
 use mathlib.Core.Path.{_≡_, refl, subst, sym, ap, _∙_}
-use mathlib.Core.List.{List, []}
+use mathlib.Core.List.{List}
 use native.Mathlib.Omega.{arith}
 use native.Mathlib.Decide.{ℕ-discrete}
 use Rattle.table.specs.Pick.{Range}
 use Rattle.table.specs.Bytes.{functions, nodes}
 use Rattle.table.specs.Naming.{parent}
-use Rattle.table.specs.Working.{Taken, IsNode, IsFunction}
+use Rattle.table.specs.Expressions.{exprAt}
+use Rattle.table.specs.Working.{Taken, IsNode}
 use Rattle.table.proofs.Family.{parent-node}
 use Rattle.table.specs.declared.Function.{Function}
 use Rattle.table.specs.declared.Node.{Node}
 use Rattle.list.specs.Working.{packed}
 use Rattle.rules.specs.State.{State512, Sized, In}
-use Rattle.rules.specs.Sets.{Sets, setsOf, Stays, rereads}
+use Rattle.rules.specs.Circuit.{actOf}
+use Rattle.rules.specs.Sets.{Sets, setsOf, Stays, holds, sort}
 use Rattle.rules.proofs.SetsExact.{placed-next, held-next}
 use Rattle.circuit.specs.declared.plan.Plan.{Plan}
 use Rattle.circuit.specs.declared.plan.Plan.the-variants as Plan
-use Rattle.circuit.specs.Working.{opens, planned, Planned, performed}
-use Rattle.circuit.specs.Packed.{Packs, setsAs, Rowed, Tracks, Places, Arms, Ends, Renews, Updates}
+use Rattle.circuit.specs.Working.{opens, gathersAt, planned, Planned, performed}
+use Rattle.circuit.specs.Packed.{setsAs, Tracks, Places, Arms, Ends, Renews, Updates}
+use Rattle.circuit.specs.Following.{ends, Grows}
 use Rattle.circuit.proofs.ChainLaws.{ok}
-use Rattle.circuit.proofs.UpdateLaws.{node-bit, site-is}
+use Rattle.circuit.proofs.UpdateLaws.{node-bit, ended-inner}
+use Rattle.circuit.proofs.GrowLaws.{grown}
 
 module _ (t : List ℕ) (fair : Taken t) (n : ℕ) (a w i a′ w′ i′ : List ℕ) where
   pub begins-so : (h : List ℕ) → ((m : ℕ) → In m (opens t n) → IsNode t m)
@@ -54,28 +58,29 @@ module _ (t : List ℕ) (fair : Taken t) (n : ℕ) (a w i a′ w′ i′ : List 
         let z = q m d l in (s .0 ∙ z .0, s .1 ∙ z .1);
   }
 
-  module _ (up : ℕ) (eu : up ≡ parent t n) where
-    pub finishes-so : (v : ℕ) (h : List ℕ) → Ends t n (setsAs a w i h) (setsAs a′ w′ i′ h)
-        → Updates t n (Plan.Finishes v) up (setsAs a w i h) (setsAs a′ w′ i′ h)
-    finishes-so v h y = record {
-      again = λ u. eu;
-      updated = λ u. record { placed = y .ending; held = λ m r. refl };
-      past = y .past;
-    }
-
-    pub leaves-so : (rows : List ℕ) → Rowed t rows → (g : Function) → IsFunction t (g .0) → (v : ℕ) (h h′ sites : List ℕ)
-        → Packs (λ m. packed rows (512 * (32 + g .0) + m)) sites → Packs (λ m. packed h m && not (packed sites m)) h′
-        → Ends t n (setsAs a w i h) (setsAs a′ w′ i′ h) → Updates t n (Plan.Leaves g v) up (setsAs a w i h) (setsAs a′ w′ i′ h′)
-    leaves-so rows rd g f v h h′ sites ps ph y = record {
-      again = λ u. eu;
-      updated = λ u. record {
-        placed = record { own = y .ending .own; armed = y .ending .armed; others = y .ending .others };
-        held = λ m r. let b = node-bit t fair m r in
-            ph .bits m b ∙ ap (λ z. packed h m && not z)
-            (ps .bits m b ∙ rd .sites (g .0) m (f .0) (omega (arith, f .1, ok t fair .F-high)) b ∙ site-is t fair m r (g .0));
-      };
-      past = y .past;
-    }
+  -- a plan by which n is done
+  pub ended-so : (up : ℕ) → up ≡ parent t n → (h h′ : List ℕ) (p : Plan) → ends p ≡ true → Ends t n (setsAs a w i h) (setsAs a′ w′ i′ h)
+      → ((v : List ℕ) (m : ℕ) → Range (nodes t) m → packed h′ m ≡ holds (exprAt t) (setsAs a w i h) (planned t v n p) m)
+      → Updates t n p up (setsAs a w i h) (setsAs a′ w′ i′ h′)
+  ended-so up eu h h′ Plan.Begins e y f = absurd (true≢false (sym e))
+  ended-so up eu h h′ (Plan.Turns k) e y f = absurd (true≢false (sym e))
+  ended-so up eu h h′ (Plan.Enters g anew) e y f = absurd (true≢false (sym e))
+  ended-so up eu h h′ (Plan.Finishes v) e y f = record {
+    again = λ u. eu;
+    updated = λ u. record {
+      placed = record { own = y .ending .own; armed = y .ending .armed; others = y .ending .others };
+      held = f u;
+    };
+    past = y .past;
+  }
+  ended-so up eu h h′ (Plan.Leaves g v) e y f = record {
+    again = λ u. eu;
+    updated = λ u. record {
+      placed = record { own = y .ending .own; armed = y .ending .armed; others = y .ending .others };
+      held = f u;
+    };
+    past = y .past;
+  }
 
   pub enters-so : (g : Function) (anew : Bool) (h h′ : List ℕ) → Renews t n (g .0) anew (setsAs a w i h) (setsAs a′ w′ i′ h′)
       → Updates t n (Plan.Enters g anew) 0 (setsAs a w i h) (setsAs a′ w′ i′ h′)
@@ -89,22 +94,6 @@ module _ (t : List ℕ) (fair : Taken t) (n : ℕ) (a w i a′ w′ i′ : List 
     updated = λ v. record { placed = y .renewing; held = y .held };
     past = y .past;
   }
-
--- the node to be read anew is one, where there is one
-pub again-in : (t : List ℕ) → Taken t → (n : ℕ) → IsNode t n → (p : Plan) (k : ℕ)
-    → ((value : List ℕ) → k ≡ rereads (parent t) n (planned t value n p)) → (k ≡ 0 → ⊥) → IsNode t k
-again-in t fair n i p k e z = go p (e [])
-  where
-    at-parent : k ≡ parent t n → IsNode t k
-    at-parent q = subst (IsNode t) (sym q) (parent-node t (ok t fair .linking) n i (λ y. z (q ∙ y)))
-
-    go : (p : Plan) → k ≡ rereads (parent t) n (planned t [] n p) → IsNode t k
-    go Plan.Begins q = subst (IsNode t) (sym q) i
-    go (Plan.Turns m) q = subst (IsNode t) (sym q) i
-    go (Plan.Finishes v) q = at-parent q
-    go (Plan.Enters g true) q = absurd (z q)
-    go (Plan.Enters g false) q = absurd (z q)
-    go (Plan.Leaves g v) q = at-parent q
 
 -- after the move the updated sets are those of the state, but for one node
 module _ (t : List ℕ) (fair : Taken t) (n : ℕ) (i : IsNode t n) (p : Plan) (s : State512) (sized : Sized s) (q : Planned t s n p)
@@ -139,3 +128,26 @@ module _ (t : List ℕ) (fair : Taken t) (n : ℕ) (i : IsNode t n) (p : Plan) (
           let a = placed m r (λ c. absurd (k c)) in
           let b = pl .others m (node-bit t fair m r) k in
           (b .0 ∙ a .0, b .1 ∙ a .1, b .2 ∙ a .2)
+
+-- node n is done, and its parent is grown: of the packed sets
+module _ (t : List ℕ) (fair : Taken t) (n : ℕ) (i : IsNode t n) (up : parent t n ≡ 0 → ⊥) (p : Plan) (e : ends p ≡ true) (s : State512)
+    (sized : Sized s) (q : Planned t s n p) (s′ : State512) (eq : s′ ≡ performed t s n p) (a w v h a₁ w₁ v₁ a₂ w₂ h′ : List ℕ) where
+  grown-parent : Tracks t s (setsAs a w v h) → Places n false false false (setsAs a w v h) (setsAs a₁ w₁ v₁ h)
+      → ((l : List ℕ) (m : ℕ) → Range (nodes t) m → packed h′ m ≡ holds (exprAt t) (setsAs a w v h) (planned t l n p) m)
+      → (k : ℕ) → k ≡ sort (actOf t s′ (parent t n))
+      → Grows (parent t n) k (gathersAt t (s′ .status) (s′ .second) (parent t n)) (setsAs a₁ w₁ v₁ h′) (setsAs a₂ w₂ v₁ h′)
+      → Tracks t s′ (setsAs a₂ w₂ v₁ h′)
+  grown-parent tr pl f k ek gr =
+      let pl′ : Places n false false false (setsAs a w v h) (setsAs a₁ w₁ v₁ h′) = record { here = pl .here; others = pl .others } in
+      follows-anew t fair n i p s sized q s′ eq (setsAs a w v h) (setsAs a₁ w₁ v₁ h′) tr (parent t n)
+      (ended-so t fair n a w v a₁ w₁ v₁ (parent t n) refl h h′ p e (ended-inner t fair n i (setsAs a w v h) (setsAs a₁ w₁ v₁ h) pl up) f)
+      (parent-node t (ok t fair .linking) n i up) (setsAs a₂ w₂ v₁ h′) refl
+      (grown t fair n i up p e s q s′ eq (setsAs a w v h) tr (setsAs a₁ w₁ v₁ h′) (setsAs a₂ w₂ v₁ h′) pl′ k ek gr)
+
+  pub grown-so : Tracks t s (setsAs a w v h) → Places n false false false (setsAs a w v h) (setsAs a₁ w₁ v₁ h) → (u : ℕ) → u ≡ parent t n
+      → ((l : List ℕ) (m : ℕ) → Range (nodes t) m → packed h′ m ≡ holds (exprAt t) (setsAs a w v h) (planned t l n p) m)
+      → (k : ℕ) → k ≡ sort (actOf t s′ u)
+      → ((j l : List ℕ) → Grows u k (gathersAt t (s′ .status) (s′ .second) u) (setsAs a₁ w₁ j l) (setsAs a₂ w₂ j l))
+      → Tracks t s′ (setsAs a₂ w₂ v₁ h′)
+  grown-so tr pl u eu f k ek gr = grown-parent tr pl f k (ek ∙ ap (λ m. sort (actOf t s′ m)) eu)
+      (subst (λ m. Grows m k (gathersAt t (s′ .status) (s′ .second) m) (setsAs a₁ w₁ v₁ h′) (setsAs a₂ w₂ v₁ h′)) eu (gr v₁ h′))

@@ -1,5 +1,6 @@
 pub mod MeaningFacts
 pub mod StoreLaws
+pub mod AheadLaws
 pub mod ChainLaws
 pub mod OperationLaws
 pub mod WidthLaws
@@ -7,7 +8,9 @@ pub mod PackedLaws
 pub mod TrackLaws
 pub mod ActBy
 pub mod PlanLaws
+pub mod OpensLaws
 pub mod SortLaws
+pub mod WaitLaws
 pub mod MoveLaws
 pub mod GroupLaws
 pub mod SweepLaws
@@ -18,7 +21,9 @@ pub mod WhyLaws
 pub mod TurnLaws
 pub mod StepsLaws
 pub mod UpdateLaws
+pub mod GrowLaws
 pub mod FollowLaws
+pub mod NextLaws
 pub mod LoopLaws
 pub mod QueryLaws
 pub mod EntryLaws

@@ -29,10 +29,10 @@ use Rattle.circuit.specs.Working.{leading, opens}
 use Rattle.circuit.specs.Packed.{Packs, setsAs, Three, site, RowedTo, Rowed, Past, Tracks, Places, Arms}
 
 -- a node's bit is as marked, the others stay
-marked-here : (n : ℕ) (b : Bit n) (v : Bool) (x y : List ℕ) → Packs (λ m. pick (eqb n m) v (packed x m)) y → packed y n ≡ v
+pub marked-here : (n : ℕ) (b : Bit n) (v : Bool) (x y : List ℕ) → Packs (λ m. pick (eqb n m) v (packed x m)) y → packed y n ≡ v
 marked-here n b v x y p = p .bits n b ∙ rw (eq-eqb n n refl) refl
 
-marked-other : (n : ℕ) (v : Bool) (x y : List ℕ) → Packs (λ m. pick (eqb n m) v (packed x m)) y → (m : ℕ) → Bit m → (m ≡ n → ⊥)
+pub marked-other : (n : ℕ) (v : Bool) (x y : List ℕ) → Packs (λ m. pick (eqb n m) v (packed x m)) y → (m : ℕ) → Bit m → (m ≡ n → ⊥)
     → packed y m ≡ packed x m
 marked-other n v x y p m b d = p .bits m b ∙ rw (ne-eqb n m (λ e. d (sym e))) refl
 

@@ -87,15 +87,13 @@ module _ (t : List ℕ) (fair : Taken t) (n : ℕ) (i : IsNode t n) (x y : Sets)
 
 -- by the packed sets: the calls inside a root's function are joined to those armed
 pub ended-by : (t : List ℕ) → Taken t → (rows : List ℕ) → Rowed t rows → (n : ℕ) → IsNode t n → parent t n ≡ 0 → (f : ℕ) → f ≡ owner t n
-    → IsFunction t (owner t n) → (a₀ w₀ i₀ a₁ w₁ i₁ sites callers a₂ h : List ℕ)
-    → Places n false false false (setsAs a₀ w₀ i₀ h) (setsAs a₁ w₁ i₁ h) → Packs (λ m. packed rows (512 * (32 + f) + m)) sites
-    → Packs (λ m. packed i₁ m && packed sites m) callers → Packs (λ m. packed a₁ m || packed callers m) a₂
+    → IsFunction t (owner t n) → (a₀ w₀ i₀ a₁ w₁ i₁ a₂ h : List ℕ) → Places n false false false (setsAs a₀ w₀ i₀ h) (setsAs a₁ w₁ i₁ h)
+    → Packs (λ m. packed a₁ m || (packed i₁ m && packed rows (512 * (32 + f) + m))) a₂
     → Ends t n (setsAs a₀ w₀ i₀ h) (setsAs a₂ w₁ i₁ h)
-ended-by t fair rows rd n i top f ef fn a₀ w₀ i₀ a₁ w₁ i₁ sites callers a₂ h p ps pc pg =
+ended-by t fair rows rd n i top f ef fn a₀ w₀ i₀ a₁ w₁ i₁ a₂ h p pg =
     ended-root t fair n i (setsAs a₀ w₀ i₀ h) (setsAs a₁ w₁ i₁ h) p top (packed a₂)
-    (λ m b. pg .bits m b ∙ ap (λ v. packed a₁ m || v) (pc .bits m b ∙ ap (λ v. packed i₁ m && v) (ps .bits m b
-    ∙ ap (λ k. packed rows (512 * (32 + k) + m)) ef
-    ∙ rd .sites (owner t n) m (fn .0) (omega (arith, fn .1, ok t fair .F-high)) b)))
+    (λ m b. pg .bits m b ∙ ap (λ v. packed a₁ m || (packed i₁ m && v))
+    (ap (λ k. packed rows (512 * (32 + k) + m)) ef ∙ rd .sites (owner t n) m (fn .0) (omega (arith, fn .1, ok t fair .F-high)) b))
 
 eqb-turned : (m n : ℕ) → eqb m n ≡ eqb n m
 eqb-turned m n = go (ℕ-discrete m n)

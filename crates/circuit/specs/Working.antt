@@ -1,6 +1,6 @@
 -- working definitions: what the parts of a step ask of each other, and the nodes of each function in a chain
 use Prim.Native.Nat.{ℕ, zero, suc, _-_, _/_, _%_, _≤_}
-use mathlib.Core.Bool.{Bool, true, false, _&&_, _||_}
+use mathlib.Core.Bool.{Bool, true, false, _&&_, _||_, not}
 use mathlib.Core.Path.{_≡_}
 use mathlib.Core.List.{List, [], _∷_, map}
 use lib.Dec.{eqb}
@@ -46,6 +46,10 @@ pub record Grouped (t heads links : List ℕ) : Type 0 where
 unfoldable pub allDone : (status : ℕ → ℕ) → List ℕ → Bool
 allDone status [] = true
 allDone status (n ∷ ns) = eqb (status n) 3 && allDone status ns
+
+-- a busy primitive or call in first phase: it has a step once all of its children are done
+abbrev pub gathersAt : (t status : List ℕ) → List Bool → ℕ → Bool
+gathersAt t status second n = eqb (entry status 0 n) 2 && (not (entry second false n) && (eqb (kind t n) 3 || eqb (kind t n) 4))
 
 -- all of a chain, or of a let's the definientia
 abbrev pub leading : Bool → List ℕ → List ℕ

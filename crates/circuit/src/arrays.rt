@@ -1,4 +1,4 @@
-// Occupants as plain numbers, to be lent, and back.
+// Occupants as plain numbers, to be lent, and back; and that the arrays of a state have their lengths (`whole`).
 use table::Node;
 ghost use mathlib.Core.Path.{_≡_};
 ghost use Rattle.rules.specs.State.{Sized};

@@ -155,7 +155,7 @@ pub fn query(
     }
 }
 
-// First steps up to a budget: the table, its tags and 24 are checked before the first of them. `count` as in a run over a list.
+// The first possible step, again and again, up to a budget: the table, its tags and 24 are checked first. `count` as in a run over a list.
 pub fn drive(
     table: &[u8],
     tags: &[u8],

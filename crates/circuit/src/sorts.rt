@@ -7,18 +7,19 @@ use table::Node;
 use table::decoded;
 use table::decoded::Cells;
 ghost use mathlib.Core.Path.{_≡_};
-ghost use mathlib.Core.Bool.{Bool};
+ghost use mathlib.Core.Bool.{Bool, true, _&&_, not};
 ghost use mathlib.Core.List.{List};
 ghost use Prim.Native.Nat.{ℕ, _≤_};
 ghost use lib.Dec.{eqb};
 ghost use Rattle.table.specs.Pick.{pick};
 ghost use Rattle.table.specs.Bytes.{kind, word};
-ghost use Rattle.table.specs.Naming.{owner};
+ghost use Rattle.table.specs.Naming.{owner, children};
 ghost use Rattle.table.specs.Working.{IsNode, Read};
-ghost use Rattle.rules.specs.State.{entry};
+ghost use Rattle.rules.specs.State.{entry, In};
 ghost use Rattle.rules.specs.Circuit.{actOf};
 ghost use Rattle.rules.specs.Sets.{sort};
 ghost use Rattle.circuit.specs.Meaning.{stateAs};
+ghost use Rattle.circuit.specs.Working.{gathersAt};
 
 // Open nodes move; busy ones by kind.
 pub(crate) fn sort_at(
@@ -48,6 +49,65 @@ pub(crate) fn sort_at(
         6 => of_let(table, cells, status, second, n),
         _ => 0,
     }
+}
+
+// Whether n is a busy primitive or call in first phase, which waits for all of its children.
+pub(crate) fn gathers(
+    table: &[u8],
+    cells: &Cells,
+    status: &[u8; 512],
+    second: &[bool; 512],
+    n: Node,
+) -> bool
+    requires { ⌜ Read (now table) (now cells) × IsNode (now table) (n .0) ⌝ }
+    ensures { λ r. ⌜ r ≡ gathersAt (now (table .entry)) (now (status .entry)) (now (second .entry)) (n .0) ⌝ }
+{
+    if store::status_at(status, n) != 2 {
+        return false;
+    }
+    if store::second_at(second, n) {
+        return false;
+    }
+    let kind = decoded::kind(cells, n);
+    if kind == 3 {
+        return true;
+    }
+    kind == 4
+}
+
+// Whether d is a node, and not done.
+fn undone(status: &[u8; 512], d: Node) -> bool
+    requires { ⌜ d .0 ≤ 512 ⌝ }
+    ensures { λ r. ⌜ r ≡ (not (eqb (d .0) 0) && not (eqb (entry (now (status .entry)) 0 (d .0)) 3)) ⌝ }
+{
+    if d.0 == 0 {
+        return false;
+    }
+    store::status_at(status, d) != 3
+}
+
+// Such a node, d being one of its children or 0: the others need not be looked at while that one is not done.
+pub(crate) fn gathered(
+    table: &[u8],
+    cells: &Cells,
+    status: &[u8; 512],
+    second: &[bool; 512],
+    n: Node,
+    d: Node,
+) -> u8
+    requires { ⌜ Read (now table) (now cells) × IsNode (now table) (n .0)
+        × (gathersAt (now table) (now status) (now second) (n .0) ≡ true)
+        × ((d .0 ≡ 0 → ⊥) → IsNode (now table) (d .0) × In (d .0) (children (now table) (n .0))) ⌝ }
+    ensures { λ r. ⌜ ((c d e : List ℕ) → r ≡ sort (actOf (now (table .entry))
+        (stateAs (now (status .entry)) (now (second .entry)) c d e) (n .0))) ⌝ }
+{
+    if undone(status, d) {
+        return 0;
+    }
+    if decoded::kind(cells, n) == 3 {
+        return of_primitive(table, cells, status, n);
+    }
+    of_call(table, cells, status, second, n)
 }
 
 // Once all children are done.

@@ -1,10 +1,10 @@
 // Steps are taken here and nowhere else: one step at a node, or first steps up to a budget, for which the sets are kept. So LLVM makes one
 // function of the loop and all that a step calls.
 use crate::changes;
+use crate::moves;
 use crate::plan;
 use crate::sets::Set;
 use crate::store;
-use crate::tracking;
 use table::Node;
 use table::decoded::Cells;
 ghost use mathlib.Core.Path.{_≡_};
@@ -97,7 +97,7 @@ pub(crate) fn go(
         taken += 1;
         at = 0;
         if tracked {
-            at = tracking::follow(
+            at = moves::follow(
                 table,
                 cells,
                 rows,

@@ -1,6 +1,5 @@
-// The sets of a run are kept from step to step: each move changes a few words of them, and at most one node is read anew.
+// The sets of a run: what a node is in, filled from a state and changed node by node or function by function.
 use crate::chain;
-use crate::plan::Plan;
 use crate::sets;
 use crate::sets::Rows;
 use crate::sets::Set;
@@ -22,11 +21,12 @@ ghost use Rattle.table.specs.Naming.{chain};
 ghost use Rattle.table.specs.Working.{IsNode, IsFunction, Read};
 ghost use Rattle.list.specs.Tags.{isCall};
 ghost use Rattle.list.specs.Working.{packed, Bit};
-ghost use Rattle.rules.specs.State.{State512, Sized, In};
-ghost use Rattle.rules.specs.Sets.{setsOf, firstIn};
+ghost use Rattle.rules.specs.State.{In};
+ghost use Rattle.rules.specs.Circuit.{actOf};
+ghost use Rattle.rules.specs.Sets.{setsOf, sort};
 ghost use Rattle.circuit.specs.Meaning.{stateAs};
-ghost use Rattle.circuit.specs.Working.{leading, opens, Planned, performed, Sound};
-ghost use Rattle.circuit.specs.Packed.{Packs, setsAs, Three, RowedTo, Rowed, Tracks, Places, Arms, Ends, Renews, Updates};
+ghost use Rattle.circuit.specs.Working.{leading, opens};
+ghost use Rattle.circuit.specs.Packed.{Packs, setsAs, Three, RowedTo, Rowed, Tracks, Places, Arms, Renews};
 
 // Whether node n is a call of another function.
 fn is_call(table: &[u8], cells: &Cells, n: Node) -> bool
@@ -66,7 +66,15 @@ fn entered(table: &[u8], cells: &Cells, status: &[u8; 512], second: &[bool; 512]
 }
 
 // Puts node n into three sets or takes it out of them.
-fn place(armed: &mut Set, waiting: &mut Set, inside: &mut Set, n: Node, a: bool, w: bool, i: bool)
+pub(crate) fn place(
+    armed: &mut Set,
+    waiting: &mut Set,
+    inside: &mut Set,
+    n: Node,
+    a: bool,
+    w: bool,
+    i: bool,
+)
     requires { ⌜ Three (now armed) (now waiting) (now inside) × Bit (n .0) ⌝ }
     ensures { λ _. ⌜ Three (now (armed .exit)) (now (waiting .exit)) (now (inside .exit))
         × ((h : List ℕ) → Places (n .0) a w i (setsAs (now (armed .entry)) (now (waiting .entry)) (now (inside .entry)) h)
@@ -77,8 +85,8 @@ fn place(armed: &mut Set, waiting: &mut Set, inside: &mut Set, n: Node, a: bool,
     sets::mark(inside, n, i);
 }
 
-// Reads node n anew.
-fn read_anew(
+// Reads node n anew, and tells the sort of its step.
+pub(crate) fn read_anew(
     table: &[u8],
     cells: &Cells,
     status: &[u8; 512],
@@ -88,9 +96,11 @@ fn read_anew(
     waiting: &mut Set,
     inside: &mut Set,
     n: Node,
-)
+) -> u8
     requires { ⌜ Read (now table) (now cells) × IsNode (now table) (n .0) × Three (now armed) (now waiting) (now inside) ⌝ }
-    ensures { λ _. ⌜ Three (now (armed .exit)) (now (waiting .exit)) (now (inside .exit))
+    ensures { λ r. ⌜ Three (now (armed .exit)) (now (waiting .exit)) (now (inside .exit))
+        × ((d e : List ℕ) → r ≡ sort (actOf (now (table .entry))
+        (stateAs (now (status .entry)) (now (second .entry)) (now (value .entry)) d e) (n .0)))
         × ((d e h : List ℕ)
         → let x = setsOf (now (table .entry)) (stateAs (now (status .entry)) (now (second .entry)) (now (value .entry)) d e) in
         Places (n .0) (x .armed (n .0)) (x .waiting (n .0)) (x .inside (n .0))
@@ -100,6 +110,7 @@ fn read_anew(
     let k = sorts::sort_at(table, cells, status, second, value, n);
     let i = entered(table, cells, status, second, n);
     place(armed, waiting, inside, n, k == 2, k == 1, i);
+    k
 }
 
 // The node at c and all that follow it are open, of a let (defs) all but the last.
@@ -130,7 +141,14 @@ fn arm_all(
 }
 
 // The children that node n opens are open.
-fn arm(table: &[u8], cells: &Cells, armed: &mut Set, waiting: &mut Set, inside: &mut Set, n: Node)
+pub(crate) fn arm(
+    table: &[u8],
+    cells: &Cells,
+    armed: &mut Set,
+    waiting: &mut Set,
+    inside: &mut Set,
+    n: Node,
+)
     requires { ⌜ Read (now table) (now cells) × IsNode (now table) (n .0) × Three (now armed) (now waiting) (now inside) ⌝ }
     ensures { λ _. ⌜ Three (now (armed .exit)) (now (waiting .exit)) (now (inside .exit))
         × ((h : List ℕ) → Arms (λ m. In m (opens (now (table .entry)) (n .0)))
@@ -146,34 +164,8 @@ fn arm(table: &[u8], cells: &Cells, armed: &mut Set, waiting: &mut Set, inside: 
     arm_all(table, cells, armed, waiting, inside, c, kind == 6);
 }
 
-// Node n is done; where it is a root, the calls inside its function may leave.
-fn end_at(
-    table: &[u8],
-    cells: &Cells,
-    rows: &[u64],
-    armed: &mut Set,
-    waiting: &mut Set,
-    inside: &mut Set,
-    n: Node,
-)
-    requires { ⌜ Read (now table) (now cells) × IsNode (now table) (n .0) × Rowed (now table) (now rows)
-        × Three (now armed) (now waiting) (now inside) ⌝ }
-    ensures { λ _. ⌜ Three (now (armed .exit)) (now (waiting .exit)) (now (inside .exit))
-        × ((h : List ℕ) → Ends (now (table .entry)) (n .0)
-        (setsAs (now (armed .entry)) (now (waiting .entry)) (now (inside .entry)) h)
-        (setsAs (now (armed .exit)) (now (waiting .exit)) (now (inside .exit)) h)) ⌝ }
-{
-    place(armed, waiting, inside, n, false, false, false);
-    if decoded::parent(cells, n).0 == 0 {
-        let f = decoded::owner(cells, n);
-        let sites = sets::row(rows, 32 + f.0 as usize);
-        let callers = sets::common(inside, &sites);
-        sets::gain(armed, &callers);
-    }
-}
-
 // Function g is as new, and entered by node n if that does so anew.
-fn renew(
+pub(crate) fn renew(
     table: &[u8],
     cells: &Cells,
     rows: &[u64],
@@ -206,95 +198,6 @@ fn renew(
         sets::mark(inside, n, true);
         sets::gain(held, &sites);
     }
-}
-
-// What a move makes of the sets; the node that is to be read anew, 0 if none is.
-fn update(
-    table: &[u8],
-    cells: &Cells,
-    rows: &[u64],
-    armed: &mut Set,
-    waiting: &mut Set,
-    inside: &mut Set,
-    held: &mut Set,
-    n: Node,
-    plan: Plan,
-) -> Node
-    requires { ⌜ Read (now table) (now cells) × IsNode (now table) (n .0) × Sound (now table) (n .0) plan × Rowed (now table) (now rows)
-        × Three (now armed) (now waiting) (now inside) × (length (now held) ≡ 8) ⌝ }
-    ensures { λ r. ⌜ Three (now (armed .exit)) (now (waiting .exit)) (now (inside .exit)) × (length (now (held .exit)) ≡ 8)
-        × Updates (now (table .entry)) (n .0) plan (r .0)
-        (setsAs (now (armed .entry)) (now (waiting .entry)) (now (inside .entry)) (now (held .entry)))
-        (setsAs (now (armed .exit)) (now (waiting .exit)) (now (inside .exit)) (now (held .exit))) ⌝ }
-{
-    match plan {
-        Plan::Begins => {
-            arm(table, cells, armed, waiting, inside, n);
-            n
-        }
-        Plan::Turns(m) => {
-            place(armed, waiting, inside, m, true, false, false);
-            n
-        }
-        Plan::Finishes(_) => {
-            end_at(table, cells, rows, armed, waiting, inside, n);
-            decoded::parent(cells, n)
-        }
-        Plan::Enters(g, anew) => {
-            renew(table, cells, rows, armed, waiting, inside, held, n, g, anew);
-            Node(0)
-        }
-        Plan::Leaves(g, _) => {
-            let sites = sets::row(rows, 32 + g.0 as usize);
-            sets::lose(held, &sites);
-            end_at(table, cells, rows, armed, waiting, inside, n);
-            decoded::parent(cells, n)
-        }
-    }
-}
-
-// After the planned move of node n: the sets are again those of the state, and tell the first node that has a step, 0 if none has.
-pub(crate) fn follow(
-    table: &[u8],
-    cells: &Cells,
-    rows: &[u64],
-    armed: &mut Set,
-    waiting: &mut Set,
-    inside: &mut Set,
-    held: &mut Set,
-    status: &[u8; 512],
-    second: &[bool; 512],
-    value: &[u32; 512],
-    n: Node,
-    plan: Plan,
-) -> Node
-    requires { ⌜ Read (now table) (now cells) × IsNode (now table) (n .0) × Sound (now table) (n .0) plan × Rowed (now table) (now rows)
-        × Three (now armed) (now waiting) (now inside) × (length (now held) ≡ 8) ⌝ }
-    ensures { λ r. ⌜ Three (now (armed .exit)) (now (waiting .exit)) (now (inside .exit)) × (length (now (held .exit)) ≡ 8)
-        × (r .0 ≡ firstIn (setsAs (now (armed .exit)) (now (waiting .exit)) (now (inside .exit)) (now (held .exit))) 512)
-        × ((s : State512) (d e : List ℕ) → Sized s → Planned (now (table .entry)) s (n .0) plan
-        → stateAs (now (status .entry)) (now (second .entry)) (now (value .entry)) d e ≡ performed (now (table .entry)) s (n .0) plan
-        → Tracks (now (table .entry)) s
-        (setsAs (now (armed .entry)) (now (waiting .entry)) (now (inside .entry)) (now (held .entry)))
-        → Tracks (now (table .entry)) (stateAs (now (status .entry)) (now (second .entry)) (now (value .entry)) d e)
-        (setsAs (now (armed .exit)) (now (waiting .exit)) (now (inside .exit)) (now (held .exit)))) ⌝ }
-{
-    let anew = update(table, cells, rows, armed, waiting, inside, held, n, plan);
-    if anew.0 == 0 {
-        return sets::first(armed, waiting, held);
-    }
-    read_anew(
-        table,
-        cells,
-        status,
-        second,
-        value,
-        armed,
-        waiting,
-        inside,
-        anew,
-    );
-    sets::first(armed, waiting, held)
 }
 
 // Puts node n into the rows of its function and, where it is a call, of its callee; it is held while that is occupied.

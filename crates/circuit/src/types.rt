@@ -60,7 +60,7 @@ pub struct Driven {
     pub state: State,
 }
 
-// What a query says: a possible step, or none.
+// What a query says: the first possible step, or none.
 pub enum Found {
     Possible(Node),
     Nothing,

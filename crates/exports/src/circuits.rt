@@ -98,7 +98,7 @@ pub extern "C" fn circuit_run(
     codes::halt(halt)
 }
 
-// First steps up to a budget; their number goes to `count`, unless table, tags or 24 refuse.
+// The first possible step, again and again, up to a budget; how many goes to `count`, unless table, tags or 24 refuse.
 #[no_mangle]
 pub extern "C" fn circuit_drive(
     table: &[u8],

@@ -1,4 +1,4 @@
--- what the parts of the walk ask of each other: packed sets, the sites of each function, and what the walk keeps
+-- what the parts of the walk ask of each other: packed sets (the circuit cites bitAt, packed, Bit, PutAt too), sites, what the walk keeps
 use Prim.Native.Nat.{ℕ, zero, suc, _+_, _-_, _*_, _/_, _%_, _^_, _<_, _≤_}
 use mathlib.Core.Bool.{Bool, true, false, _&&_, _||_}
 use mathlib.Core.Path.{_≡_}

@@ -1,4 +1,4 @@
--- `lent::query` meets its contract: what is checked first, then the search.
+-- `lent::query` meets its contract: what is checked first, then the nodes from the first on.
 use mathlib.Core.Path.{sym, ap, _∙_}
 use Rattle.table.specs.Survey.{verdictOf}
 use Rattle.rules.specs.State.{State512}

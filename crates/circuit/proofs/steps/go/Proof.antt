@@ -125,6 +125,7 @@ follow-requires c κs =
       s .pre .4 e .1 .rowed,
       sets .0,
       sets .1,
+      sets .2 .first,
     )
 
 loop-less : tie.Need-loop-less Inv-loop μ-loop
@@ -141,11 +142,11 @@ loop-again c =
     let h = head (turn p) in
     let e = yes .if2 .taken in
     let f = c .follow .ensures in
-    let r = h .loop .inv .0 .run e .2 in (
+    let r = h .loop .inv .0 .run e .2 in
+    let z = f .carries _ _ (state h) (r .turning .sized) (planned p) (d .perform .ensures)
+    (record { exact = r .turning .exact; past = r .past }) in (
       loop-tracked _ _ _ _ _ _ _ _ _ _ _ _ (from (start h)) _ _ (state h) _ _ _ _ (h .loop .inv .0) (on (turn p))
-          (p .plan-at .result) (planned p) _ (d .perform .ensures) e _ _ _ _ (f .0) (f .1) _ (f .2)
-          (f .3 (state h) _ _ (r .turning .sized) (planned p) (d .perform .ensures)
-          (record { exact = r .turning .exact; past = r .past })),
+          (p .plan-at .result) (planned p) _ (d .perform .ensures) e _ _ _ _ (f .three) (f .size) _ (z .1) (z .0),
       h .loop .inv .1,
     )
 

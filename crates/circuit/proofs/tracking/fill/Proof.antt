@@ -81,7 +81,7 @@ loop-again c =
       l .inv .1,
       filled-next _ _ _ _ _ _ _ _ _ _ _ (l .inv .2) (high t) _ _ (listed .enlist .ensures .0)
           (λ d. listed .enlist .ensures .1 (a .status .now) (a .second .now) (a .value .now) d) _ _ _ (read .0)
-          (λ d. read .1 d (a .occupant .now) _),
+          (λ d. read .2 d (a .occupant .now) _),
     )
 
 returns : tie.Need-returns Inv-loop μ-loop

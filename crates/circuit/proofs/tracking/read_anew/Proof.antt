@@ -25,6 +25,7 @@ returns c =
     let k : tie.After-sort-at = search in
     let s : tie.Start = search in (
       c .place .ensures .0,
+      k .sort-at .ensures,
       λ d e h. placed-as _ _ _ _ _ _ _ _ _ (c .place .ensures .1 h) (ap (λ x. eqb x 2) (k .sort-at .ensures d e))
           (ap (λ x. eqb x 1) (k .sort-at .ensures d e)) (i .entered .ensures (s .args .value .now) d e),
     )
