@@ -122,13 +122,15 @@ uint64_t circuit_run(const uint8_t *table, size_t table_len, const uint8_t *tags
                      bool second[SAFL_NODES], uint32_t value[SAFL_NODES], uint32_t registers[SAFL_REGISTERS],
                      uint16_t occupant[SAFL_FUNCTIONS], const uint16_t *nodes, size_t nodes_len, size_t *count);
 
-/* Possible steps, at most `budget`. SAFL_PLAIN: at rest, no step is possible; SAFL_VALUE: main has answered with this value; SAFL_SPENT;
-   SAFL_REFUSED, state and *count as they were: table, tags or state (24). Else *count gets the number of steps taken. */
+/* The first possible step, again and again, at most `budget` times: each at the node that circuit_query would name. SAFL_PLAIN: at rest, no
+   step is possible; SAFL_VALUE: main has answered with this value; SAFL_SPENT; SAFL_REFUSED, state and *count as they were: table, tags or
+   state (24). Else *count gets the number of steps taken. */
 uint64_t circuit_drive(const uint8_t *table, size_t table_len, const uint8_t *tags, size_t tags_len, uint8_t status[SAFL_NODES],
                        bool second[SAFL_NODES], uint32_t value[SAFL_NODES], uint32_t registers[SAFL_REGISTERS],
                        uint16_t occupant[SAFL_FUNCTIONS], uint32_t budget, uint32_t *count);
 
-/* Whether a step is possible. SAFL_PLAIN: none; SAFL_VALUE: at this node; SAFL_REFUSED. Nothing is written. */
+/* The first possible step. SAFL_PLAIN: there is none; SAFL_VALUE: the lowest node at which a step is possible; SAFL_REFUSED. Nothing is
+   written. */
 uint64_t circuit_query(const uint8_t *table, size_t table_len, const uint8_t *tags, size_t tags_len, const uint8_t status[SAFL_NODES],
                        const bool second[SAFL_NODES], const uint32_t value[SAFL_NODES], const uint32_t registers[SAFL_REGISTERS],
                        const uint16_t occupant[SAFL_FUNCTIONS]);

@@ -64,7 +64,7 @@ pub fn step(table: &[u8], tags: &[u8], state: &mut Lent, node: u16) -> Told<Answ
     }
 }
 
-/// A possible step; that the state was only read is looked at too.
+/// The first possible step; that the state was only read is looked at too.
 pub fn query(table: &[u8], tags: &[u8], state: &Lent) -> Told<Result<Option<Node>, Refusal>> {
     let mut lent = state.clone();
     let handed = Handed { table, tags, state: &mut lent };
