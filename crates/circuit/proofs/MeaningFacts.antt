@@ -25,7 +25,7 @@ use Rattle.circuit.specs.declared.types.Driven.{Driven}
 use Rattle.circuit.specs.declared.types.Found.{Found}
 use Rattle.circuit.specs.declared.types.Found.the-variants as Found
 use Rattle.circuit.specs.Meaning.{numbers, listsOf, replyOf, steppedOf, openingOf, StartedAs, haltOf, ranOf, endedOf, drivenOf}
-use Rattle.circuit.specs.Meaning.{foundOf, OpenedAs, steppedAs, RanLent}
+use Rattle.circuit.specs.Meaning.{foundOf, OpenedAs, steppedAs, RanLent, DrivenLent}
 
 -- a function that is undone by another tells its arguments apart
 apart : {A B : Type 0} (f : A → B) (back : B → A) → ((a : A) → back (f a) ≡ a) → (a b : A) → f a ≡ f b → a ≡ b
@@ -142,3 +142,8 @@ pub ran-lent : (t tags : List ℕ) (s : State512) (ns : List ℕ) (old : ℕ) (h
     → RanLent t tags s ns old h u k → RanLent t tags s ns old g w l → (h ≡ g) × (u ≡ w) × (k ≡ l)
 ran-lent t tags s ns old h g u w k l p q =
     (halt-same h g (p .halt ∙ sym (q .halt)), p .state ∙ sym (q .state), p .count ∙ sym (q .count))
+
+pub driven-lent : (t tags : List ℕ) (s : State512) (budget old : ℕ) (e f : Ended) (u w : State512) (k l : ℕ)
+    → DrivenLent t tags s budget old e u k → DrivenLent t tags s budget old f w l → (e ≡ f) × (u ≡ w) × (k ≡ l)
+driven-lent t tags s budget old e f u w k l p q =
+    (ended-same e f (p .ended ∙ sym (q .ended)), p .state ∙ sym (q .state), p .count ∙ sym (q .count))

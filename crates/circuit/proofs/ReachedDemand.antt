@@ -15,7 +15,8 @@ use Rattle.rules.specs.Runs.{standing, runOf, RunPlays, MainDone, mainValue, Dr
 use Rattle.rules.specs.Runs.{Finds, FindsAfter}
 use Rattle.rules.specs.First.{firstsOf, queryOf, driveOf, Traced}
 use Rattle.rules.proofs.FirstFacts.{query-finds}
-use Rattle.rules.proofs.FirstRuns.{drive-drives, first-steps}
+use Rattle.rules.proofs.FirstRuns.{drive-drives}
+use Rattle.rules.proofs.FirstDemand.{first-steps}
 use Rattle.rules.specs.Runs as Runs
 use Rattle.rules.specs.Companions as Companions
 use Rattle.circuit.specs.Meaning.{listsOf, steppedOf, replyOf, ranOf, drivenOf, foundOf}
@@ -147,7 +148,7 @@ module _ (t tags args : List ℕ) (holds : Holding t tags) where
         let d = state-demand steps s x in
         record {
           named = λ n q. takes t tags s n (by (names n) q);
-          lowest = λ n m q w. first-steps t tags (listsOf s) .named n (sym e ∙ q) .lowest m (w .0);
+          lowest = λ n m q w. first-steps t tags (listsOf s) .named n (sym e ∙ q) .least m (w .0);
           none = λ q. ⊎-elim (λ m. (m, d .right m)) (λ y. absurd (by nothing q (y .0) (y .1 .0))) (d .lively);
           over = λ m. query-over t tags (listsOf s) (functions t) (nodes t) stands m (foundOf r) h;
           never-refused = λ k p q. by (unasked k p) q;

@@ -111,8 +111,8 @@ pub record RunEntry (t tags args steps ms : List ℕ) (r : Ran) : Type 0 where
 
 -- of a run with a budget there
 pub record DriveEntry (t tags args steps : List ℕ) (s : State) (budget : ℕ) (r : Driven) : Type 0 where
-  -- it took as many first steps as it tells, and its state is again one that demand 3 speaks of
-  pub number : length (firstsOf t tags (listsOf s) (r .steps)) ≡ r .steps
+  -- asked one by one its first steps are taken, as many as it tells, and its state is again one that demand 3 speaks of
+  pub number : length (playOf t tags (listsOf s) (firstsOf t tags (listsOf s) (r .steps)) .nodes) ≡ r .steps
   pub within : r .steps ≤ budget
   pub reached : Reached t tags args (steps ++ firstsOf t tags (listsOf s) (r .steps)) (r .state)
   pub demand : StateDemand t tags args (steps ++ firstsOf t tags (listsOf s) (r .steps)) (r .state)

@@ -101,7 +101,8 @@ endedOf (EndedCode.Refused k p) = barred k (p .0)
 abbrev pub drivenOf : DrivenCode → Driven
 drivenOf r = record { steps = r .steps; ended = endedOf (r .ended); state = listsOf (r .state) }
 
--- the same of a run with a budget
+-- what a run with a budget answers and leaves where state s and a count `old` were lent: the state s′ and the count k. Where table, tags
+-- or 24 refuse, the count is kept, as the state is
 pub record DrivenLent (t tags : List ℕ) (s : State512) (budget old : ℕ) (e : EndedCode) (s′ : State512) (k : ℕ) : Type 0 where
   pub ended : endedOf e ≡ driveOf t tags s budget .ended
   pub state : s′ ≡ driveOf t tags s budget .state

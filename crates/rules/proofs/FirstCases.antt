@@ -1,4 +1,4 @@
--- main(x)=beside(f(x), f(x)) by first steps; and the sets in states that no start leads to, case by case
+-- main(x)=beside(f(x), f(x)) by first steps; and the sets, case by case, in states that a start leads to and in others
 use Prim.Native.Nat.{ℕ}
 use mathlib.Core.Bool.{true, false}
 use mathlib.Core.Path.{_≡_, refl}
@@ -6,6 +6,7 @@ use mathlib.Core.List.{List, [], _∷_, _++_}
 use Rattle.table.specs.Designs.{header, function, node, twice, pair, mult}
 use Rattle.table.specs.Find.{lowest}
 use Rattle.rules.specs.State.{State512, write}
+use Rattle.rules.specs.Step.{denied}
 use Rattle.rules.specs.Circuit.{stepOf, playOf}
 use Rattle.rules.specs.Runs.{gave, atRest, spent, barred, names, nothing, unasked}
 use Rattle.rules.specs.First.{firstOf, onward, afterFirst, firstsOf, queryOf, driveFrom, driveOf}
@@ -38,10 +39,16 @@ lower : queryOf pair tags (playOf pair tags start (2 ∷ []) .state) ≡ names 3
 unfolding first-open
 lower = refl
 
--- 3 waits for 4, and 5 is open
+-- 3 and 5 are busy and wait for their arguments, 4 and 6, which are open; 4 is the lower
 next-lower : queryOf pair tags (playOf pair tags start (2 ∷ 3 ∷ 5 ∷ []) .state) ≡ names 4
 unfolding first-open
 next-lower = refl
+
+-- a lower call that waits at its callee is passed over: 5 is in f and can leave it, while 3, its argument done, is refused 22
+passed-over : (queryOf pair tags (playOf pair tags start (2 ∷ 3 ∷ 4 ∷ 5 ∷ 6 ∷ 5 ∷ 1 ∷ []) .state) ≡ names 5)
+    × (stepOf pair tags (playOf pair tags start (2 ∷ 3 ∷ 4 ∷ 5 ∷ 6 ∷ 5 ∷ 1 ∷ []) .state) 3 .answer ≡ denied 22 3)
+unfolding first-open
+passed-over = (refl, refl)
 
 -- the whole run, and one that is a step short of it
 all-of-it : (driveOf pair tags start 13 .steps ≡ 12) × (driveOf pair tags start 13 .ended ≡ gave 9)

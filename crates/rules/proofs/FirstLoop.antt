@@ -11,12 +11,8 @@ use Rattle.table.specs.Bytes.{functions}
 use Rattle.table.specs.Expressions.{bodyOf}
 use Rattle.rules.specs.State.{State512, view}
 use Rattle.rules.specs.Runs.{MainDone, mainValue, Ended, gave, atRest, spent, Driven}
-use Rattle.rules.specs.First.{firstOf, onward, afterFirst, stays, oneMore, unlessOver, driveFrom}
+use Rattle.rules.specs.First.{firstOf, onward, afterFirst, stays, oneMore, plus, unlessOver, driveFrom}
 use Rattle.rules.proofs.FirstRuns.{by-turn}
-
--- k steps before what r says
-abbrev pub plus : ℕ → Driven → Driven
-plus k r = record { steps = k + r .steps; ended = r .ended; state = r .state }
 
 -- the loop: k of the b steps from s₀ are made, and s is the state
 pub record Drove (t tags : List ℕ) (s₀ s : State512) (b k : ℕ) : Type 0 where

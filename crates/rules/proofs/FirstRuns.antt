@@ -5,6 +5,7 @@ use mathlib.Core.Path.{_≡_, refl, ap, _∙_}
 use mathlib.Core.List.{List, [], _∷_}
 use native.Mathlib.Omega.{arith}
 use lib.Dec.{eqb}
+use lib.ListN.{length}
 use borrow.Author.Tests.{eqb-true, eqb-false}
 use Rattle.table.specs.Pick.{pick}
 use Rattle.table.specs.Syntax.{id}
@@ -18,8 +19,8 @@ use Rattle.rules.specs.Circuit.{stepOf, playOf}
 use Rattle.rules.specs.Runs.{standing, MainDone, mainValue, Ended, gave, atRest, spent, barred, Driven, Says, Picks, DrivesAfter}
 use Rattle.rules.specs.Runs.{Drives}
 use Rattle.rules.specs.First.{firstOf, First, onward, afterFirst, firstsOf, stays, oneMore, unlessOver, driveFrom, driveAfter}
-use Rattle.rules.specs.First.{driveOf, Traced, FirstSteps}
-use Rattle.rules.proofs.FirstFacts.{first-some, first-none, query-named, query-finds}
+use Rattle.rules.specs.First.{driveOf, Traced}
+use Rattle.rules.proofs.FirstFacts.{first-some, first-none}
 
 noted-taken : (r : Reply) (n : ℕ) (ns : List ℕ) → IsTaken r → noted r n ns ≡ n ∷ ns
 noted-taken taken n ns a = refl
@@ -121,12 +122,13 @@ module _ (t tags : List ℕ) where
   a-trace : (s : State512) (r : Driven) → First t tags s (firstOf t tags s)
       → Traced t tags (onward t tags s) r → Traced t tags s (oneMore r)
   unfolding playOf onward firstsOf
-  a-trace s r f p = record {
-    taken = noted-taken (stepOf t tags s (firstOf t tags s) .answer) (firstOf t tags s) _ (f .possible)
-        ∙ ap (λ l. firstOf t tags s ∷ l) (p .taken);
-    number = ap suc (p .number);
-    state = p .state;
-  }
+  a-trace s r f p =
+      let one = noted-taken (stepOf t tags s (firstOf t tags s) .answer) (firstOf t tags s) _ (f .possible) in
+      record {
+        taken = one ∙ ap (λ l. firstOf t tags s ∷ l) (p .taken);
+        number = ap length one ∙ ap suc (p .number);
+        state = p .state;
+      }
 
   from-traced : (b : ℕ) (s : State512) → Traced t tags s (driveFrom t tags s b)
   unfolding driveFrom
@@ -134,23 +136,10 @@ module _ (t tags : List ℕ) where
   from-traced (suc b) s = by-turn t tags (Traced t tags s) s _ (λ d. no-trace s _) (λ d e. no-trace s _)
       (λ d e. a-trace s _ (first-some t tags s e) (from-traced b (onward t tags s)))
 
-  drive-traced : (s : State512) (budget : ℕ) → Traced t tags s (driveOf t tags s budget)
+  pub drive-traced : (s : State512) (budget : ℕ) → Traced t tags s (driveOf t tags s budget)
   unfolding driveOf
   drive-traced s budget = go (standing t tags s)
     where
       go : (c : Verdict) → Traced t tags s (driveAfter c s (driveFrom t tags s budget))
       go (accepted F N) = from-traced budget s
       go (refused k p) = no-trace s (barred k p)
-
--- all of it, for a reader
-pub first-steps : (t tags : List ℕ) (s : State512) → FirstSteps t tags s
-first-steps t tags s = record {
-  some = first-some t tags s;
-  none = first-none t tags s;
-  named = query-named t tags s;
-  finds = query-finds t tags s;
-  drives = drive-drives t tags s;
-  traced = drive-traced t tags s;
-  state = drive-state t tags s;
-  more = λ k j. after-more t tags k j s;
-}

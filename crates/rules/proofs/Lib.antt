@@ -23,6 +23,7 @@ pub mod LowestLaws
 pub mod FirstFacts
 pub mod FirstRuns
 pub mod FirstLoop
+pub mod FirstDemand
 -- the sets that it is read off: what the sort of a step rests on, what each move makes of the sets, and a turn of the loop that keeps them
 pub mod Sorts
 pub mod SortSame

@@ -152,10 +152,7 @@ module _ (t tags args : List ℕ) (s : State512) (start : startOf t tags args �
       (λ x. absurd (none (x .0) (subst (λ l. Possible t tags (l .state) (x .0)) (same-play ns) (x .1))))
       (plays ns .lively (functions t) (nodes t) tags (passes .check-tags))
 
-  module _ (ns : List ℕ) (budget : ℕ) (r : Driven) (drives : Drives t tags (playOf t tags s ns .state) budget r) where
-    picks : Picks t tags (playOf t tags s ns .state) budget r
-    picks = subst (λ c. DrivesAfter c t tags (playOf t tags s ns .state) budget r) (start-stands ns) drives
-
+  module _ (ns : List ℕ) (budget : ℕ) (r : Driven) (picks : Picks t tags (playOf t tags s ns .state) budget r) where
     abbrev all : List ℕ
     all = ns ++ picks .picked
 
@@ -189,17 +186,26 @@ module _ (t tags args : List ℕ) (s : State512) (start : startOf t tags args �
         (λ x. q .1 (x .0) (subst (λ y. Possible t tags y (x .0)) back (x .1)))
         (plays all .lively (functions t) (nodes t) tags (passes .check-tags))
 
-    -- the run with a budget, after any list of steps from a start
-    pub drive-demand : DriveDemand t tags args s ns r
-    drive-demand = record {
-      picked = picks .picked;
-      state = sym ends;
-      steps = taken-all;
-      number = sym (picks .number);
-      right = λ v e. let x = by-end (gave v) e in reads v (x .0) (x .1);
-      never-rests = λ e. rests (by-end atRest e);
-      never-barred = λ k p e. by-end (barred k p) e;
-    }
+    -- the run with a budget that picks these steps, after any list of steps from a start
+    pub picks-demand : (d : DriveDemand t tags args s ns r) × (d .picked ≡ picks .picked)
+    picks-demand = (
+      record {
+        picked = picks .picked;
+        state = sym ends;
+        steps = taken-all;
+        number = sym (picks .number);
+        right = λ v e. let x = by-end (gave v) e in reads v (x .0) (x .1);
+        never-rests = λ e. rests (by-end atRest e);
+        never-barred = λ k p e. by-end (barred k p) e;
+      },
+      refl,
+    )
+
+  -- .. and that picks whichever
+  pub drive-demand : (ns : List ℕ) (budget : ℕ) (r : Driven) → Drives t tags (playOf t tags s ns .state) budget r
+      → DriveDemand t tags args s ns r
+  drive-demand ns budget r drives =
+      picks-demand ns budget r (subst (λ c. DrivesAfter c t tags (playOf t tags s ns .state) budget r) (start-stands ns) drives) .0
 
 -- query and runs after any list of steps from a start
 pub after-steps : (t tags args : List ℕ) (s : State512) → startOf t tags args ≡ started s → (ns : List ℕ) → AfterSteps t tags args s ns

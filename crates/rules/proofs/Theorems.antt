@@ -5,17 +5,17 @@ use Prim.Native.Nat.{ℕ}
 use Rattle.table.specs.Check.{accepted, checkOf}
 use Rattle.rules.specs.State.{State512}
 use Rattle.rules.specs.Play.{Ask}
-use Rattle.rules.specs.Circuit.{started, startOf, playOf}
+use Rattle.rules.specs.Circuit.{started, startOf}
 use Rattle.rules.specs.Demand.{ThirdDemand, ReadingUnique}
 use Rattle.rules.specs.Companions.{UnderAnyTags, OwnStart, OwnList, ReadingFixed, ReadingWord, FitsFromStart, InAnyState, AfterSteps}
-use Rattle.rules.specs.Companions.{DriveDemand}
-use Rattle.rules.specs.First.{driveOf, FirstSteps}
+use Rattle.rules.specs.Companions.{FirstDemand}
+use Rattle.rules.specs.First.{FirstSteps}
 use Rattle.rules.specs.Widths.{NarrowFirst, FunctionBelow, ReadingBelow, AnswerBelow, StepNarrow, StatesBelow}
 use Rattle.rules.proofs.Demands as Demands
 use Rattle.rules.proofs.OwnList as OwnLists
 use Rattle.rules.proofs.EveryState as EveryState
 use Rattle.rules.proofs.RunFacts as RunFacts
-use Rattle.rules.proofs.FirstRuns as FirstRuns
+use Rattle.rules.proofs.FirstDemand as FirstDemand
 use Rattle.rules.proofs.Fits as FitsProof
 use Rattle.rules.proofs.Narrow as Narrow
 use Rattle.rules.proofs.MetBelow as Meets
@@ -81,12 +81,10 @@ in-any-state = EveryState.in-any-state
 pub after-steps : (t tags args : List ℕ) (s : State512) → startOf t tags args ≡ started s → (ns : List ℕ) → AfterSteps t tags args s ns
 after-steps = RunFacts.after-steps
 
--- the first possible step, which the query names and the run with a budget follows (document 02, Q-3)
+-- the first possible step, which the query names and the run with a budget follows (document 02, Q-3): in every state ..
 pub first-steps : (t tags : List ℕ) (s : State512) → FirstSteps t tags s
-first-steps = FirstRuns.first-steps
+first-steps = FirstDemand.first-steps
 
--- after steps from a start what is true of a run is true of that one
-pub first-demand : (t tags args : List ℕ) (s : State512) → startOf t tags args ≡ started s → (ns : List ℕ) (budget : ℕ)
-    → DriveDemand t tags args s ns (driveOf t tags (playOf t tags s ns .state) budget)
-first-demand t tags args s start ns budget =
-    after-steps t tags args s start ns .drive-demand budget _ (first-steps t tags (playOf t tags s ns .state) .drives budget)
+-- .. and after steps from a start: what the third demand says of this query and this run
+pub first-demand : (t tags args : List ℕ) (s : State512) → startOf t tags args ≡ started s → (ns : List ℕ) → FirstDemand t tags args s ns
+first-demand = FirstDemand.first-demand

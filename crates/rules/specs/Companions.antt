@@ -20,6 +20,7 @@ use Rattle.rules.specs.Play.{Ask, count, calls}
 use Rattle.rules.specs.Circuit.{started, opening, startOf, stepOf, playsOf, playOf, entriesOf, leavingsOf, Possible, actOf}
 use Rattle.rules.specs.Runs.{MainDone, mainValue, standing, gave, atRest, barred, Driven, Ran, runOf, RunPlays, Drives, Found}
 use Rattle.rules.specs.Runs.{nothing, Finds}
+use Rattle.rules.specs.First.{firstsOf, queryOf, driveOf}
 use Rattle.rules.specs.Demand.{Answers, DemandThree}
 
 -- x is what the next step does at a call of function f, k of the call's steps taken before: it is the (k + 1)st
@@ -165,3 +166,13 @@ pub record AfterSteps (t tags args : List ℕ) (s : State512) (ns : List ℕ) : 
   pub start-query : Finds t tags (playOf t tags s ns .state) nothing → (v : ℕ) × Answers (playOf t tags s ns) v
   -- a run with a budget
   pub drive-demand : (budget : ℕ) (r : Driven) → Drives t tags (playOf t tags s ns .state) budget r → DriveDemand t tags args s ns r
+
+-- the query and the run with a budget that go by the first possible step, after steps asked at the numbers ns from a start
+pub record FirstDemand (t tags args : List ℕ) (s : State512) (ns : List ℕ) : Type 0 where
+  -- the query says none exactly if main has answered
+  pub none : queryOf t tags (playOf t tags s ns .state) ≡ nothing → (v : ℕ) × Answers (playOf t tags s ns) v
+  pub over : (v : ℕ) → Answers (playOf t tags s ns) v → queryOf t tags (playOf t tags s ns .state) ≡ nothing
+  -- the run, and the steps that it picked are its trace
+  pub run : (budget : ℕ) → DriveDemand t tags args s ns (driveOf t tags (playOf t tags s ns .state) budget)
+  pub picked : (budget : ℕ) → run budget .picked
+      ≡ firstsOf t tags (playOf t tags s ns .state) (driveOf t tags (playOf t tags s ns .state) budget .steps)

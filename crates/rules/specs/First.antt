@@ -14,7 +14,7 @@ use Rattle.table.specs.Expressions.{bodyOf}
 use Rattle.rules.specs.State.{State512, view}
 use Rattle.rules.specs.Step.{Reply, taken, answered, denied, done}
 use Rattle.rules.specs.Circuit.{stepOf, playOf, Possible}
-use Rattle.rules.specs.Runs.{standing, mainValue, Ended, gave, atRest, spent, barred, Driven, Drives}
+use Rattle.rules.specs.Runs.{standing, MainDone, mainValue, Ended, gave, atRest, spent, barred, Driven, Drives}
 use Rattle.rules.specs.Runs.{Found, names, nothing, unasked, Finds}
 
 -- the test beside `IsTaken`
@@ -40,15 +40,17 @@ queryAfter (refused number place) n = unasked number place
 unfoldable pub queryOf : (t tags : List ℕ) → State512 → Found
 queryOf t tags s = queryAfter (standing t tags s) (firstOf t tags s)
 
--- the state after the first possible step, unchanged where there is none; after k of them
+-- the state after the first possible step, unchanged where there is none
 unfoldable pub onward : (t tags : List ℕ) → State512 → State512
 onward t tags s = stepOf t tags s (firstOf t tags s) .state
 
+-- after k such steps; past the last possible one it stands still
 unfoldable pub afterFirst : (t tags : List ℕ) → State512 → ℕ → State512
 afterFirst t tags s zero = s
 afterFirst t tags s (suc k) = afterFirst t tags (onward t tags s) k
 
--- the nodes of the first k of those steps: the trace that two benches compare
+-- the nodes of the first k of those steps: the trace that two benches compare, where a run took so many; past the last possible step it
+-- lists 0, which is no node
 unfoldable pub firstsOf : (t tags : List ℕ) → State512 → (k : ℕ) → List ℕ
 firstsOf t tags s zero = []
 firstsOf t tags s (suc k) = firstOf t tags s ∷ firstsOf t tags (onward t tags s) k
@@ -59,6 +61,10 @@ stays s e = record { steps = 0; ended = e; state = s }
 
 abbrev pub oneMore : Driven → Driven
 oneMore r = record { steps = suc (r .steps); ended = r .ended; state = r .state }
+
+-- k steps before what r says
+abbrev pub plus : ℕ → Driven → Driven
+plus k r = record { steps = k + r .steps; ended = r .ended; state = r .state }
 
 -- main's answer ends a run; else that no step is possible does; else it goes on as r says
 abbrev pub unlessOver : (t tags : List ℕ) → State512 → Driven → Driven
@@ -83,25 +89,30 @@ driveOf t tags s budget = driveAfter (standing t tags s) s (driveFrom t tags s b
 pub record First (t tags : List ℕ) (s : State512) (r : ℕ) : Type 0 where
   pub node : Range (nodes t) r
   pub possible : Possible t tags s r
-  pub lowest : (n : ℕ) → Possible t tags s n → r ≤ n
+  pub least : (n : ℕ) → Possible t tags s n → r ≤ n
 
--- the trace of a run is steps that are taken, one by one, as many as it tells, and leads to its state
+-- the trace of a run: asked one by one its steps are all taken, they are as many as the run tells, and they lead to its state
 pub record Traced (t tags : List ℕ) (s : State512) (r : Driven) : Type 0 where
   pub taken : playOf t tags s (firstsOf t tags s (r .steps)) .nodes ≡ firstsOf t tags s (r .steps)
-  pub number : length (firstsOf t tags s (r .steps)) ≡ r .steps
+  pub number : length (playOf t tags s (firstsOf t tags s (r .steps)) .nodes) ≡ r .steps
   pub state : playOf t tags s (firstsOf t tags s (r .steps)) .state ≡ r .state
 
 -- of every state s, also one that no start leads to
 pub record FirstSteps (t tags : List ℕ) (s : State512) : Type 0 where
-  -- 0 exactly if nothing is possible
+  -- 0 exactly if nothing is possible, and then any number of first steps changes nothing
   pub some : (firstOf t tags s ≡ 0 → ⊥) → First t tags s (firstOf t tags s)
   pub none : firstOf t tags s ≡ 0 → (n : ℕ) → Possible t tags s n → ⊥
-  -- the node that a query names
+  pub rests : firstOf t tags s ≡ 0 → (k : ℕ) → afterFirst t tags s k ≡ s
+  -- the node that a query names; where it isn't refused, it says none once main's root is done
   pub named : (n : ℕ) → queryOf t tags s ≡ names n → First t tags s n
-  -- what was true of query and run, whichever possible step they named or took, is true of them
+  pub over : (F N : ℕ) → standing t tags s ≡ accepted F N → MainDone t s → queryOf t tags s ≡ nothing
+  -- what holds whichever possible steps are named and taken
   pub finds : Finds t tags s (queryOf t tags s)
   pub drives : (budget : ℕ) → Drives t tags s budget (driveOf t tags s budget)
   pub traced : (budget : ℕ) → Traced t tags s (driveOf t tags s budget)
-  -- a run leaves the state that as many first steps make as it tells; those of two runs add up
+  -- a run leaves the state that as many first steps make as it tells; k of them and then j are k + j
   pub state : (budget : ℕ) → driveOf t tags s budget .state ≡ afterFirst t tags s (driveOf t tags s budget .steps)
   pub more : (k j : ℕ) → afterFirst t tags s (k + j) ≡ afterFirst t tags (afterFirst t tags s k) j
+  -- a run whose budget is spent, and another from the state that it left, are one run under both budgets
+  pub on : (k j : ℕ) → driveOf t tags s k .ended ≡ spent
+      → driveOf t tags s (k + j) ≡ plus (driveOf t tags s k .steps) (driveOf t tags (driveOf t tags s k .state) j)

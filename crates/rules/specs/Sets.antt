@@ -90,21 +90,21 @@ pub record Exact (t : List ℕ) (s : State512) (x : Sets) : Type 0 where
   pub placed : (m : ℕ) → Range (nodes t) m → Stays (setsOf t s) x m
   pub held : (m : ℕ) → Range (nodes t) m → x .held m ≡ setsOf t s .held m
 
--- What a move at node n makes of the sets x: y is fixed but for one node, which is to be read anew
+-- What a move at node n makes of the sets x. The three are armed, waiting and inside: y is fixed but for one node, to be read anew
 
 -- nodes open: these are armed and nothing else; node n is to be read anew
 pub record Opening (N : ℕ) (x y : Sets) (n : ℕ) (opens : ℕ → Type 0) : Type 0 where
   pub opened : (m : ℕ) → Range N m → opens m → (y .armed m ≡ true) × (y .waiting m ≡ false) × (y .inside m ≡ false)
   pub others : (m : ℕ) → Range N m → (m ≡ n → ⊥) → (opens m → ⊥) → Stays x y m
 
--- node n is done: it is in none; its parent is to be read anew, or, where n is a root, the calls inside its function are armed
+-- node n is done: it is in none of the three; its parent is to be read anew, or, where n is a root, the calls inside its function are armed
 pub record Ending (N : ℕ) (at : ℕ → Expr) (home up : ℕ → ℕ) (x y : Sets) (n : ℕ) : Type 0 where
   pub own : (y .armed n ≡ false) × (y .waiting n ≡ false) × (y .inside n ≡ false)
   pub armed : (m : ℕ) → Range N m → (m ≡ n → ⊥) → (m ≡ up n → ⊥)
       → y .armed m ≡ (x .armed m || (eqb (up n) 0 && (x .inside m && calls (at m) (home n))))
   pub others : (m : ℕ) → Range N m → (m ≡ n → ⊥) → (m ≡ up n → ⊥) → (y .waiting m ≡ x .waiting m) × (y .inside m ≡ x .inside m)
 
--- the body of g is as new: its root is armed, its other nodes are in none, the calls inside g aren't armed;
+-- the body of g is as new: its root is armed, its other nodes are in none of the three, the calls inside g aren't armed;
 -- those that enter it wait no longer and are inside
 pub record Renewing (N : ℕ) (body at : ℕ → Expr) (home : ℕ → ℕ) (x y : Sets) (g : ℕ) (enter : ℕ → Bool) : Type 0 where
   pub armed : (m : ℕ) → Range N m
