@@ -32,9 +32,6 @@ pub record From (t tags rows : List ℕ) (tracked : Bool) (top n budget : ℕ) (
   pub follows : tracked ≡ true → Three a w i × Follows t tags top n rows h s₀ (setsAs a w i h)
   pub single : tracked ≡ false → IsNode t n × (1 ≤ budget) × (entry (s₀ .status) 0 top ≡ 3 → ⊥) × (goes (actOf t s₀ n) ≡ true)
 
-neither : {X : Type 0} {b : Bool} → b ≡ true → b ≡ false → X
-neither p q = absurd (true≢false (sym p ∙ q))
-
 module _ (t tags rows : List ℕ) (tracked : Bool) (top n budget : ℕ) (s₀ : State512) (a₀ w₀ i₀ h₀ : List ℕ)
     (from : From t tags rows tracked top n budget s₀ a₀ w₀ i₀ h₀) where
   pub loop-start : Loop t tags rows tracked top n budget s₀ n 0 s₀ a₀ w₀ i₀ h₀
@@ -70,21 +67,19 @@ module _ (t tags rows : List ℕ) (tracked : Bool) (top n budget : ℕ) (s₀ : 
               first (inr x) = absurd (g .here (x .0))
 
       module _ (p : Plan) (q : Planned t s at p) (s′ : State512) (e : s′ ≡ performed t s at p) where
-        pub loop-tracked : tracked ≡ true → (a′ w′ i′ h′ : List ℕ) → Three a′ w′ i′ → length h′ ≡ 8 → (at′ : ℕ)
-            → at′ ≡ firstIn (setsAs a′ w′ i′ h′) 512 → Tracks t s′ (setsAs a′ w′ i′ h′)
-            → Loop t tags rows tracked top n budget s₀ at′ (k + 1) s′ a′ w′ i′ h′
-        loop-tracked b a′ w′ i′ h′ three size at′ f tr = record {
-          run = λ _. (
-            three,
-            size,
+        -- the sets of the next state and its first node where they are kept; else no node
+        pub loop-next : (a′ w′ i′ h′ : List ℕ) (at′ : ℕ)
+            → (tracked ≡ true → Three a′ w′ i′ × (length h′ ≡ 8) × Tracks t s′ (setsAs a′ w′ i′ h′) × (at′ ≡ firstIn (setsAs a′ w′ i′ h′) 512))
+            → (tracked ≡ false → at′ ≡ 0) → Loop t tags rows tracked top n budget s₀ at′ (k + 1) s′ a′ w′ i′ h′
+        loop-next a′ w′ i′ h′ at′ f z = record {
+          run = λ b. let x = f b in (
+            x .0,
+            x .1,
             run-next t tags top s₀ budget (agreed b) (main b) at k s (setsAs a w i h) (l .run b .2) (g .here)
-                (g .undone) (g .room) p q s′ e (setsAs a′ w′ i′ h′) tr at′ f,
+                (g .undone) (g .room) p q s′ e (setsAs a′ w′ i′ h′) (x .2) at′ (x .3),
           );
-          once = λ c. neither b c;
+          once = λ b. inr (z b, made (l .once b));
         }
-
-        pub loop-single : tracked ≡ false → Loop t tags rows tracked top n budget s₀ 0 (k + 1) s′ a w i h
-        loop-single b = record { run = λ c. neither c b; once = λ _. inr (refl, made (l .once b)) }
           where
             made : ((at ≡ n) × (k ≡ 0) × (s ≡ s₀)) ⊎ ((at ≡ 0) × Made t s₀ n s) → Made t s₀ n s′
             made (inl x) = (

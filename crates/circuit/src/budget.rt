@@ -77,7 +77,7 @@ fn end_of(
         return Ended::Answered(store::value_at(value, top));
     }
     let n = sets::first(armed, waiting, held);
-    if n.0 == 0 {
+    if n == 0 {
         return Ended::AtRest;
     }
     Ended::Spent
@@ -126,7 +126,7 @@ pub(crate) fn drive(
         &mut held,
     );
     let top = turn::top(table, cells);
-    let n = sets::first(&armed, &waiting, &held);
+    let n = Node(sets::first(&armed, &waiting, &held));
     let steps = steps::go(
         table,
         cells,

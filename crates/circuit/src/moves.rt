@@ -69,7 +69,7 @@ fn begun(
         if c.0 == n.0 + 1 {
             return c;
         }
-        return sets::first(armed, waiting, held);
+        return Node(sets::first(armed, waiting, held));
     }
     let k = tracking::read_anew(
         table,
@@ -85,7 +85,7 @@ fn begun(
     if k == 2 {
         return n;
     }
-    sets::first(armed, waiting, held)
+    Node(sets::first(armed, waiting, held))
 }
 
 // Node n has opened node m and is in second phase.
@@ -120,7 +120,7 @@ fn turned(
         inside,
         n,
     );
-    sets::first(armed, waiting, held)
+    Node(sets::first(armed, waiting, held))
 }
 
 // Function g is as new, entered or started again by node n.
@@ -152,7 +152,7 @@ fn called(
     if r.0 <= n.0 {
         return r;
     }
-    sets::first(armed, waiting, held)
+    Node(sets::first(armed, waiting, held))
 }
 
 // A callee that is left is free: the calls of it are held no longer. Whether one is.
@@ -250,15 +250,15 @@ fn ended(
     let p = decoded::parent(cells, n);
     if p.0 == 0 {
         arm_callers(rows, armed, inside, decoded::owner(cells, n));
-        return sets::first(armed, waiting, held);
+        return Node(sets::first(armed, waiting, held));
     }
     let d = decoded::next(cells, n);
     let k = lift(table, cells, armed, waiting, status, second, value, p, d);
     if k != 2 {
-        return sets::first(armed, waiting, held);
+        return Node(sets::first(armed, waiting, held));
     }
     if freed {
-        return sets::first(armed, waiting, held);
+        return Node(sets::first(armed, waiting, held));
     }
     p
 }
@@ -276,10 +276,12 @@ fn is_end(plan: Plan) -> bool
     }
 }
 
-// By the plan of node n, whose move was made. Both plans that end a node go one way, so that LLVM takes it into the loop.
+// By the plan of node n, whose move was made; 0 where no sets are kept. That is asked after the plan, and both plans that end a node go one
+// way: so LLVM makes one choice of this one and the one before it, in the loop.
 pub(crate) fn follow(
     table: &[u8],
     cells: &Cells,
+    tracked: bool,
     rows: &[u64],
     armed: &mut Set,
     waiting: &mut Set,
@@ -291,70 +293,89 @@ pub(crate) fn follow(
     n: Node,
     plan: Plan,
 ) -> Node
-    requires { ⌜ Read (now table) (now cells) × IsNode (now table) (n .0) × Sound (now table) (n .0) plan × Rowed (now table) (now rows)
-        × Three (now armed) (now waiting) (now inside) × (length (now held) ≡ 8)
-        × (n .0 ≡ firstIn (setsAs (now armed) (now waiting) (now inside) (now held)) 512) ⌝ }
-    ensures { λ r. ⌜ Onward (now (table .entry)) (n .0) plan (now (status .entry)) (now (second .entry)) (now (value .entry))
+    requires { ⌜ Read (now table) (now cells) × IsNode (now table) (n .0) × Sound (now table) (n .0) plan
+        × (tracked ≡ true → Rowed (now table) (now rows) × Three (now armed) (now waiting) (now inside) × (length (now held) ≡ 8)
+        × (n .0 ≡ firstIn (setsAs (now armed) (now waiting) (now inside) (now held)) 512)) ⌝ }
+    ensures { λ r. ⌜ (tracked ≡ true → Onward (now (table .entry)) (n .0) plan (now (status .entry)) (now (second .entry))
+        (now (value .entry))
         (setsAs (now (armed .entry)) (now (waiting .entry)) (now (inside .entry)) (now (held .entry))) (r .0)
-        (now (armed .exit)) (now (waiting .exit)) (now (inside .exit)) (now (held .exit)) ⌝ }
+        (now (armed .exit)) (now (waiting .exit)) (now (inside .exit)) (now (held .exit))) × (tracked ≡ false → r .0 ≡ 0) ⌝ }
 {
     if is_end(plan) {
-        return ended(
-            table,
-            cells,
-            rows,
-            armed,
-            waiting,
-            inside,
-            held,
-            status,
-            second,
-            value,
-            n,
-            plan,
-        );
+        if tracked {
+            return ended(
+                table,
+                cells,
+                rows,
+                armed,
+                waiting,
+                inside,
+                held,
+                status,
+                second,
+                value,
+                n,
+                plan,
+            );
+        }
+        return Node(0);
     }
     match plan {
-        Plan::Begins => begun(
-            table,
-            cells,
-            armed,
-            waiting,
-            inside,
-            held,
-            status,
-            second,
-            value,
-            n,
-        ),
-        Plan::Turns(m) => turned(
-            table,
-            cells,
-            armed,
-            waiting,
-            inside,
-            held,
-            status,
-            second,
-            value,
-            n,
-            m,
-        ),
-        Plan::Enters(g, anew) => called(
-            table,
-            cells,
-            rows,
-            armed,
-            waiting,
-            inside,
-            held,
-            status,
-            second,
-            value,
-            n,
-            g,
-            anew,
-        ),
+        Plan::Begins => {
+            if tracked {
+                return begun(
+                    table,
+                    cells,
+                    armed,
+                    waiting,
+                    inside,
+                    held,
+                    status,
+                    second,
+                    value,
+                    n,
+                );
+            }
+            Node(0)
+        }
+        Plan::Turns(m) => {
+            if tracked {
+                return turned(
+                    table,
+                    cells,
+                    armed,
+                    waiting,
+                    inside,
+                    held,
+                    status,
+                    second,
+                    value,
+                    n,
+                    m,
+                );
+            }
+            Node(0)
+        }
+        Plan::Enters(g, anew) => {
+            if tracked {
+                return called(
+                    table,
+                    cells,
+                    rows,
+                    armed,
+                    waiting,
+                    inside,
+                    held,
+                    status,
+                    second,
+                    value,
+                    n,
+                    g,
+                    anew,
+                );
+            }
+            Node(0)
+        }
         Plan::Finishes(_) => Node(0),
         Plan::Leaves(_, _) => Node(0),
     }

@@ -115,9 +115,10 @@ fn low(x: u64) -> u16
     u64::trailing_zeros(x) as u16
 }
 
-// The lowest node that is armed, or waiting and not held; 0 if there is none.
-pub(crate) fn first(armed: &Set, waiting: &Set, held: &Set) -> Node
-    ensures { λ r. ⌜ ((inside : List ℕ) → r .0
+// The lowest node that is armed, or waiting and not held, as a number; 0 if there is none. A struct would come back through memory, and
+// every step that looks would wait for it.
+pub(crate) fn first(armed: &Set, waiting: &Set, held: &Set) -> u16
+    ensures { λ r. ⌜ ((inside : List ℕ) → r
         ≡ firstIn (setsAs (now (armed .entry)) (now (waiting .entry)) inside (now (held .entry))) 512) ⌝ }
 {
     let mut i: usize = 0;
@@ -126,9 +127,9 @@ pub(crate) fn first(armed: &Set, waiting: &Set, held: &Set) -> Node
         let x = armed[i] | (w ^ (w & held[i]));
         if x != 0 {
             let n = (64 * i) as u16 + low(x) + 1;
-            return Node(n);
+            return n;
         }
         i += 1;
     }
-    Node(0)
+    0
 }

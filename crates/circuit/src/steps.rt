@@ -95,23 +95,21 @@ pub(crate) fn go(
             plan,
         );
         taken += 1;
-        at = 0;
-        if tracked {
-            at = moves::follow(
-                table,
-                cells,
-                rows,
-                armed,
-                waiting,
-                inside,
-                held,
-                status,
-                second,
-                value,
-                m,
-                plan,
-            ).0;
-        }
+        at = moves::follow(
+            table,
+            cells,
+            tracked,
+            rows,
+            armed,
+            waiting,
+            inside,
+            held,
+            status,
+            second,
+            value,
+            m,
+            plan,
+        ).0;
     }
     taken
 }

@@ -11,7 +11,7 @@ use Rattle.circuit.specs.Meaning.{stateAs}
 use Rattle.circuit.specs.Working.{Planned}
 use Rattle.circuit.proofs.PerformLaws.{sound}
 use Rattle.circuit.proofs.StepsLaws.{Going, goes-on}
-use Rattle.circuit.proofs.LoopLaws.{Loop, From, loop-start, loop-node, loop-tracked, loop-single, loop-followed, loop-made}
+use Rattle.circuit.proofs.LoopLaws.{Loop, From, loop-start, loop-node, loop-next, loop-followed, loop-made}
 use Rattle.circuit.proofs.steps.go.Statement.{statement}
 use Rattle.circuit.proofs.steps.go.Tie as tie
 
@@ -112,20 +112,14 @@ add-taken c =
 
 follow-requires : tie.Need-follow-requires Inv-loop μ-loop
 follow-requires c κs =
-    let yes : tie.Then2 Inv-loop μ-loop = search in
     let d : Done = search in
     let p = plan-of d in
     let h = head (turn p) in
-    let s = start h in
-    let e = yes .if2 .taken in
-    let sets = h .loop .inv .0 .run e in (
+    let s = start h in (
       s .pre .0,
       here (turn p) .0,
       sound _ (s .pre .0 .taken) _ (here (turn p) .0) _ _ _ _ _ (p .plan-at .result) (planned p),
-      s .pre .4 e .1 .rowed,
-      sets .0,
-      sets .1,
-      sets .2 .first,
+      λ e. let sets = h .loop .inv .0 .run e in (s .pre .4 e .1 .rowed, sets .0, sets .1, sets .2 .first),
     )
 
 loop-less : tie.Need-loop-less Inv-loop μ-loop
@@ -136,33 +130,18 @@ loop-less c =
 
 loop-again : tie.Need-loop-again Inv-loop μ-loop
 loop-again c =
-    let yes : tie.Then2 Inv-loop μ-loop = search in
-    let d : Done = search in
-    let p = plan-of d in
-    let h = head (turn p) in
-    let e = yes .if2 .taken in
-    let f = c .follow .ensures in
-    let r = h .loop .inv .0 .run e .2 in
-    let z = f .carries _ _ (state h) (r .turning .sized) (planned p) (d .perform .ensures)
-    (record { exact = r .turning .exact; past = r .past }) in (
-      loop-tracked _ _ _ _ _ _ _ _ _ _ _ _ (from (start h)) _ _ (state h) _ _ _ _ (h .loop .inv .0) (on (turn p))
-          (p .plan-at .result) (planned p) _ (d .perform .ensures) e _ _ _ _ (f .three) (f .size) _ (z .1) (z .0),
-      h .loop .inv .1,
-    )
-
-loop-less-2 : tie.Need-loop-less-2 Inv-loop μ-loop
-loop-less-2 c =
-    let d : Done = search in
-    let t = turn (plan-of d) in
-    omega (arith, on t .room)
-
-loop-again-2 : tie.Need-loop-again-2 Inv-loop μ-loop
-loop-again-2 c =
+    let f : tie.After-follow Inv-loop μ-loop = search in
     let d : Done = search in
     let p = plan-of d in
     let h = head (turn p) in (
-      loop-single _ _ _ _ _ _ _ _ _ _ _ _ (from (start h)) _ _ (state h) _ _ _ _ (h .loop .inv .0) (on (turn p))
-          (p .plan-at .result) (planned p) _ (d .perform .ensures) (c .if2 .left),
+      loop-next _ _ _ _ _ _ _ _ _ _ _ _ (from (start h)) _ _ (state h) _ _ _ _ (h .loop .inv .0) (on (turn p))
+          (p .plan-at .result) (planned p) _ (d .perform .ensures) _ _ _ _ _
+          (λ e. let r = h .loop .inv .0 .run e .2 in
+          let o = f .follow .ensures .0 e in
+          let z = o .carries _ _ (state h) (r .turning .sized) (planned p) (d .perform .ensures)
+          (record { exact = r .turning .exact; past = r .past }) in
+          (o .three, o .size, z .0, z .1))
+          (f .follow .ensures .1),
       h .loop .inv .1,
     )
 
@@ -189,6 +168,4 @@ go-spec =
     follow-requires
     loop-less
     loop-again
-    loop-less-2
-    loop-again-2
     returns)
