@@ -69,7 +69,8 @@ module _ (t tags rows : List ℕ) (tracked : Bool) (top n budget : ℕ) (s₀ : 
       module _ (p : Plan) (q : Planned t s at p) (s′ : State512) (e : s′ ≡ performed t s at p) where
         -- the sets of the next state and its first node where they are kept; else no node
         pub loop-next : (a′ w′ i′ h′ : List ℕ) (at′ : ℕ)
-            → (tracked ≡ true → Three a′ w′ i′ × (length h′ ≡ 8) × Tracks t s′ (setsAs a′ w′ i′ h′) × (at′ ≡ firstIn (setsAs a′ w′ i′ h′) 512))
+            → (tracked ≡ true → Three a′ w′ i′ × (length h′ ≡ 8) × Tracks t s′ (setsAs a′ w′ i′ h′)
+            × (at′ ≡ firstIn (setsAs a′ w′ i′ h′) 512))
             → (tracked ≡ false → at′ ≡ 0) → Loop t tags rows tracked top n budget s₀ at′ (k + 1) s′ a′ w′ i′ h′
         loop-next a′ w′ i′ h′ at′ f z = record {
           run = λ b. let x = f b in (
