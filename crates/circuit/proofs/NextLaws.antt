@@ -6,7 +6,7 @@ use mathlib.Core.List.{List}
 use native.Mathlib.Omega.{arith}
 use native.Mathlib.Decide.{ℕ-discrete}
 use lib.Dec.{eqb}
-use borrow.Author.Tests.{eq-eqb, ne-eqb}
+use borrow.Author.Tests.{eq-eqb, ne-eqb, eqb-true}
 use Rattle.table.specs.Pick.{pick, Range}
 use Rattle.table.specs.Syntax.{id}
 use Rattle.table.specs.Bytes.{nodes, root, first, next}
@@ -28,6 +28,7 @@ use Rattle.circuit.specs.Packed.{Tracks, Places, Arms, Renews}
 use Rattle.circuit.specs.Following.{ends, frees, Grows}
 use Rattle.circuit.proofs.AheadLaws.{below-first, first-is, ready-stays, armed-ready, never-readier}
 use Rattle.circuit.proofs.ChainLaws.{ok}
+use Rattle.circuit.proofs.SortLaws.{sort-open}
 use Rattle.circuit.proofs.OpensLaws.{opens-first, opens-above, child-in}
 use Rattle.circuit.proofs.TrackLaws.{inside-first}
 use Rattle.circuit.proofs.UpdateLaws.{node-bit}
@@ -202,3 +203,56 @@ sibling t fair n i up p ep d ed some =
     let k : In (next t n) (children t (parent t n)) =
     subst (λ q. In (next t n) (children t q)) same (child-in t fair (next t n) at (λ y. up (sym same ∙ y))) in
     (subst (IsNode t) (sym ed) at, subst (λ q. In d (children t q)) (sym ep) (subst (λ q. In q (children t (parent t n))) (sym ed) k))
+
+-- the sibling of a node that is done: it is open and has the next number, and the parent has no step
+module _ (t : List ℕ) (fair : Taken t) (n : ℕ) (i : IsNode t n) (up : parent t n ≡ 0 → ⊥) (u : ℕ) (eu : u ≡ parent t n) (x y z : Sets)
+    (e : n ≡ firstIn x 512) (pl : Places n false false false x y) (k : ℕ) (g : Bool) (gr : Grows u k g y z)
+    (held : (m : ℕ) → Range (nodes t) m → z .held m ≡ x .held m) (s : State512) (tr : Tracks t s z) where
+  above : IsNode t u
+  above = subst (IsNode t) (sym eu) (parent-node t (ok t fair .linking) n i up)
+
+  under : u < n
+  under = omega (arith, eu, parent-lower t n (i .0))
+
+  not-ready : (m : ℕ) → z .armed m ≡ false → z .waiting m ≡ false → ready z m ≡ false
+  not-ready m a w = (λ j. a j || (w j && not (z .held m)))
+
+  own-none : ready z n ≡ false
+  own-none =
+      let v = gr .others n (node-bit t fair n i) (λ c. omega (arith, c, under)) in
+      not-ready n (v .0 ∙ pl .here .0) (v .1 ∙ pl .here .1)
+
+  parent-none : 0 ≡ sort (actOf t s u) → ready z u ≡ false
+  parent-none h =
+      let v = tr .exact .placed u above in
+      not-ready u (v .0 ∙ ap (λ j. eqb j 2) (sym h)) (v .1 ∙ ap (λ j. eqb j 1) (sym h))
+
+  lower-none : (m : ℕ) → 1 ≤ m → m < n → (m ≡ u → ⊥) → ready z m ≡ false
+  lower-none m p q d =
+      let b : Bit m = (p, omega (arith, q, i .1, ok t fair .N-high)) in
+      let a = gr .others m b d in
+      let v = pl .others m b (λ c. omega (arith, c, q)) in
+      ready-stays x z m (a .0 ∙ v .0, a .1 ∙ v .1, a .2 ∙ v .2) (held m (p, omega (arith, q, i .1)))
+      ∙ below-first x n e (i .0) m p q
+
+  pub beside-first : 0 ≡ sort (actOf t s u) → (d : ℕ) → IsNode t d → d ≡ n + 1 → entry (s .status) 0 d ≡ 1 → d ≡ firstIn z 512
+  beside-first h d j ed o =
+      first-is z d (j .0) (omega (arith, j .1, ok t fair .N-high))
+      (armed-ready z d (tr .exact .placed d j .0
+      ∙ ap (λ c. eqb c 2) (sym (sort-open t fair d j (s .status) (s .second) (s .value) (s .registers) (s .occupant) o))))
+      (λ m p q. go m p q (ℕ-discrete m n) (ℕ-discrete m u))
+    where
+      go : (m : ℕ) → 1 ≤ m → m < d → Dec (m ≡ n) → Dec (m ≡ u) → ready z m ≡ false
+      go m p q (yes a) b = subst (λ c. ready z c ≡ false) (sym a) own-none
+      go m p q (no a) (yes b) = subst (λ c. ready z c ≡ false) (sym b) (parent-none h)
+      go m p q (no a) (no b) = lower-none m p (omega (arith, q, a, ed)) b
+
+-- open, and next in number
+pub beside-so : (status : List ℕ) (n d : ℕ) (b : Bool) → b ≡ (eqb d (n + 1) && eqb (entry status 0 d) 1) → b ≡ true
+    → (d ≡ n + 1) × (entry status 0 d ≡ 1)
+beside-so status n d b e h = go (eqb d (n + 1)) (eqb (entry status 0 d) 1) refl refl (sym e ∙ h)
+  where
+    go : (p q : Bool) → eqb d (n + 1) ≡ p → eqb (entry status 0 d) 1 ≡ q → (p && q) ≡ true → (d ≡ n + 1) × (entry status 0 d ≡ 1)
+    go true true a c k = (eqb-true d (n + 1) a, eqb-true (entry status 0 d) 1 c)
+    go true false a c k = absurd (true≢false (sym k))
+    go false q a c k = absurd (true≢false (sym k))

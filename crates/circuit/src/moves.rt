@@ -223,6 +223,17 @@ fn lift(
     k
 }
 
+// Whether d is open and has the number after that of n.
+fn is_beside(status: &[u8; 512], n: Node, d: Node) -> bool
+    requires { ⌜ (n .0 ≤ 512) × (d .0 ≤ 512) ⌝ }
+    ensures { λ r. ⌜ r ≡ (eqb (d .0) (n .0 + 1) && eqb (entry (now (status .entry)) 0 (d .0)) 1) ⌝ }
+{
+    if d.0 != n.0 + 1 {
+        return false;
+    }
+    store::status_at(status, d) == 1
+}
+
 // Node n is done; where it is a root, the calls inside its function may leave.
 fn ended(
     table: &[u8],
@@ -254,13 +265,19 @@ fn ended(
     }
     let d = decoded::next(cells, n);
     let k = lift(table, cells, armed, waiting, status, second, value, p, d);
-    if k != 2 {
-        return Node(sets::first(armed, waiting, held));
-    }
     if freed {
         return Node(sets::first(armed, waiting, held));
     }
-    p
+    if k == 2 {
+        return p;
+    }
+    if k == 0 {
+        if is_beside(status, n, d) {
+            return d;
+        }
+        return Node(sets::first(armed, waiting, held));
+    }
+    Node(sets::first(armed, waiting, held))
 }
 
 // Whether a node is done by the plan.

@@ -1,15 +1,17 @@
 -- `moves::ended` meets its contract: a root, then by what its parent has come to.
 use native.Mathlib.Omega.{arith}
+use native.Mathlib.Decide.{ℕ-discrete}
+use Prim.Native.Nat.{_+_, _≤_}
 use mathlib.Core.Path.{_≡_, subst, sym, _∙_}
-use Rattle.table.specs.Bytes.{next}
+use Rattle.table.specs.Bytes.{nodes, next}
 use Rattle.table.specs.Naming.{owner, parent}
 use Rattle.table.specs.Working.{IsNode}
 use Rattle.table.proofs.Reading.{told}
-use Rattle.table.proofs.Family.{parent-node}
+use Rattle.table.proofs.Family.{parent-node, next-node}
 use Rattle.circuit.proofs.ActBy.{own-in}
 use Rattle.circuit.proofs.ChainLaws.{ok}
 use Rattle.circuit.proofs.FollowLaws.{ended-so, follows-none, grown-so}
-use Rattle.circuit.proofs.NextLaws.{held-kept, lifted-first, sibling}
+use Rattle.circuit.proofs.NextLaws.{held-kept, lifted-first, sibling, beside-so, beside-first}
 use Rattle.circuit.proofs.UpdateLaws.{node-bit, ended-by}
 use borrow.Author.Needs.{needs}
 use Rattle.circuit.proofs.moves.ended.Statement.{statement}
@@ -95,6 +97,27 @@ above c =
     let s = start (reads c) in
     subst (IsNode _) (sym (parents (reads c))) (parent-node _ (ok _ (s .pre .0 .taken) .linking) _ (s .pre .1) (up c))
 
+-- the next sibling, as it was read
+abbrev start-next : tie.After-next → tie.Start
+start-next c = search
+
+nexts : (c : tie.After-next) → c .next .result .0 ≡ next (start-next c .args .table .now) (start-next c .args .n .0)
+nexts c = told _ _ (start-next c .pre .0) _ (start-next c .pre .1) 5 _ (omega arith) (c .next .ensures)
+
+next-high : (c : tie.After-next) → c .next .result .0 ≤ nodes (start-next c .args .table .now)
+next-high c = go (ℕ-discrete (c .next .result .0) 0)
+  where
+    go : Dec (c .next .result .0 ≡ 0) → c .next .result .0 ≤ nodes (start-next c .args .table .now)
+    go (yes z) = omega (arith, z)
+    go (no z) =
+        let s = start-next c in
+        let i = next-node _ (ok _ (s .pre .0 .taken) .linking) _ (s .pre .1) (λ y. z (nexts c ∙ y)) in
+        omega (arith, i .1, nexts c)
+
+sibling-in : (c : tie.After-next) → c .next .result .0 ≡ start-next c .args .n .0 + 1
+    → IsNode (start-next c .args .table .now) (c .next .result .0)
+sibling-in c e = (omega (arith, e), next-high c)
+
 lift-requires : tie.Need-lift-requires
 lift-requires c κs =
     let d : tie.After-next = search in
@@ -118,6 +141,7 @@ first-requires-2 c κs = search needs
 
 returns-2 : tie.Need-returns-2
 returns-2 c =
+    let of : tie.After-first2 = search in
     let l : tie.After-lift = search in
     let some : tie.Else1 = search in
     let placed : tie.After-place = search in
@@ -127,45 +151,20 @@ returns-2 c =
     let fair = s .pre .0 .taken in
     let z = placed .place .ensures in
     let w = l .lift .ensures in
+    let f = freed .free .ensures in
     record {
       three = record { armed = w .0; waiting = w .1; inside = z .0 .inside };
-      size = freed .free .ensures .1;
+      size = f .1;
       carries = λ d e s₀ sized q eq tr. (
         grown-so _ fair _ (s .pre .1) (up some) (s .args .plan) (s .pre .7) s₀ sized q _ eq _ _ _ _ _ _ _ _ _ _ tr (z .1 _) _ (parents p)
-            (λ v m r. freed .free .ensures .2 (s .args .armed .now) (s .args .waiting .now) (s .args .inside .now)
-            v m (s .pre .7) r) _ (w .2 d e) (w .3),
-        c .first2 .ensures _,
+            (λ v m r. f .2 (s .args .armed .now) (s .args .waiting .now) (s .args .inside .now) v m (s .pre .7) r) _ (w .2 d e) (w .3),
+        of .first2 .ensures _,
       );
     }
-
-first-requires-3 : tie.Need-first-requires-3
-first-requires-3 c κs = search needs
 
 returns-3 : tie.Need-returns-3
 returns-3 c =
-    let l : tie.After-lift = search in
-    let some : tie.Else1 = search in
-    let placed : tie.After-place = search in
-    let freed : tie.After-free = search in
-    let p = reads some in
-    let s = start p in
-    let fair = s .pre .0 .taken in
-    let z = placed .place .ensures in
-    let w = l .lift .ensures in
-    record {
-      three = record { armed = w .0; waiting = w .1; inside = z .0 .inside };
-      size = freed .free .ensures .1;
-      carries = λ d e s₀ sized q eq tr. (
-        grown-so _ fair _ (s .pre .1) (up some) (s .args .plan) (s .pre .7) s₀ sized q _ eq _ _ _ _ _ _ _ _ _ _ tr (z .1 _) _ (parents p)
-            (λ v m r. freed .free .ensures .2 (s .args .armed .now) (s .args .waiting .now) (s .args .inside .now)
-            v m (s .pre .7) r) _ (w .2 d e) (w .3),
-        c .first3 .ensures _,
-      );
-    }
-
-returns-4 : tie.Need-returns-4
-returns-4 c =
-    let two : tie.Else2 = search in
+    let kept : tie.Else2 = search in
     let l : tie.After-lift = search in
     let some : tie.Else1 = search in
     let placed : tie.After-place = search in
@@ -183,9 +182,103 @@ returns-4 c =
         grown-so _ fair _ (s .pre .1) (up some) (s .args .plan) (s .pre .7) s₀ sized q _ eq _ _ _ _ _ _ _ _ _ _ tr (z .1 _) _ (parents p)
             (λ v m r. f .2 (s .args .armed .now) (s .args .waiting .now) (s .args .inside .now) v m (s .pre .7) r) _ (w .2 d e) (w .3),
         lifted-first _ fair _ (s .pre .1) (up some) _ (parents p) _ _ _ (s .pre .6)
-            (record { here = z .1 (s .args .held .now) .here; others = z .1 (s .args .held .now) .others }) _ _ (w .3 _ _) (two .if2 .left)
+            (record { here = z .1 (s .args .held .now) .here; others = z .1 (s .args .held .now) .others }) _ _ (w .3 _ _)
+            (c .if3 .taken)
             (λ m r. f .2 (s .args .armed .now) (s .args .waiting .now) (s .args .inside .now) (s .args .value .now) m (s .pre .7) r
-            ∙ held-kept _ _ _ _ m (s .args .plan) (s .pre .7) (sym (f .0) ∙ c .if3 .left)),
+            ∙ held-kept _ _ _ _ m (s .args .plan) (s .pre .7) (sym (f .0) ∙ kept .if2 .left)),
+      );
+    }
+
+is-beside-requires : tie.Need-is-beside-requires
+is-beside-requires c κs =
+    let d : tie.After-next = search in
+    let some : tie.Else1 = search in
+    let s = start (reads some) in
+    let high = ok _ (s .pre .0 .taken) .N-high in
+    (omega (arith, s .pre .1 .1, high), omega (arith, next-high d, high))
+
+returns-4 : tie.Need-returns-4
+returns-4 c =
+    let b : tie.After-is-beside = search in
+    let none : tie.Then4 = search in
+    let kept : tie.Else2 = search in
+    let n : tie.After-next = search in
+    let o = beside-so _ _ _ _ (b .is-beside .ensures) (c .if5 .taken) in
+    let l : tie.After-lift = search in
+    let some : tie.Else1 = search in
+    let placed : tie.After-place = search in
+    let freed : tie.After-free = search in
+    let p = reads some in
+    let s = start p in
+    let fair = s .pre .0 .taken in
+    let z = placed .place .ensures in
+    let w = l .lift .ensures in
+    let f = freed .free .ensures in
+    record {
+      three = record { armed = w .0; waiting = w .1; inside = z .0 .inside };
+      size = f .1;
+      carries = λ d e s₀ sized q eq tr. (
+        grown-so _ fair _ (s .pre .1) (up some) (s .args .plan) (s .pre .7) s₀ sized q _ eq _ _ _ _ _ _ _ _ _ _ tr (z .1 _) _ (parents p)
+            (λ v m r. f .2 (s .args .armed .now) (s .args .waiting .now) (s .args .inside .now) v m (s .pre .7) r) _ (w .2 d e) (w .3),
+        beside-first _ fair _ (s .pre .1) (up some) _ (parents p) _ _ _ (s .pre .6)
+            (record { here = z .1 (s .args .held .now) .here; others = z .1 (s .args .held .now) .others }) _ _ (w .3 _ _)
+            (λ m r. f .2 (s .args .armed .now) (s .args .waiting .now) (s .args .inside .now) (s .args .value .now) m (s .pre .7) r
+            ∙ held-kept _ _ _ _ m (s .args .plan) (s .pre .7) (sym (f .0) ∙ kept .if2 .left))
+            _ (grown-so _ fair _ (s .pre .1) (up some) (s .args .plan) (s .pre .7) s₀ sized q _ eq _ _ _ _ _ _ _ _ _ _ tr (z .1 _) _
+            (parents p) (λ v m r. f .2 (s .args .armed .now) (s .args .waiting .now) (s .args .inside .now) v m (s .pre .7) r)
+            _ (w .2 d e) (w .3)) (sym (none .if4 .taken) ∙ w .2 d e) _ (sibling-in n (o .0)) (o .0) (o .1),
+      );
+    }
+
+first-requires-3 : tie.Need-first-requires-3
+first-requires-3 c κs = search needs
+
+returns-5 : tie.Need-returns-5
+returns-5 c =
+    let of : tie.After-first3 = search in
+    let l : tie.After-lift = search in
+    let some : tie.Else1 = search in
+    let placed : tie.After-place = search in
+    let freed : tie.After-free = search in
+    let p = reads some in
+    let s = start p in
+    let fair = s .pre .0 .taken in
+    let z = placed .place .ensures in
+    let w = l .lift .ensures in
+    let f = freed .free .ensures in
+    record {
+      three = record { armed = w .0; waiting = w .1; inside = z .0 .inside };
+      size = f .1;
+      carries = λ d e s₀ sized q eq tr. (
+        grown-so _ fair _ (s .pre .1) (up some) (s .args .plan) (s .pre .7) s₀ sized q _ eq _ _ _ _ _ _ _ _ _ _ tr (z .1 _) _ (parents p)
+            (λ v m r. f .2 (s .args .armed .now) (s .args .waiting .now) (s .args .inside .now) v m (s .pre .7) r) _ (w .2 d e) (w .3),
+        of .first3 .ensures _,
+      );
+    }
+
+first-requires-4 : tie.Need-first-requires-4
+first-requires-4 c κs = search needs
+
+returns-6 : tie.Need-returns-6
+returns-6 c =
+    let of : tie.After-first4 = search in
+    let l : tie.After-lift = search in
+    let some : tie.Else1 = search in
+    let placed : tie.After-place = search in
+    let freed : tie.After-free = search in
+    let p = reads some in
+    let s = start p in
+    let fair = s .pre .0 .taken in
+    let z = placed .place .ensures in
+    let w = l .lift .ensures in
+    let f = freed .free .ensures in
+    record {
+      three = record { armed = w .0; waiting = w .1; inside = z .0 .inside };
+      size = f .1;
+      carries = λ d e s₀ sized q eq tr. (
+        grown-so _ fair _ (s .pre .1) (up some) (s .args .plan) (s .pre .7) s₀ sized q _ eq _ _ _ _ _ _ _ _ _ _ tr (z .1 _) _ (parents p)
+            (λ v m r. f .2 (s .args .armed .now) (s .args .waiting .now) (s .args .inside .now) v m (s .pre .7) r) _ (w .2 d e) (w .3),
+        of .first4 .ensures _,
       );
     }
 
@@ -204,6 +297,10 @@ ended-spec =
     lift-requires
     first-requires-2
     returns-2
-    first-requires-3
     returns-3
-    returns-4)
+    is-beside-requires
+    returns-4
+    first-requires-3
+    returns-5
+    first-requires-4
+    returns-6)
