@@ -23,7 +23,7 @@ const ROUNDS: u32 = 20;
 /// Steps that the reference, which is slow, takes too before anything is timed.
 const CHECKED: u32 = 1_000;
 
-/// Time a step against the fast baseline's, and at the largest size against that at the smallest.
+/// Time a step against the plain fast baseline's, and at the largest size against that at the smallest.
 const BOUND: f64 = 1.5;
 const GROWTH_BOUND: f64 = 1.5;
 
@@ -35,8 +35,17 @@ const MULT: &str = "fun mult(x, y, acc) =
   then acc
   else mult(double(x), halve(y), if lowbit(y) then add(acc, x) else acc)";
 
-const COLUMNS: [(&str, usize); 5] =
-    [("proved steps/s", 0), ("fast steps/s", 0), ("proved ns a step", 2), ("fast ns a step", 2), ("ratio", 2)];
+/// The bound speaks of the plain baseline; the one with sets as long as a design needs is shown beside it.
+const COLUMNS: [(&str, usize); 8] = [
+    ("proved steps/s", 0),
+    ("fast steps/s", 0),
+    ("sized steps/s", 0),
+    ("proved ns a step", 2),
+    ("fast ns a step", 2),
+    ("sized ns a step", 2),
+    ("ratio", 2),
+    ("ratio to sized", 2),
+];
 
 pub fn section(ratios: &mut Ratios) {
     let section = Section::new("run on a budget, medians over all runs", "nodes", &COLUMNS);
@@ -72,7 +81,7 @@ pub fn section(ratios: &mut Ratios) {
     ratios.add(&label, growth, GROWTH_BOUND);
 }
 
-/// A start, as both have it, and the steps that a run takes from it.
+/// A start, as all have it, and the steps that a run takes from it.
 struct Job {
     table: Vec<u8>,
     tags: Vec<u8>,
@@ -83,8 +92,8 @@ struct Job {
 }
 
 impl Job {
-    /// The first steps of all three are at the same nodes and come out alike, and so does the whole run of the two that
-    /// are timed.
+    /// The first steps of all four are at the same nodes and come out alike, and so does the whole run of the three
+    /// that are timed.
     fn new(table: Vec<u8>, arguments: &[u32], budget: u32) -> Job {
         let Begun { tags, mut own, proved, fast } = Begun::new(&table, arguments);
         let few = budget.min(CHECKED);
@@ -94,6 +103,11 @@ impl Job {
         assert_eq!(checked.same_as(&own), Ok(()));
         let (mut whole, mut nodes) = (fast.clone(), Vec::new());
         let told = fast::run_watched(&table, &tags, &mut whole, budget, |node| nodes.push(Node(node)));
+        let (mut sized, mut sized_nodes) = (fast.clone(), Vec::new());
+        let sized_told =
+            fast::run_sized_watched(&table, &tags, &mut sized, budget, |node| sized_nodes.push(Node(node)));
+        assert_eq!(sized_told, told);
+        assert!(sized_nodes == nodes && sized == whole);
         let (steps, ending) = told.expect("a run");
         assert_eq!(nodes[..trace.0.len()], trace.0);
         let ending = match ending {
@@ -150,7 +164,14 @@ fn run_fast(job: &Job) {
     black_box(state);
 }
 
-/// The proved code's nanoseconds a step, and the ratio to the fast baseline's.
+fn run_sized(job: &Job) {
+    let mut state = job.fast.clone();
+    let told = fast::run_sized(black_box(&job.table), &job.tags, &mut state, job.budget);
+    assert!(told.is_ok());
+    black_box(state);
+}
+
+/// The proved code's nanoseconds a step, and the ratio to the plain fast baseline's.
 #[derive(Clone, Copy)]
 struct Row {
     proved: f64,
@@ -159,11 +180,10 @@ struct Row {
 
 /// Prints a row, whose jobs have as many steps each.
 fn row(section: &Section, label: &str, jobs: &[Job]) -> Row {
-    let times = medians(jobs, 0, [&run_proved, &run_fast]);
-    let [proved, fast] = times.nanos.map(|nanos| nanos / f64::from(jobs[0].steps));
-    let ratio = times.ratios[0];
-    section.row(label, &[1e9 / proved, 1e9 / fast, proved, fast, ratio]);
-    Row { proved, ratio }
+    let times = medians(jobs, 0, [&run_proved, &run_fast, &run_sized]);
+    let nanos = times.nanos.map(|nanos| nanos / f64::from(jobs[0].steps));
+    section.row(label, &[&nanos.map(|nanos| 1e9 / nanos), &nanos, &times.ratios[..]].concat());
+    Row { proved: nanos[0], ratio: times.ratios[0] }
 }
 
 /// The median of the times a step; of two in the middle the lower.

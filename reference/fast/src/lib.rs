@@ -2,9 +2,11 @@
 
 mod check;
 mod list;
+mod near;
 mod net;
 mod nodes;
 mod packed;
+mod plain;
 mod rules;
 mod run;
 mod scope;
@@ -17,7 +19,7 @@ mod tags;
 pub use check::check;
 pub use list::list;
 pub use packed::check_packed;
-pub use run::{run, run_watched, Ending};
+pub use run::{run, run_sized, run_sized_watched, run_watched, Ending};
 pub use sets::list_by_sets;
 pub use sheet::sheet;
 pub use state::{Lent, State};

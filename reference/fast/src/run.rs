@@ -5,8 +5,10 @@ use numbers::{BOUND, CALL, CONSTANT, IF, LET, PARAMETER, PRIMITIVE};
 use numbers::{MOST_FUNCTIONS, MOST_NODES};
 
 use crate::check::Survey;
+use crate::near::Near;
 use crate::net::{cell, Cell, Net, NONE, SELF_CALL};
 use crate::nodes::{Rows, Standing};
+use crate::plain::Plain;
 use crate::state::State;
 use crate::tags::checked;
 use crate::{compute, refusal};
@@ -35,20 +37,43 @@ pub fn run_watched(
     budget: u32,
     watch: impl FnMut(u16),
 ) -> Result<(u32, Ending), u32> {
+    let mut net = Net::empty();
+    lay_out(table, tags, state, &mut net)?;
+    Ok(Runner::run::<Plain>(&net, state, budget, watch))
+}
+
+/// As `run`, with sets of no more words than there are nodes for.
+pub fn run_sized(table: &[u8], tags: &[u8], state: &mut State, budget: u32) -> Result<(u32, Ending), u32> {
+    run_sized_watched(table, tags, state, budget, |_| {})
+}
+
+/// The same, telling each step's node.
+pub fn run_sized_watched(
+    table: &[u8],
+    tags: &[u8],
+    state: &mut State,
+    budget: u32,
+    watch: impl FnMut(u16),
+) -> Result<(u32, Ending), u32> {
+    let mut net = Net::empty();
+    lay_out(table, tags, state, &mut net)?;
+    Ok(match net.nodes.div_ceil(64) {
+        1 => Runner::run::<Near<1>>(&net, state, budget, watch),
+        2 => Runner::run::<Near<2>>(&net, state, budget, watch),
+        3 | 4 => Runner::run::<Near<4>>(&net, state, budget, watch),
+        _ => Runner::run::<Near<8>>(&net, state, budget, watch),
+    })
+}
+
+/// Fills an empty net, or tells a refusal of the table, the tags or the state.
+fn lay_out(table: &[u8], tags: &[u8], state: &State, net: &mut Net) -> Result<(), u32> {
     let mut known = Survey::empty();
     let parts = checked(table, tags, &mut known)?;
     if !state.is_in_order(parts.nodes(), parts.functions()) {
         return Err(refusal(24, 0));
     }
-    let mut net = Net::empty();
     net.fill(&parts, &known);
-    // Sets of no more words than there are nodes for, so that those of a small design fit into registers.
-    Ok(match net.nodes.div_ceil(64) {
-        1 => Runner::<1>::run(&net, state, budget, watch),
-        2 => Runner::<2>::run(&net, state, budget, watch),
-        3 | 4 => Runner::<4>::run(&net, state, budget, watch),
-        _ => Runner::<8>::run(&net, state, budget, watch),
-    })
+    Ok(())
 }
 
 /// How a node stands, in a number: its status, its second phase, and above them how many of the children that it opened
@@ -91,13 +116,14 @@ struct Runner<'a, const WORDS: usize> {
 }
 
 impl<'a, const WORDS: usize> Runner<'a, WORDS> {
-    fn run(net: &'a Net, state: &mut State, budget: u32, watch: impl FnMut(u16)) -> (u32, Ending) {
-        let mut runner = Runner::<WORDS>::of(net, state);
-        let told = runner.go(budget, watch);
+    fn run<S: Standing<WORDS>>(net: &'a Net, state: &mut State, budget: u32, watch: impl FnMut(u16)) -> (u32, Ending) {
+        let mut runner = Self::of(net, state);
+        let told = runner.go::<S>(budget, watch);
         runner.put(state);
         told
     }
 
+    #[inline(always)]
     fn of(net: &'a Net, state: &State) -> Self {
         let mut runner = Runner {
             net,
@@ -120,11 +146,11 @@ impl<'a, const WORDS: usize> Runner<'a, WORDS> {
     }
 
     /// All nodes as they stand.
-    fn standing(&self) -> Standing<WORDS> {
-        let mut standing = Standing::NOTHING;
+    fn standing<S: Standing<WORDS>>(&self) -> S {
+        let mut standing = S::NOTHING;
         for function in 0..=self.net.main {
             if self.occupant[function] != 0 {
-                standing.occupied(&self.rows.sites[function]);
+                standing.sets().occupied(&self.rows.sites[function]);
             }
         }
         for at in 0..self.net.nodes {
@@ -143,9 +169,9 @@ impl<'a, const WORDS: usize> Runner<'a, WORDS> {
         state.occupant = self.occupant;
     }
 
-    fn go(&mut self, budget: u32, mut watch: impl FnMut(u16)) -> (u32, Ending) {
+    fn go<S: Standing<WORDS>>(&mut self, budget: u32, mut watch: impl FnMut(u16)) -> (u32, Ending) {
         let root = cell(self.net.roots[self.net.main]);
-        let mut standing = self.standing();
+        let mut standing = self.standing::<S>();
         let mut taken = 0;
         loop {
             if self.is_done(root) {
@@ -165,7 +191,7 @@ impl<'a, const WORDS: usize> Runner<'a, WORDS> {
 
     /// Takes the step at a node, which has one.
     #[inline(always)]
-    fn step(&mut self, standing: &mut Standing<WORDS>, at: usize) {
+    fn step(&mut self, standing: &mut impl Standing<WORDS>, at: usize) {
         let Cell { word, first, last, kind, operation, .. } = self.net.cells[at];
         let mode = self.live[at].mode;
         standing.disarm_first(at);
@@ -206,7 +232,7 @@ impl<'a, const WORDS: usize> Runner<'a, WORDS> {
     }
 
     #[inline(always)]
-    fn begin(&mut self, standing: &mut Standing<WORDS>, at: usize) {
+    fn begin(&mut self, standing: &mut impl Standing<WORDS>, at: usize) {
         let Cell { first, opens, .. } = self.net.cells[at];
         let second = self.live[at].mode & SECOND;
         self.live[at].mode = BUSY | second | (u32::from(opens) * CHILD);
@@ -222,7 +248,7 @@ impl<'a, const WORDS: usize> Runner<'a, WORDS> {
     }
 
     #[inline(always)]
-    fn open(&mut self, standing: &mut Standing<WORDS>, at: usize) {
+    fn open(&mut self, standing: &mut impl Standing<WORDS>, at: usize) {
         let mode = self.live[at].mode;
         self.live[at].mode = mode & SECOND | OPEN;
         standing.arm(at);
@@ -234,7 +260,7 @@ impl<'a, const WORDS: usize> Runner<'a, WORDS> {
 
     /// Puts a node that is in none of the sets where it belongs.
     #[inline(always)]
-    fn read(&self, standing: &mut Standing<WORDS>, at: usize) {
+    fn read(&self, standing: &mut impl Standing<WORDS>, at: usize) {
         let Cell { kind, word, .. } = self.net.cells[at];
         let mode = self.live[at].mode;
         let (is_second, is_ready) = (mode & SECOND != 0, mode < CHILD);
@@ -243,7 +269,7 @@ impl<'a, const WORDS: usize> Runner<'a, WORDS> {
             BUSY_IF | BUSY_LET if is_second => self.is_done(self.last_part(at)),
             BUSY_IF | BUSY_LET => is_ready,
             BUSY_CALL if is_second => {
-                standing.inside.add(at);
+                standing.sets().inside.add(at);
                 self.is_done(cell(self.net.roots[word as usize % MOST_FUNCTIONS]))
             }
             BUSY_CALL => {
@@ -261,14 +287,14 @@ impl<'a, const WORDS: usize> Runner<'a, WORDS> {
 
     /// The same for one that may be armed. By value, so that sets in registers stay there.
     #[cold]
-    fn read_anew(&self, mut standing: Standing<WORDS>, at: usize) -> Standing<WORDS> {
+    fn read_anew<S: Standing<WORDS>>(&self, mut standing: S, at: usize) -> S {
         standing.disarm(at);
         self.read(&mut standing, at);
         standing
     }
 
     #[inline(always)]
-    fn finish(&mut self, standing: &mut Standing<WORDS>, at: usize, value: u32) {
+    fn finish(&mut self, standing: &mut impl Standing<WORDS>, at: usize, value: u32) {
         let Cell { holder, owner, is_last_part, .. } = self.net.cells[at];
         self.live[at] = Live { value, mode: DONE };
         if holder == NONE {
@@ -282,7 +308,7 @@ impl<'a, const WORDS: usize> Runner<'a, WORDS> {
 
     /// One of the children that a node opened first is done.
     #[inline(always)]
-    fn child_done(&mut self, standing: &mut Standing<WORDS>, at: usize) {
+    fn child_done(&mut self, standing: &mut impl Standing<WORDS>, at: usize) {
         let mode = self.live[at].mode.wrapping_sub(CHILD);
         self.live[at].mode = mode;
         match mode | u32::from(self.net.cells[at].kind) {
@@ -297,41 +323,41 @@ impl<'a, const WORDS: usize> Runner<'a, WORDS> {
 
     /// A branch or body is done.
     #[inline(always)]
-    fn last_part_done(&mut self, standing: &mut Standing<WORDS>, at: usize, part: usize) {
+    fn last_part_done(&mut self, standing: &mut impl Standing<WORDS>, at: usize, part: usize) {
         if self.live[at].mode & (STATUS | SECOND) == BUSY | SECOND && self.last_part(at) == part {
             standing.arm(at);
         }
     }
 
     #[inline(always)]
-    fn leave(&mut self, standing: &mut Standing<WORDS>, at: usize) {
+    fn leave(&mut self, standing: &mut impl Standing<WORDS>, at: usize) {
         let callee = self.net.cells[at].word as usize % MOST_FUNCTIONS;
         let answer = self.live[cell(self.net.roots[callee])].value;
         self.occupant[callee] = 0;
-        standing.inside.remove(at);
+        standing.sets().inside.remove(at);
         standing.freed(&self.rows.sites[callee]);
         self.finish(standing, at, self.net.cells[at].keep(answer));
     }
 
     #[inline(always)]
-    fn enter(&mut self, standing: &mut Standing<WORDS>, at: usize) {
+    fn enter(&mut self, standing: &mut impl Standing<WORDS>, at: usize) {
         let callee = self.net.cells[at].word as usize % MOST_FUNCTIONS;
         self.reset(standing, callee, at);
         self.occupant[callee] = at as u16 + 1;
         self.live[at].mode |= SECOND;
-        standing.waiting.remove(at);
-        standing.inside.add(at);
-        standing.occupied(&self.rows.sites[callee]);
+        standing.sets().waiting.remove(at);
+        standing.sets().inside.add(at);
+        standing.sets().occupied(&self.rows.sites[callee]);
     }
 
     #[inline(always)]
-    fn restart(&mut self, standing: &mut Standing<WORDS>, at: usize) {
+    fn restart(&mut self, standing: &mut impl Standing<WORDS>, at: usize) {
         self.reset(standing, usize::from(self.net.cells[at].owner) % MOST_FUNCTIONS, at);
     }
 
     /// Makes a function's body ready for the arguments of a call, and opens its root.
     #[inline(always)]
-    fn reset(&mut self, standing: &mut Standing<WORDS>, function: usize, call: usize) {
+    fn reset(&mut self, standing: &mut impl Standing<WORDS>, function: usize, call: usize) {
         let root = cell(self.net.roots[function]);
         let mut arguments = [0; 8];
         let mut child = self.net.cells[call].first;

@@ -19,8 +19,20 @@ use design::towers::{any_comb, any_deep, any_tower};
 use design::width_cases::CASES;
 use design::width_kinds::{self, width_kinds, STARTED};
 use design::{Node, Tree};
-use fast::{run_watched, Ending, State};
+use fast::{run_sized_watched, run_watched, Ending, State};
 use states::to_fast;
+
+type Told = Result<(u32, Ending), u32>;
+
+type Run = fn(&[u8], &[u8], &mut State, u32) -> Told;
+const RUNS: [Run; 2] = [fast::run, fast::run_sized];
+
+/// The same two, telling the nodes.
+type Watched = fn(&[u8], &[u8], &mut State, u32, &mut Vec<Node>) -> Told;
+const WATCHED: [Watched; 2] = [
+    |t, g, s, budget, nodes| run_watched(t, g, s, budget, |node| nodes.push(Node(node))),
+    |t, g, s, budget, nodes| run_sized_watched(t, g, s, budget, |node| nodes.push(Node(node))),
+];
 
 /// What the steps of all runs did.
 #[derive(Default)]
@@ -34,7 +46,7 @@ struct Done {
     words: [usize; 9],
 }
 
-/// Runs both ways from this state and compares; counts what the steps did.
+/// Runs all ways from this state and compares; counts what the steps did.
 fn same_run(done: &mut Done, bytes: &[u8], tags: &[u8], begun: &circuit::State, budget: u32) -> (u32, Ending) {
     let tree = Tree::read(bytes).expect("an accepted table");
     let mut wanted = begun.clone();
@@ -44,12 +56,14 @@ fn same_run(done: &mut Done, bytes: &[u8], tags: &[u8], begun: &circuit::State, 
         circuit::Ending::AtRest => Ending::AtRest,
         circuit::Ending::Spent => Ending::Spent,
     };
-    let (mut state, mut steps) = (to_fast(begun), Vec::new());
-    let told = run_watched(bytes, tags, &mut state, budget, |node| steps.push(Node(node)));
-    let told = told.expect("a state in order");
-    assert!(steps == nodes, "{steps:?}, wanted {nodes:?}: table {}, tags {}", shown(bytes), shown(tags));
-    assert_eq!(told, (nodes.len() as u32, ending), "{}", shown(bytes));
-    assert!(state == to_fast(&wanted), "{steps:?}: {}", shown(bytes));
+    let told = (nodes.len() as u32, ending);
+    for run in WATCHED {
+        let (mut state, mut steps) = (to_fast(begun), Vec::new());
+        let found = run(bytes, tags, &mut state, budget, &mut steps);
+        assert!(steps == nodes, "{steps:?}, wanted {nodes:?}: table {}, tags {}", shown(bytes), shown(tags));
+        assert_eq!(found, Ok(told), "{}", shown(bytes));
+        assert!(state == to_fast(&wanted), "{steps:?}: {}", shown(bytes));
+    }
     let mut own = begun.clone();
     for node in &nodes {
         let before = own.clone();
@@ -142,9 +156,11 @@ fn runs_from_any_state_agree() -> Outcome {
         let budget = if random.once_in(8) { random.below(4) as u32 } else { 100 };
         same_run(&mut done, &bytes, &tags, &begun, budget);
         damage_state(&mut random, &tree, &mut begun);
-        let mut state = to_fast(&begun);
-        assert_eq!(fast::run(&bytes, &tags, &mut state, 300), Err(24 << 16));
-        assert!(state == to_fast(&begun));
+        for run in RUNS {
+            let mut state = to_fast(&begun);
+            assert_eq!(run(&bytes, &tags, &mut state, 300), Err(24 << 16));
+            assert!(state == to_fast(&begun));
+        }
     }
     assert!(done.endings.iter().all(|count| *count > 500), "{:?}", done.endings);
     assert!(done.words[1..].iter().all(|count| *count > 50), "{:?}", done.words);
@@ -159,14 +175,12 @@ fn named_states_agree() {
         let (bytes, tags) = case.table();
         for budget in 0..case.nodes.len() as u32 + 2 {
             let taken = case.nodes.len().min(budget as usize);
-            let mut nodes = Vec::new();
-            let told = run_watched(&bytes, &tags, &mut to_fast(&case.before), budget, |node| nodes.push(node));
-            assert_eq!(
-                (told.map(|told| told.0), &nodes[..]),
-                (Ok(taken as u32), &case.nodes[..taken]),
-                "{}",
-                case.name
-            );
+            let wanted: Vec<Node> = case.nodes[..taken].iter().map(|node| Node(*node)).collect();
+            for run in WATCHED {
+                let mut nodes = Vec::new();
+                let told = run(&bytes, &tags, &mut to_fast(&case.before), budget, &mut nodes);
+                assert_eq!((told.map(|told| told.0), &nodes), (Ok(taken as u32), &wanted), "{}", case.name);
+            }
             same_run(&mut Done::default(), &bytes, &tags, &case.before, budget);
         }
     }
@@ -193,10 +207,12 @@ fn named_widths_agree() {
     for (text, arguments, value, count) in CASES {
         let bytes = assemble(text).expect(text);
         let tags = tags_of(&bytes).expect(text);
-        let mut state = State::zero();
-        assert_eq!(fast::start(&bytes, &tags, arguments, &mut state), 0, "{text}");
-        let told = fast::run(&bytes, &tags, &mut state, 1000);
-        assert_eq!(told, Ok((count, Ending::Answered(value))), "{text} of {arguments:?}");
+        for run in RUNS {
+            let mut state = State::zero();
+            assert_eq!(fast::start(&bytes, &tags, arguments, &mut state), 0, "{text}");
+            let told = run(&bytes, &tags, &mut state, 1000);
+            assert_eq!(told, Ok((count, Ending::Answered(value))), "{text} of {arguments:?}");
+        }
         let begun = started(&bytes, &tags, arguments);
         for budget in 0..=count + 1 {
             same_run(&mut Done::default(), &bytes, &tags, &begun, budget);
