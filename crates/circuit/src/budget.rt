@@ -83,7 +83,7 @@ fn end_of(
     Ended::Spent
 }
 
-// First steps, as many as the budget at most.
+// The first possible step, again and again, as often as the budget says at most.
 pub(crate) fn drive(
     table: &[u8],
     cells: &Cells,

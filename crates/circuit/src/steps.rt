@@ -1,5 +1,5 @@
-// Steps are taken here and nowhere else: one step at a node, or first steps up to a budget, for which the sets are kept. So LLVM makes one
-// function of the loop and all that a step calls.
+// Steps are taken here and nowhere else: one at a node, or the first possible one again and again, for which the sets are kept. So LLVM
+// makes one function of the loop and all that a step calls.
 use crate::changes;
 use crate::moves;
 use crate::plan;
@@ -34,8 +34,8 @@ fn going(status: &[u8; 512], top: Node, taken: u32, budget: u32, at: u16) -> boo
     false
 }
 
-// Where the sets are kept (tracked), first steps up to the budget, to main's root done, or to where there is none; else a step at n, which
-// has one. It tells how many were taken. The tags are told of and not read.
+// Where the sets are kept (tracked), the first possible step again and again, up to the budget, to main's root done, or to where there is
+// none; else a step at n, which has one. It tells how many were taken. The tags are told of and not read.
 pub(crate) fn go(
     table: &[u8],
     cells: &Cells,

@@ -195,7 +195,7 @@ fn show_function(s: State, f: Function) {
     output::function(f, occupant, &registers);
 }
 
-// First steps, as many as there may be.
+// The first possible step, again and again, as often as there is one.
 fn run(table: &[u8], tags: &[u8], s: Started) {
     let opening = s.opening;
     let state = s.state;
