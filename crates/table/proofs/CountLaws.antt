@@ -9,7 +9,7 @@ use lib.Dec.{eqb, ltb}
 use lib.ListN.{length}
 use borrow.Author.Tests.{ne-eqb}
 use Rattle.table.proofs.Tests.{true-T}
-use Rattle.table.specs.declared.kinds.Counts.{Counts}
+use Rattle.table.specs.declared.Counts.{Counts}
 use Rattle.table.specs.Bytes.{functions, nodes, params, width, kind, extra, word, first}
 use Rattle.table.specs.Naming.{owner, tail, inScope, chain, children}
 use Rattle.table.specs.Check.{among, within, fields, formed, calleeFits, countsOf, counted, scoped, tailed, constFits}

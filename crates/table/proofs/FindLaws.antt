@@ -1,5 +1,5 @@
 -- what a count, a search and a test say
-use Prim.Native.Nat.{ℕ, zero, suc, _+_, _≤_, _<_}
+use Prim.Native.Nat.{ℕ, zero, suc, _+_, _-_, _≤_, _<_}
 use mathlib.Core.Bool.{Bool, true, false, _&&_, _||_, not}
 use mathlib.Core.Path.{_≡_, refl, subst, sym, ap}
 use mathlib.Core.Logic.{_⊎_, inl, inr}
@@ -125,6 +125,12 @@ all-passes p (suc k) z i a b = go (ℕ-discrete i (suc k)) (both (p (suc k)) (al
     go : Dec (i ≡ suc k) → T (p (suc k)) × T (all p k) → (T (all p k) → i ≤ k → T (p i)) → T (p i)
     go (yes e) h f = subst (λ x. T (p x)) (sym e) (h .0)
     go (no e) h f = f (h .1) (omega arith)
+
+-- a test that holds at each number below m, by trying them all
+pub by-trying : (p : ℕ → Bool) (m : ℕ) → T (all (λ i. p (i - 1)) m) → (i : ℕ) → i < m → T (p i)
+by-trying p m h i b =
+    let back : i + 1 - 1 ≡ i = omega arith in
+    subst (λ j. T (p j)) back (all-passes (λ i. p (i - 1)) m h (i + 1) (omega arith) (omega arith))
 
 pub passes-lowest : (p : ℕ → Bool) (k : ℕ) → ((i : ℕ) → 1 ≤ i → i ≤ k → T (p i)) → lowest p k ≡ 0
 unfolding lowest

@@ -5,10 +5,11 @@ use mathlib.Core.Path.{_≡_, sym, _∙_}
 use mathlib.Core.Logic.{_⊎_, inl, inr}
 use native.Mathlib.Omega.{arith}
 use native.Mathlib.Decide.{ℕ-discrete, decLe}
-use lib.Dec.{eqb, leb}
+use lib.Dec.{eqb, leb, leb→le}
 use borrow.Author.Tests.{ne-eqb}
 use Rattle.table.specs.Check.{fields}
-use Rattle.table.proofs.Tests.{never}
+use Rattle.table.proofs.Tests.{never, true-T}
+use Rattle.table.proofs.FindLaws.{both}
 
 module _ (k e w c : ℕ) where
   pub leaf : (k ≡ 1) ⊎ (k ≡ 7) → fields k e w c ≡ (eqb e 0 && eqb c 0)
@@ -58,6 +59,9 @@ module _ (k e w c : ℕ) where
       go : Dec (k ≤ 7) → k ≤ 7
       go (yes q) = q
       go (no q) = never (sym (unknown (inr (omega arith))) ∙ h)
+
+  pub operation-known : fields k e w c ≡ true → k ≡ 3 → e ≤ 10
+  operation-known h p = leb→le e 10 (both (leb e 10) (eqb w 0) (true-T (leb e 10 && eqb w 0) (sym (primitive p) ∙ h)) .0)
 
   -- what the arms before leave
   pub past-four : 1 ≤ k → ((k ≡ 1) ⊎ (k ≡ 7) → ⊥) → (k ≡ 2 → ⊥) → (k ≡ 3 → ⊥) → (k ≡ 4 → ⊥) → 5 ≤ k

@@ -1,4 +1,4 @@
--- the rules that the sweep looks up, by kind and by operation
+-- the rules that the sweep looks up by kind, and what they say of a node
 use Prim.Native.Nat.{ℕ, zero, suc, _+_, _-_, _*_, _/_, _%_, _≤_, _<_}
 use mathlib.Core.Bool.{Bool, true, false, _||_}
 use mathlib.Core.Path.{_≡_, refl, subst, sym, ap, ap₂, _∙_}
@@ -9,50 +9,30 @@ use native.Mathlib.Numerals.{add-one}
 use lib.Dec.{T, eqb, leb, eqb→eq}
 use lib.ListN.{getD, set}
 use borrow.Author.Tests.{eq-eqb, ne-eqb, le-leb}
-use Rattle.table.specs.declared.kinds.Counts.{Counts}
+use Rattle.table.specs.declared.Counts.{Counts}
 use Rattle.table.specs.declared.kinds.Rule.{Rule}
 use Rattle.table.specs.Pick.{pick}
 use Rattle.table.specs.Find.{one, all}
 use Rattle.table.specs.Check.{between, among, fields, countsOf, operationCounts}
-use Rattle.table.specs.Sweep.{ruleOf, ruleAt, packed, rulesPut, kindRules, operationRules, KindFits, tailReach}
+use Rattle.table.specs.Sweep.{ruleOf, ruleAt, packed, rulesPut, kindRules, KindFits, tailReach}
 use Rattle.table.proofs.CellLaws.{by-eight}
-use Rattle.table.proofs.FindLaws.{all-passes}
+use Rattle.table.proofs.FindLaws.{by-trying}
 use Rattle.table.proofs.CountLaws.{counts-by}
 
--- a list that is as told at each place below m, by trying them all
-module _ (l : List ℕ) (want : ℕ → ℕ) where
-  test : ℕ → Bool
-  test i = eqb (getD l (i - 1) 0) (want (i - 1))
-
-  by-places : (m : ℕ) → T (all test m) → (i : ℕ) → i < m → getD l i 0 ≡ want i
-  unfolding test
-  by-places m h i b =
-      let back : i + 1 - 1 ≡ i = omega arith in
-      subst (λ j. getD l j 0 ≡ want j) back (eqb→eq (getD l (i + 1 - 1) 0) (want (i + 1 - 1))
-      (all-passes test m h (i + 1) (omega arith) (omega arith)))
-
+-- what is looked up is what the rule says, by trying all places
 pub rule-read : (k j : ℕ) → k < 8 → j < 8 → getD (kindRules 8) (8 * k + j) 0 ≡ ruleAt k j
-unfolding test all kindRules rulesPut countsOf operationCounts
+unfolding all kindRules rulesPut countsOf operationCounts
 rule-read k j a b =
     let kind : (8 * k + j) / 8 ≡ k = omega arith in
     let place : (8 * k + j) % 8 ≡ j = omega arith in
-    by-places (kindRules 8) (λ i. ruleAt (i / 8) (i % 8)) 64 tt (8 * k + j) (omega arith) ∙ ap₂ ruleAt kind place
+    eqb→eq _ _ (by-trying (λ i. eqb (getD (kindRules 8) i 0) (ruleAt (i / 8) (i % 8))) 64 tt (8 * k + j) (omega arith)) ∙ ap₂ ruleAt kind place
 
-pub operation-read : (e : ℕ) → e < 16 → getD (operationRules 11) e 0 ≡ packed (operationCounts e)
-unfolding test all operationRules operationCounts
-operation-read = by-places (operationRules 11) (λ e. packed (operationCounts e)) 16 tt
-
--- one kind more, and one operation
+-- one kind more
 pub rules-more : (k : ℕ) (l : List ℕ) (r : Rule) (x : ℕ) → l ≡ kindRules k → r ≡ ruleOf k → x ≡ packed (countsOf k 11 0)
     → (let low = set (set (set (set l (8 * k + 0) (r .extras)) (8 * k + 1) (r .parameter)) (8 * k + 2) (r .call)) (8 * k + 3) (r .reach) in
     set (set (set (set low (8 * k + 4) (r .bound)) (8 * k + 5) (r .primitive)) (8 * k + 6) (r .words)) (8 * k + 7) x ≡ kindRules (k + 1))
 unfolding kindRules rulesPut
 rules-more k l r x el er ex = rw (el, er, ex) (sym (ap kindRules (add-one k)))
-
-pub operations-more : (k : ℕ) (l : List ℕ) (x : ℕ) → l ≡ operationRules k → x ≡ packed (operationCounts k)
-    → set l k x ≡ operationRules (k + 1)
-unfolding operationRules
-operations-more k l x el ex = rw (add-one, el, ex)
 
 -- what is left of the kinds below 8, as a match leaves it
 abbrev Not : ℕ → ℕ → Type 0

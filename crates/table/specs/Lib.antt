@@ -4,6 +4,7 @@ pub mod Bytes
 pub mod Find
 pub mod Naming
 pub mod Check
+pub mod Operations
 pub mod Expressions
 pub mod Environment
 pub mod Well

@@ -6,7 +6,7 @@ use mathlib.Core.Path.{_≡_}
 use mathlib.Core.List.{List}
 use lib.Dec.{T, eqb}
 use lib.ListN.{length, getD, set, replicate}
-use Rattle.table.specs.declared.kinds.Counts.{Counts}
+use Rattle.table.specs.declared.Counts.{Counts}
 use Rattle.table.specs.declared.kinds.Rule.{Rule}
 use Rattle.table.specs.declared.sweep.Sifting.{Sifting}
 use Rattle.table.specs.declared.sweep.Residue.{Residue}
@@ -15,7 +15,7 @@ use Rattle.table.specs.Pick.{pick, Range}
 use Rattle.table.specs.Bytes.{functions, nodes, params, width, root, kind, extra, word, first, next}
 use Rattle.table.specs.Find.{one, total, highest, back}
 use Rattle.table.specs.Naming.{names, namer, owner, parent, tail, underLast, inScope, children}
-use Rattle.table.specs.Check.{among, rootFits, recordFits, fields, operationCounts, countsOf, counted}
+use Rattle.table.specs.Check.{among, rootFits, recordFits, fields, countsOf, counted}
 use Rattle.table.specs.Working.{IsNode, At, Linked}
 
 -- a node's place among its siblings, from 1; a root's is 1
@@ -220,11 +220,7 @@ unfoldable pub rulesPut : (j k : ℕ) → List ℕ → List ℕ
 rulesPut zero k l = l
 rulesPut (suc j) k l = set (rulesPut j k l) (8 * k + j) (ruleAt k j)
 
--- the rules of the kinds below k, and of the operations below k, each in its place
+-- the rules of the kinds below k, each in its place
 unfoldable pub kindRules : ℕ → List ℕ
 kindRules zero = replicate 64 0
 kindRules (suc k) = rulesPut 8 k (kindRules k)
-
-unfoldable pub operationRules : ℕ → List ℕ
-operationRules zero = replicate 16 0
-operationRules (suc k) = set (operationRules k) k (packed (operationCounts k))

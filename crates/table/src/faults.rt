@@ -6,7 +6,7 @@ use crate::decoded::Cells;
 use crate::kinds;
 ghost use mathlib.Core.Path.{_≡_};
 ghost use mathlib.Core.Bool.{_&&_, _||_, not};
-ghost use Prim.Native.Nat.{_^_, _≤_};
+ghost use Prim.Native.Nat.{_^_, _≤_, _<_};
 ghost use lib.Dec.{eqb, ltb};
 ghost use lib.ListN.{length};
 ghost use Rattle.table.specs.Bytes.{functions, nodes, params, kind, extra, word};
@@ -65,7 +65,8 @@ fn callee_params(table: &[u8], cells: &Cells, kind: u16, word: u32) -> u16
 
 // 7: as many children as kind and operation allow.
 fn count_fits(table: &[u8], cells: &Cells, n: Node, kind: u16, extra: u16, word: u32) -> bool
-    requires { ⌜ NodeAt (now table) (now cells) (n .0) kind extra word × (kind ≡ 4 → (1 ≤ word) × (word ≤ functions (now table))) ⌝ }
+    requires { ⌜ NodeAt (now table) (now cells) (n .0) kind extra word × (kind ≡ 4 → (1 ≤ word) × (word ≤ functions (now table)))
+        × (kind ≡ 3 → extra < 256) ⌝ }
     ensures { λ r. ⌜ r ≡ counted (now (table .entry)) (n .0) ⌝ }
 {
     let p = callee_params(table, cells, kind, word);

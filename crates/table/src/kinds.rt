@@ -1,34 +1,18 @@
-// What a node's kind and a primitive's operation allow (refusals 5 and 7).
+// What a node's kind allows (refusals 5 and 7); a primitive's operation is asked of `operation_counts`.
+use crate::Counts;
 use crate::Node;
 ghost use mathlib.Core.Path.{_≡_};
 ghost use Prim.Native.Nat.{_≤_, _<_};
-ghost use Rattle.table.specs.Check.{fields, operationCounts, countsOf};
-ghost use Rattle.table.specs.Sweep.{ruleOf, packed, kindRules, operationRules};
+ghost use Rattle.table.specs.Check.{fields, countsOf};
+ghost use Rattle.table.specs.Sweep.{ruleOf, packed, kindRules};
 
-// How many children a node may have.
-pub struct Counts {
-    pub low: u16,
-    pub high: u16,
-}
-
-// By the operation of a primitive; 0 and 0 where there is no such operation.
-pub(crate) fn operation_counts(op: u16) -> Counts
-    ensures { λ r. ⌜ r ≡ operationCounts op ⌝ }
-{
-    match op {
-        0..=4 | 8..=9 => Counts { low: 2, high: 2 },
-        5..=7 => Counts { low: 1, high: 1 },
-        10 => Counts { low: 1, high: 8 },
-        _ => Counts { low: 0, high: 0 },
-    }
-}
-
-// By a node's kind: a call has as many children as its callee has parameters.
+// How many children a node may have, by its kind: a call has as many as its callee has parameters.
 pub(crate) fn child_counts(kind: u16, op: u16, params: u16) -> Counts
+    requires { ⌜ (kind ≡ 3 → op < 256) ⌝ }
     ensures { λ r. ⌜ r ≡ countsOf kind op params ⌝ }
 {
     match kind {
-        3 => operation_counts(op),
+        3 => crate::operation_counts(op as u8),
         4 => Counts {
             low: params,
             high: params,
@@ -170,7 +154,7 @@ pub(crate) const WORDS: usize = 6;
 pub(crate) const COUNTS: usize = 7;
 
 // The fewest children, and 256 times the most.
-fn packed(c: Counts) -> u16
+pub(crate) fn packed(c: Counts) -> u16
     requires { ⌜ (c .low ≤ 9) × (c .high ≤ 9) ⌝ }
     ensures { λ r. ⌜ r ≡ packed c ⌝ }
 {
@@ -197,17 +181,4 @@ pub(crate) fn rules() -> [u16; 64]
         kind += 1;
     }
     rules
-}
-
-// The same for the operations' numbers of children.
-pub(crate) fn operations() -> [u16; 16]
-    ensures { λ r. ⌜ r ≡ operationRules 11 ⌝ }
-{
-    let mut counts = [0u16; 16];
-    let mut op: u16 = 0;
-    while op < 11 {
-        counts[op as usize] = packed(operation_counts(op));
-        op += 1;
-    }
-    counts
 }

@@ -1,4 +1,4 @@
-// A design table as bytes: number types, total readers, and the check (refusals 1 to 9, then 25).
+// A design table as bytes: number types, total readers, operations' child counts, and the check (refusals 1 to 9, then 25).
 mod decode;
 pub mod decoded;
 mod faults;
@@ -14,7 +14,7 @@ mod sweep;
 
 use crate::sweep::Residue;
 ghost use Rattle.table.specs.Survey.{verdictOf};
-ghost use Rattle.table.specs.Check.{checkOf};
+ghost use Rattle.table.specs.Check.{checkOf, operationCounts};
 ghost use Rattle.table.specs.Decoded.{surveyed};
 ghost use Rattle.table.specs.Working.{Framed, Taken, Settles};
 ghost use Rattle.table.specs.Sweep.{Kin};
@@ -30,10 +30,30 @@ pub struct Function(pub u16);
 #[repr(C)]
 pub struct Node(pub u16);
 
+// How many children a node may have, from the fewest to the most.
+pub struct Counts {
+    pub low: u16,
+    pub high: u16,
+}
+
 // What the check of a table says: main and the last node, or a refusal's number and place.
 pub enum Checked {
     Accepted(Function, Node),
     Refused(u8, Node),
+}
+
+// How many children a primitive may have, worked out from its operation byte; 0 and 0 where there is no such operation. Eight and nine
+// have an arm of their own: joined with the first five they cost the check some hundredths.
+pub fn operation_counts(op: u8) -> Counts
+    ensures { λ r. ⌜ r ≡ operationCounts op ⌝ }
+{
+    match op {
+        0..=4 => Counts { low: 2, high: 2 },
+        5..=7 => Counts { low: 1, high: 1 },
+        8..=9 => Counts { low: 2, high: 2 },
+        10 => Counts { low: 1, high: 8 },
+        _ => Counts { low: 0, high: 0 },
+    }
 }
 
 // Refusals 1 to 9, then 25, by rising number over the whole table.

@@ -14,7 +14,7 @@ ghost use Rattle.table.specs.Find.{one};
 ghost use Rattle.table.specs.Bytes.{functions, nodes, params, width};
 ghost use Rattle.table.specs.Check.{countsOf, counted};
 ghost use Rattle.table.specs.Working.{IsNode, IsFunction, Framed};
-ghost use Rattle.table.specs.Sweep.{ruleAt, kindRules, operationRules, Handed, RootsFit, Kids, Wanted, KindFits};
+ghost use Rattle.table.specs.Sweep.{ruleAt, kindRules, Handed, RootsFit, Kids, Wanted, KindFits};
 ghost use Rattle.table.specs.Sweep.{Siftable, Sifts, SiftedBy};
 
 // A node sifted, in numbers that specs/Sweep names.
@@ -123,19 +123,13 @@ fn arguments(table: &[u8], call: usize, word: usize) -> u32
 }
 
 // The fewest children that kind and operation allow, and 256 times the most.
-fn wants(
-    rules: &[u16; 64],
-    operations: &[u16; 16],
-    kind: u16,
-    extra: u32,
-    call: u32,
-    params: u32,
-) -> u16
-    requires { ⌜ (now rules ≡ kindRules 8) × (now operations ≡ operationRules 11) × (kind < 8) × (extra < 16) × (call ≡ one (eqb kind 4))
+fn wants(rules: &[u16; 64], kind: u16, extra: u32, call: u32, params: u32) -> u16
+    requires { ⌜ (now rules ≡ kindRules 8) × (kind < 8) × (extra < 16) × (call ≡ one (eqb kind 4))
         × (call ≡ 1 → params ≤ 8) ⌝ }
     ensures { λ r. ⌜ (r % 256 ≡ countsOf kind extra params .low) × (r / 256 ≡ countsOf kind extra params .high) ⌝ }
 {
-    let operation = (operations[extra as usize] as u32) * rule(rules, kind, kinds::PRIMITIVE);
+    let own = kinds::packed(crate::operation_counts(extra as u8)) as u32;
+    let operation = own * rule(rules, kind, kinds::PRIMITIVE);
     let counts = rule(rules, kind, kinds::COUNTS) + operation + 257 * (params * call);
     counts as u16
 }
@@ -158,16 +152,8 @@ fn innermost(outer: Node, up: Node, body: u32) -> Node
 }
 
 // Node n, with its kin and what its parent handed down.
-fn node(
-    table: &[u8],
-    base: usize,
-    rules: &[u16; 64],
-    operations: &[u16; 16],
-    n: Node,
-    own: u32,
-    inherited: u32,
-) -> Sifting
-    requires { ⌜ Siftable (now table) base (n .0) own × (now rules ≡ kindRules 8) × (now operations ≡ operationRules 11) ⌝ }
+fn node(table: &[u8], base: usize, rules: &[u16; 64], n: Node, own: u32, inherited: u32) -> Sifting
+    requires { ⌜ Siftable (now table) base (n .0) own × (now rules ≡ kindRules 8) ⌝ }
     ensures { λ r. ⌜ (r .passed ≡ true → Sifts (now (table .entry)) (n .0) inherited r) ⌝ }
 {
     let kind = records::kind(table, base, n);
@@ -193,7 +179,7 @@ fn node(
         passed: true,
         down,
         bound: rule(rules, kind, kinds::BOUND),
-        wants: wants(rules, operations, kind, extra, call, args),
+        wants: wants(rules, kind, extra, call, args),
     }
 }
 
@@ -214,7 +200,6 @@ pub(crate) fn sift(
         (now (bounds .exit)) r ⌝ }
 {
     let rules = kinds::rules();
-    let operations = kinds::operations();
     let base = frame::base(table);
     let last = frame::last_node(table);
     let end = last.0;
@@ -228,15 +213,7 @@ pub(crate) fn sift(
             return Residue::Failed;
         }
         let up = linking::parent(own);
-        let r = node(
-            table,
-            base,
-            &rules,
-            &operations,
-            Node(n),
-            own,
-            offspring[up.0 as usize],
-        );
+        let r = node(table, base, &rules, Node(n), own, offspring[up.0 as usize]);
         if !r.passed {
             return Residue::Failed;
         }

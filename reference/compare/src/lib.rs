@@ -5,6 +5,7 @@ use numbers::SHEET_BYTES;
 mod raw {
     extern "C" {
         pub fn table_check(table: *const u8, len: usize) -> u32;
+        pub fn table_operation_counts(op: u8) -> u32;
         pub fn list_fill_tags(table: *const u8, len: usize, tags: *mut u8, tags_len: usize) -> u32;
         pub fn list_check_tags(table: *const u8, len: usize, tags: *const u8, tags_len: usize) -> u32;
         pub fn list_total(tags: *const u8, len: usize) -> u64;
@@ -30,6 +31,12 @@ pub struct Record {
 pub fn table_check(table: &[u8]) -> u32 {
     // The library only reads, and within the length it is told.
     unsafe { raw::table_check(table.as_ptr(), table.len()) }
+}
+
+/// The fewest children of an operation times 65536 plus the most; 0 where there is no such operation.
+pub fn table_operation_counts(operation: u8) -> u32 {
+    // The library is lent nothing, and answers for every byte.
+    unsafe { raw::table_operation_counts(operation) }
 }
 
 /// 0 and the tags of the arbiter list, or a refusal and the tags as they were.

@@ -14,11 +14,14 @@ use numbers::{MOST_FUNCTIONS, MOST_NODES, MOST_PARAMETERS, MOST_WIDTH};
 
 use crate::draft::{Draft, Head};
 use crate::lexer::{tokens, TextError, Token};
-use crate::table::{Function, Node, Refusal, Table, OPERATIONS};
+use crate::table::{operation_counts, Function, Node, Refusal, Table};
 use crate::tree::{Kind, Tree};
 
 /// Above what 512 nodes need; keeps a text of brackets alone from using up the stack.
 const DEEPEST: usize = 600;
+
+/// The operations' names, each at the operation's number.
+const NAMES: [&str; 11] = ["add", "sub", "and", "or", "xor", "double", "halve", "lowbit", "equal", "less", "beside"];
 
 /// Table bytes of a text. Tail position and the size of constants are left to the table check.
 pub fn assemble(text: &str) -> Result<Vec<u8>, TextError> {
@@ -265,8 +268,8 @@ impl Reader {
         let callee = self.functions.iter().position(|(other, _)| other == name);
         let (node, fewest, most) = match (operation(name), callee) {
             (Some(number), _) => {
-                let (_, fewest, most) = OPERATIONS[usize::from(number)];
-                (self.node(PRIMITIVE, number, 0)?, fewest, most)
+                let (fewest, most) = operation_counts(number);
+                (self.node(PRIMITIVE, number, 0)?, fewest.into(), most.into())
             }
             (None, Some(index)) => {
                 let count = self.functions[index].1;
@@ -299,7 +302,7 @@ impl Reader {
 }
 
 fn operation(name: &str) -> Option<u8> {
-    OPERATIONS.iter().position(|(other, _, _)| *other == name).map(|number| number as u8)
+    NAMES.iter().position(|other| *other == name).map(|number| number as u8)
 }
 
 /// The text of an accepted table. Assembled again it gives the same design, its nodes in preorder.
@@ -335,7 +338,7 @@ fn expression(tree: &Tree, node: Node) -> String {
         Kind::Constant(value) => value.to_string(),
         Kind::Parameter(index) => parameter_name(index),
         Kind::Bound(definiens) => format!("v{}", definiens.0),
-        Kind::Primitive(number) => format!("{}({})", OPERATIONS[usize::from(number)].0, parts.join(", ")),
+        Kind::Primitive(number) => format!("{}({})", NAMES[usize::from(number)], parts.join(", ")),
         Kind::Call(callee) => format!("{}({})", function_name(tree, callee), parts.join(", ")),
         Kind::If => format!("if {} then {} else {}", parts[0], parts[1], parts[2]),
         Kind::Let => {

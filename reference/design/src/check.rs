@@ -5,7 +5,7 @@ use std::collections::{BTreeMap, BTreeSet};
 use numbers::{BOUND, CALL, CONSTANT, IF, LET, PARAMETER, PRIMITIVE};
 use numbers::{MOST_FUNCTIONS, MOST_NODES, MOST_PARAMETERS, MOST_WIDTH};
 
-use crate::table::{narrow, Function, Node, Refusal, Table, OPERATIONS};
+use crate::table::{narrow, operation_counts, Function, Node, Refusal, Table};
 
 /// Accepts a table or tells the first refusal that applies.
 pub fn check(bytes: &[u8]) -> Result<(), Refusal> {
@@ -83,7 +83,8 @@ fn fields(table: &Table) -> Option<Node> {
         let fine = match table.kind(node) {
             CONSTANT => no_extra && no_first,
             PARAMETER => no_word && no_first,
-            PRIMITIVE => usize::from(table.extra(node)) < OPERATIONS.len() && no_word,
+            // Every operation there is has a child, so none has both counts 0.
+            PRIMITIVE => operation_counts(table.extra(node)) != (0, 0) && no_word,
             CALL => no_extra,
             IF | LET => no_extra && no_word,
             BOUND => no_extra && no_first,
@@ -114,8 +115,8 @@ fn right_child_count(table: &Table, node: Node) -> bool {
     let count = table.children(node).len();
     match table.kind(node) {
         PRIMITIVE => {
-            let (_, fewest, most) = OPERATIONS[usize::from(table.extra(node))];
-            (fewest..=most).contains(&count)
+            let (fewest, most) = operation_counts(table.extra(node));
+            (fewest.into()..=most.into()).contains(&count)
         }
         CALL => count == usize::from(table.parameter_count(Function(table.word(node) as u16))),
         IF => count == 3,

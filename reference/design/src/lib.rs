@@ -17,6 +17,7 @@ pub mod lexer;
 pub mod list;
 pub mod listings;
 mod maker;
+pub mod operation_cases;
 pub mod random;
 pub mod reading;
 pub mod sheet;
@@ -30,5 +31,5 @@ pub mod width_kinds;
 pub mod widths;
 
 pub use check::check;
-pub use table::{Function, Node, Refusal, Table};
+pub use table::{operation_counts, Function, Node, Refusal, Table};
 pub use tree::{Kind, Tree};

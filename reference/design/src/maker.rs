@@ -5,7 +5,7 @@ use numbers::{BOUND, CALL, CONSTANT, IF, LET, PARAMETER, PRIMITIVE};
 
 use crate::draft::Draft;
 use crate::random::Random;
-use crate::table::OPERATIONS;
+use crate::table::operation_counts;
 use crate::widths::constant;
 
 /// Which of the fitting functions are called.
@@ -139,14 +139,18 @@ impl<'a> Maker<'a> {
     }
 
     fn primitive(&mut self, size: usize) -> usize {
-        let fitting: Vec<usize> = (0..OPERATIONS.len()).filter(|number| OPERATIONS[*number].1 < size).collect();
-        let operation = if self.random.once_in(3) { BESIDE.into() } else { self.random.pick(&fitting) };
-        let (_, fewest, most) = OPERATIONS[operation];
+        let counts = |operation: u8| -> (usize, usize) {
+            let (fewest, most) = operation_counts(operation);
+            (fewest.into(), most.into())
+        };
+        let fitting: Vec<u8> = (ADD..=BESIDE).filter(|operation| counts(*operation).0 < size).collect();
+        let operation = if self.random.once_in(3) { BESIDE } else { self.random.pick(&fitting) };
+        let (fewest, most) = counts(operation);
         let mut count = self.random.within(fewest, most.min(size - 1));
         if self.strays(Stray::Counts) {
             count = self.random.pick(&[fewest - 1, most + 1]).min(size - 1);
         }
-        let node = self.draft.add(PRIMITIVE, operation as u8, 0);
+        let node = self.draft.add(PRIMITIVE, operation, 0);
         let sizes = self.split(size - 1, count);
         self.children(node, &sizes);
         node

@@ -1,6 +1,6 @@
 //! The byte layout of a design table. Every reader answers for any bytes: what lies outside reads as 0.
 
-use numbers::{ADD, AND, DOUBLE, EQUAL, HALVE, LESS, LOW_BIT, MOST_WIDTH, OR, SUBTRACT, XOR};
+use numbers::{ADD, AND, BESIDE, DOUBLE, EQUAL, HALVE, LESS, LOW_BIT, MOST_WIDTH, OR, SUBTRACT, XOR};
 
 /// A node number, 1 to N in an accepted table; 0 stands for none.
 #[derive(Clone, Copy, PartialEq, Eq, PartialOrd, Ord, Hash, Debug, Default)]
@@ -31,20 +31,16 @@ pub(crate) const WORD: usize = 2;
 pub(crate) const FIRST: usize = 6;
 pub(crate) const NEXT: usize = 8;
 
-/// The operations of a primitive by number: name, fewest and most children.
-pub const OPERATIONS: [(&str, usize, usize); 11] = [
-    ("add", 2, 2),
-    ("sub", 2, 2),
-    ("and", 2, 2),
-    ("or", 2, 2),
-    ("xor", 2, 2),
-    ("double", 1, 1),
-    ("halve", 1, 1),
-    ("lowbit", 1, 1),
-    ("equal", 2, 2),
-    ("less", 2, 2),
-    ("beside", 1, 8),
-];
+/// The fewest and the most children of an operation; 0 and 0 where there is no such operation. Check, assembler and
+/// generator all go by this.
+pub fn operation_counts(operation: u8) -> (u16, u16) {
+    match operation {
+        ADD | SUBTRACT | AND | OR | XOR | EQUAL | LESS => (2, 2),
+        DOUBLE | HALVE | LOW_BIT => (1, 1),
+        BESIDE => (1, 8),
+        _ => (0, 0),
+    }
+}
 
 /// What a primitive makes of its children's values.
 pub fn compute(operation: u8, values: &[u32]) -> u32 {

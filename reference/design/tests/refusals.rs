@@ -113,23 +113,13 @@ fn callees() {
     pair().node(4, WORD, 4).refused(6, 4);
 }
 
+/// Those of primitives are in `operations.rs`.
 #[test]
 fn numbers_of_children() {
     let one = || table("fun f(x) = x  fun main(x) = f(x)");
     one().function(1, 0, 2).refused(7, 2);
     // A parameter out of range comes later than a wrong number of children.
     one().function(1, 0, 0).refused(7, 2);
-    for (operation, right) in [(0, 2), (1, 2), (2, 2), (3, 2), (4, 2), (8, 2), (9, 2), (5, 1), (6, 1), (7, 1)] {
-        for count in 1..=3 {
-            let children = vec!["x"; count].join(", ");
-            let bytes = table(&format!("fun main(x) = beside({children})")).node(1, EXTRA, operation);
-            if count == right {
-                bytes.accepted();
-            } else {
-                bytes.refused(7, 1);
-            }
-        }
-    }
     for count in 1..=8 {
         let bytes = || table(&format!("fun main(x) = beside({})", vec!["x"; count].join(", "))).node(1, EXTRA, 0);
         let with_kind = |kind: u8| bytes().node(1, KIND, kind);
@@ -144,10 +134,7 @@ fn numbers_of_children() {
             with_kind(6).refused(7, 1)
         };
     }
-    table("fun main(x) = 1").node(1, KIND, 3).node(1, WORD, 0).refused(7, 1);
-    let nine = || table("fun main(x) = let a = 1, b = 1, c = 1, d = 1, e = 1, f = 1, g = 1, h = 1 in h");
-    nine().accepted();
-    nine().node(1, KIND, 3).node(1, EXTRA, 10).refused(7, 1);
+    table("fun main(x) = let a = 1, b = 1, c = 1, d = 1, e = 1, f = 1, g = 1, h = 1 in h").accepted();
     // A let of ten: the last child gets another one after it.
     table("fun main(x) = let a = 1, b = 1, c = 1, d = 1, e = 1, f = 1, g = 1, h = double(1) in h")
         .node(9, KIND, 1)

@@ -8,11 +8,12 @@ use design::damage::{damaged, too_wide};
 use design::difference::{code, shown};
 use design::generator::{accepted, accepted_of, accepted_sharing};
 use design::list::tags_of;
+use design::operation_cases::{large, small, WORDS};
 use design::random::Random;
 use design::states::{any_state, damage_state, damaged_tags, tags};
 use design::towers::{any_comb, any_deep, any_tower};
 use design::width_cases::standings;
-use design::{check, Tree};
+use design::{check, operation_counts, Tree};
 use fast::State;
 use states::to_fast;
 
@@ -44,6 +45,19 @@ fn the_checks_agree() {
     assert!(wide > 2000, "{wide}");
     for _ in 0..4000 {
         checks_say(&accepted(&mut random), 0);
+    }
+}
+
+/// The counts that the checks look up, and the bits in which they count, by tables of one primitive.
+#[test]
+fn checks_of_operations_agree() {
+    for case in small().chain(large()) {
+        checks_say(&case.bytes(), case.wanted(operation_counts(case.operation)));
+    }
+    for case in small() {
+        for word in WORDS {
+            checks_say(&case.with_word(word), 5 << 16 | 2);
+        }
     }
 }
 

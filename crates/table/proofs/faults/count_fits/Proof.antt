@@ -39,7 +39,9 @@ callee-params-requires c κs =
     (s .pre .0 .place .framed, s .pre .0 .place .read, s .pre .1)
 
 child-counts-requires : tie.Need-child-counts-requires
-child-counts-requires c κs = search needs
+child-counts-requires c κs =
+    let s : tie.Start = search in
+    s .pre .2
 
 first-requires : tie.Need-first-requires
 first-requires c κs = search needs

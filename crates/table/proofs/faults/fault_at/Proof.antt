@@ -13,6 +13,7 @@ use Rattle.table.specs.Check.{among, fields, formed, calleeFits, counted
 use Rattle.table.specs.Working.{faultAt, IsFunction, NodeAt}
 use Rattle.table.proofs.CellLaws.{word-read, width-read}
 use Rattle.table.proofs.CountLaws.{told-formed, told-callee, told-tailed, told-const, callee-in}
+use Rattle.table.proofs.KindLaws.{operation-known}
 use Rattle.table.proofs.Family.{owner-in}
 use Rattle.table.proofs.faults.fault_at.Statement.{statement}
 use Rattle.table.proofs.faults.fault_at.Tie as tie
@@ -83,6 +84,11 @@ module _ (c : tie.After-first) where
 abbrev start1 : tie.Else1 → tie.Start
 start1 c = search
 
+well-formed : (c : tie.Else1) → let r : tie.After-first = search in fields (k r) (extra r .extra .result) (w r) (r .first .result .0) ≡ true
+well-formed c =
+    let told : tie.After-formed = search in
+    sym (told .formed .ensures) ∙ not-false _ (c .if1 .left)
+
 formed-passed : (c : tie.Else1) → Says formed (start1 c) true
 formed-passed c =
     let told : tie.After-formed = search in
@@ -150,6 +156,7 @@ count-fits-requires c κs =
       at,
       callee-in _ _ _ _ _ _ _ (at .kinded) (at .extras) (at .worded) (firsts r) (p .1 .0) (p .0 .links)
           (p .0 .node) (callee-passed c),
+      λ z. omega (arith, operation-known _ _ _ _ (well-formed (search)) z),
     )
 
 returns-3 : tie.Need-returns-3

@@ -6,6 +6,11 @@ use borrow.Author.Needs.{needs}
 use Rattle.table.proofs.kinds.child_counts.Statement.{statement}
 use Rattle.table.proofs.kinds.child_counts.Tie as tie
 
+cast-operation-counts : tie.Need-cast-operation-counts
+cast-operation-counts c =
+    let start : tie.Start = search in
+    record { fits = start .pre (c .match .keys1) }
+
 operation-counts-requires : tie.Need-operation-counts-requires
 operation-counts-requires c κs = search needs
 
@@ -42,4 +47,4 @@ returns-5 c =
 
 pub child-counts-spec : {M : Type 1} → statement M
 child-counts-spec =
-    tie.close (tie.spec operation-counts-requires returns returns-2 returns-3 returns-4 returns-5)
+    tie.close (tie.spec cast-operation-counts operation-counts-requires returns returns-2 returns-3 returns-4 returns-5)

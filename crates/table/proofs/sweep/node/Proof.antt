@@ -327,7 +327,6 @@ wants-requires c κs =
     let a : tie.After-arguments = search in
     let r = start k in (
       s r .pre .1,
-      s r .pre .2,
       kinds r,
       fits k .small,
       call k,

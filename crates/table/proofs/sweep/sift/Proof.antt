@@ -22,11 +22,11 @@ use Rattle.table.proofs.sweep.sift.Statement.{statement}
 use Rattle.table.proofs.sweep.sift.Tie as tie
 
 abbrev Inv-loop : tie.InvT-loop
-Inv-loop table kin₀ kids₀ wanted₀ offspring₀ bounds₀ rules operations base last end count₀ n₀ kin kids wanted offspring bounds count n =
+Inv-loop table kin₀ kids₀ wanted₀ offspring₀ bounds₀ rules base last end count₀ n₀ kin kids wanted offspring bounds count n =
     (n ≤ end) × (end ≡ nodes table) × LinkedTo table n kin kids × SiftedTo table n wanted offspring bounds count
 
 abbrev μ-loop : tie.MeasureT-loop
-μ-loop table kin₀ kids₀ wanted₀ offspring₀ bounds₀ rules operations base last end count₀ n₀ kin kids wanted offspring bounds count n =
+μ-loop table kin₀ kids₀ wanted₀ offspring₀ bounds₀ rules base last end count₀ n₀ kin kids wanted offspring bounds count n =
     end - n
 
 abbrev Start : Type 0
@@ -119,9 +119,6 @@ module _ (c : Passing) where
 rules-requires : tie.Need-rules-requires Inv-loop μ-loop
 rules-requires c κs = search needs
 
-operations-requires : tie.Need-operations-requires Inv-loop μ-loop
-operations-requires c κs = search needs
-
 base-requires : tie.Need-base-requires Inv-loop μ-loop
 base-requires c κs = search needs
 
@@ -175,7 +172,6 @@ node-requires : tie.Need-node-requires Inv-loop μ-loop
 node-requires c κs =
     let h : Handing = search in
     let rules : tie.After-rules Inv-loop μ-loop = search in
-    let operations : tie.After-operations Inv-loop μ-loop = search in
     let t = turn h in (
       record {
         place = place t;
@@ -184,7 +180,6 @@ node-requires c κs =
         owned = own-owned _ _ _ _ (s t .pre .0) _ (node t) (l t .loop .inv .2) (links h);
       },
       rules .rules .ensures,
-      operations .operations .ensures,
     )
 
 returns-2 : tie.Need-returns-2 Inv-loop μ-loop
@@ -266,7 +261,6 @@ sift-spec =
     Inv-loop
     μ-loop
     rules-requires
-    operations-requires
     base-requires
     last-node-requires
     loop-holds

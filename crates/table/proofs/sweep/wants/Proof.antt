@@ -1,75 +1,90 @@
--- `sweep::wants` meets its contract: what was looked up is how many children the kind allows.
+-- `sweep::wants` meets its contract: what its operation, its kind and its callee give a node is how many children it may have.
 use native.Mathlib.Omega.{arith}
 use Prim.Native.Nat.{ℕ, _+_, _*_, _≤_}
-use lib.ListN.{getD}
 use lib.Dec.{eqb}
-use mathlib.Core.Path.{_≡_, refl, ap, ap₂, _∙_}
+use mathlib.Core.Path.{_≡_, refl, subst, sym, ap, ap₂, _∙_}
 use Rattle.table.specs.Find.{one}
 use Rattle.table.specs.Check.{operationCounts, countsOf}
 use Rattle.table.specs.Sweep.{packed}
-use Rattle.table.proofs.RuleLaws.{one-most, flag-most, flag-times, operation-read, operation-few, rule-small, wants-told}
+use Rattle.table.proofs.RuleLaws.{Few, one-most, flag-most, flag-times, operation-few, rule-small, wants-told}
 use borrow.Author.Needs.{needs}
 use Rattle.table.proofs.sweep.wants.Statement.{statement}
 use Rattle.table.proofs.sweep.wants.Tie as tie
 
+-- what a call has more
+more : (s : tie.Start) → s .args .params * s .args .call ≤ 8
+more s = flag-most _ _ 8 (omega (arith, s .pre .3, one-most (eqb (s .args .kind) 4))) (s .pre .4)
+
 -- the operation's counts
-module _ (s : tie.Start) where
-  op-told : getD (s .args .operations .now) (s .args .extra) 0 ≡ packed (operationCounts (s .args .extra))
-  op-told = ap (λ l. getD l (s .args .extra) 0) (s .pre .1) ∙ operation-read _ (s .pre .3)
+abbrev Own : Type 0
+Own = tie.After-packed
 
-  op-few : getD (s .args .operations .now) (s .args .extra) 0 ≤ 2313
-  op-few = omega (arith, op-told, operation-few (s .args .extra))
+module _ (o : Own) where
+  abbrev begun : tie.Start
+  begun = search
 
-  -- what a call has more
-  more : s .args .params * s .args .call ≤ 8
-  more = flag-most _ _ 8 (omega (arith, s .pre .4, one-most (eqb (s .args .kind) 4))) (s .pre .5)
+  abbrev worked : tie.After-operation-counts
+  worked = search
+
+  own-told : o .packed .result ≡ packed (operationCounts (begun .args .extra))
+  own-told = o .packed .ensures ∙ ap packed (worked .operation-counts .ensures)
+
+  own-few : o .packed .result ≤ 2313
+  own-few = omega (arith, own-told, operation-few (begun .args .extra))
 
 -- those of a primitive alone
-abbrev start : tie.After-rule → tie.Start
-start c = search
+abbrev own : tie.After-rule → Own
+own c = search
 
-own-few : (p : tie.After-rule) → getD (start p .args .operations .now) (start p .args .extra) 0 * p .rule .result ≤ 2313
-own-few p =
-    let s = start p in
-    let x = getD (s .args .operations .now) (s .args .extra) 0 in
-    omega (arith, op-few s, flag-times x (p .rule .result) (omega (arith, p .rule .ensures, one-most (eqb (s .args .kind) 3))))
+primitive-few : (p : tie.After-rule) → own p .packed .result * p .rule .result ≤ 2313
+primitive-few p =
+    let s = begun (own p) in
+    omega (
+      arith,
+      own-few (own p),
+      flag-times (own p .packed .result) (p .rule .result)
+          (omega (arith, p .rule .ensures, one-most (eqb (s .args .kind) 3))),
+    )
 
 -- and the kind's
 abbrev Told : Type 0
 Told = tie.After-rule2
 
-abbrev own : Told → tie.After-rule
-own c = search
-
 module _ (k : Told) where
+  abbrev flag : tie.After-rule
+  flag = search
+
   abbrev s : tie.Start
-  s = start (own k)
+  s = begun (own flag)
 
   abbrev x : ℕ
-  x = k .rule2 .result + getD (s .args .operations .now) (s .args .extra) 0 * own k .rule .result
+  x = k .rule2 .result + own flag .packed .result * flag .rule .result
 
   told : x ≡ packed (countsOf (s .args .kind) 11 0) + packed (operationCounts (s .args .extra)) * one (eqb (s .args .kind) 3)
-  told = ap₂ (λ x y. x + y) (k .rule2 .ensures) (ap₂ (λ x y. x * y) (op-told s) (own k .rule .ensures))
+  told = ap₂ (λ x y. x + y) (k .rule2 .ensures) (ap₂ (λ x y. x * y) (own-told (own flag)) (flag .rule .ensures))
 
   few : x ≤ 6410
-  few = omega (arith, own-few (own k), k .rule2 .ensures, rule-small (s .args .kind) 7)
+  few = omega (arith, primitive-few flag, k .rule2 .ensures, rule-small (s .args .kind) 7)
 
-mul-operation : tie.Need-mul-operation
-mul-operation c = search needs
+cast-operation-counts : tie.Need-cast-operation-counts
+cast-operation-counts c = search needs
 
-element-copy-out-operation : tie.Need-element-copy-out-operation
-element-copy-out-operation c = search needs
+operation-counts-requires : tie.Need-operation-counts-requires
+operation-counts-requires c κs = search needs
 
-cast-operation : tie.Need-cast-operation
-cast-operation c =
-    let s : tie.Start = search in
-    record { fits = omega (arith, op-few s) }
+packed-requires : tie.Need-packed-requires
+packed-requires c κs =
+    let o : tie.After-operation-counts = search in
+    subst Few (sym (o .operation-counts .ensures)) (operation-few _)
+
+cast-own : tie.Need-cast-own
+cast-own c = search needs
 
 rule-requires : tie.Need-rule-requires
 rule-requires c κs = search needs
 
-mul-operation-2 : tie.Need-mul-operation-2
-mul-operation-2 c = record { fits = omega (arith, own-few c) }
+mul-operation : tie.Need-mul-operation
+mul-operation c = record { fits = omega (arith, primitive-few c) }
 
 rule-requires-2 : tie.Need-rule-requires-2
 rule-requires-2 c κs = search needs
@@ -100,17 +115,18 @@ cast-result c =
 returns : tie.Need-returns
 returns c =
     let k : Told = search in
-    wants-told (s k .args .kind) (s k .args .extra) (s k .args .params) (x k) (s k .args .call) _ (told k) (s k .pre .4) (more (s k)) refl
+    wants-told (s k .args .kind) (s k .args .extra) (s k .args .params) (x k) (s k .args .call) _ (told k) (s k .pre .3) (more (s k)) refl
 
 pub wants-spec : {M : Type 1} → statement M
 wants-spec =
     tie.close
     (tie.spec
-    mul-operation
-    element-copy-out-operation
-    cast-operation
+    cast-operation-counts
+    operation-counts-requires
+    packed-requires
+    cast-own
     rule-requires
-    mul-operation-2
+    mul-operation
     rule-requires-2
     add-counts
     mul-counts
