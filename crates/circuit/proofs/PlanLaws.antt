@@ -248,7 +248,7 @@ pub open-moves : (t : List ℕ) → Taken t → (n : ℕ) → IsNode t n → (a 
 open-moves t fair n i a b c d e h = sym (ap goes (sym (acts-open t fair n i a b c d e (openBy t c d n) h refl)) ∙ open-goes t c d n)
 
 -- beside gives the last value, and no other operation looks at it
-op-last : (op x y z : ℕ) → 9 < op → operateBy op x y z ≡ z
+pub op-last : (op x y z : ℕ) → 9 < op → operateBy op x y z ≡ z
 unfolding operate lastValue
 op-last op x y z h = rw (
   ne-eqb op 0 (λ e. omega arith),
@@ -281,16 +281,6 @@ last-map : (f : ℕ → ℕ) (x : ℕ) (l : List ℕ) → lastValue (f x ∷ map
 unfolding lastValue lastFrom
 last-map f x [] = refl
 last-map f x (y ∷ l) = last-map f y l
-
-pub of-other : (op x y z : ℕ) → (op ≡ 0 → ⊥) → (op ≡ 1 → ⊥) → (op ≡ 2 → ⊥) → (op ≡ 3 → ⊥) → (op ≡ 4 → ⊥) → (op ≡ 5 → ⊥)
-    → (op ≡ 6 → ⊥) → (op ≡ 7 → ⊥) → (op ≡ 8 → ⊥) → (op ≡ 9 → ⊥) → z ≡ operateBy op x y z
-of-other op x y z n0 n1 n2 n3 n4 n5 n6 n7 n8 n9 = sym (op-last op x y z (high op (low op n0 n1 n2 n3 n4) n5 n6 n7 n8 n9))
-  where
-    low : (k : ℕ) → (k ≡ 0 → ⊥) → (k ≡ 1 → ⊥) → (k ≡ 2 → ⊥) → (k ≡ 3 → ⊥) → (k ≡ 4 → ⊥) → 4 < k
-    low k a b c d e = omega arith
-
-    high : (k : ℕ) → 4 < k → (k ≡ 5 → ⊥) → (k ≡ 6 → ⊥) → (k ≡ 7 → ⊥) → (k ≡ 8 → ⊥) → (k ≡ 9 → ⊥) → 9 < k
-    high k l a b c d e = omega arith
 
 -- an operation on a chain's values
 module _ (t : List ℕ) (fair : Taken t) (value : List ℕ) (op c : ℕ) where

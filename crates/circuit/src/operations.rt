@@ -4,21 +4,29 @@ ghost use Rattle.table.specs.Pick.{pick};
 ghost use mathlib.Core.List.{[], _∷_};
 ghost use Rattle.rules.specs.Operations.{operate};
 
-// Of two values; `last` is what beside gives.
+// Of two values; `last` is what beside gives. By ranges, with at most three operations in each: LLVM keeps no table of jumps for so few.
 pub(crate) fn of_two(op: u16, x: u32, y: u32, last: u32) -> u32
     ensures { λ r. ⌜ r ≡ operate op (x ∷ (y ∷ (last ∷ []))) ⌝ }
 {
     match op {
-        0 => std::num::wrapping_add_u32(x, y),
-        1 => std::num::wrapping_sub_u32(x, y),
-        2 => x & y,
-        3 => x | y,
-        4 => x ^ y,
-        5 => std::num::wrapping_add_u32(x, x),
-        6 => x / 2,
-        7 => x % 2,
-        8 => number(x == y),
-        9 => number(x < y),
+        0..=1 => match op {
+            0 => std::num::wrapping_add_u32(x, y),
+            _ => std::num::wrapping_sub_u32(x, y),
+        },
+        2..=4 => match op {
+            2 => x & y,
+            3 => x | y,
+            _ => x ^ y,
+        },
+        5..=7 => match op {
+            5 => std::num::wrapping_add_u32(x, x),
+            6 => x / 2,
+            _ => x % 2,
+        },
+        8..=9 => match op {
+            8 => number(x == y),
+            _ => number(x < y),
+        },
         _ => last,
     }
 }

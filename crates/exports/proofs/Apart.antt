@@ -4,13 +4,14 @@ use mathlib.Core.Path.{_≡_, refl, ap₂, ap}
 use native.Mathlib.Omega.{arith}
 use Rattle.rules.specs.Step.{Reply, taken, answered, denied}
 use Rattle.rules.specs.Runs.{Halt, whole, stopped, Ended, gave, atRest, spent, barred, Found, names, nothing, unasked}
+use Rattle.table.specs.declared.Counts.{Counts}
 use Rattle.table.specs.Check.{Verdict, accepted, refused}
 use Rattle.list.specs.declared.Record.{Record}
 use Rattle.rules.specs.Circuit.{Started, started, turned}
-use Rattle.exports.specs.Codes.{codeOf, refusalCode, recordCode, Item, item, past, unlisted, itemCode}
+use Rattle.exports.specs.Codes.{codeOf, countsCode, refusalCode, recordCode, Item, item, past, unlisted, itemCode}
 use Rattle.exports.specs.Codes.{Extent, bytes, unprinted, extentCode}
 use Rattle.exports.specs.Answers.{startCode, replyCode, foundCode, haltCode, endedCode}
-use Rattle.exports.specs.Numbers.{Refusable, FitsVerdict, FitsItem, FitsExtent, FitsReply, FitsFound, FitsHalt, FitsEnded}
+use Rattle.exports.specs.Numbers.{Refusable, FitsVerdict, FitsCounts, FitsItem, FitsExtent, FitsReply, FitsFound, FitsHalt, FitsEnded}
 use Rattle.exports.specs.Numbers.{bare, verdictOfStart}
 
 same-refusal : {A : Type 0} (f : ℕ → ℕ → A) (k p k′ p′ : ℕ) → Refusable k p → Refusable k′ p′ → refusalCode k p ≡ refusalCode k′ p′
@@ -45,6 +46,11 @@ same-record r r′ b b′ e =
     let h = high (r .callee .0) _ (r′ .callee .0) _ (omega (arith, b .1, b .2)) (omega (arith, b′ .1, b′ .2)) e in
     let l = low (r .caller .0) _ (r′ .caller .0) _ (b .2) (b′ .2) (h .1) in
     λ i. record { callee = record { 0 = h .0 i }; caller = record { 0 = l .0 i }; node = record { 0 = l .1 i } }
+
+pub counts-apart : (c d : Counts) → FitsCounts c → FitsCounts d → countsCode c ≡ countsCode d → c ≡ d
+counts-apart c d b b′ e =
+    let p = low (c .low) (c .high) (d .low) (d .high) (b .1) (b′ .1) e in
+    λ i. record { low = p .0 i; high = p .1 i }
 
 pub items-apart : (a b : Item) → FitsItem a → FitsItem b → itemCode a ≡ itemCode b → a ≡ b
 items-apart (item r) (item r′) b b′ e = ap item (same-record r r′ b b′ (omega (arith, e)))

@@ -10,9 +10,10 @@ use lib.ListN.{length, getD, List·getD-eq-default}
 use Rattle.table.specs.Pick.{pick}
 use Rattle.table.specs.Bytes.{functions, nodes}
 use Rattle.table.specs.Find.{lowest}
-use Rattle.table.specs.Check.{Verdict, accepted, refused, stage, sizes, checkOf}
+use Rattle.table.specs.Check.{Verdict, accepted, refused, stage, sizes, checkOf, operationCounts}
 use Rattle.table.specs.Working.{Taken}
 use Rattle.table.proofs.SurveyLaws.{taken-by}
+use Rattle.table.proofs.RuleLaws.{operation-few}
 use Rattle.list.specs.declared.Record.{Record}
 use Rattle.list.specs.Tags.{after, listed, tagFits, checkWith, fillVerdict, tagsRefusal}
 use Rattle.list.specs.Records.{noRecord, recordAt, recordsOf, recordsVerdict}
@@ -21,11 +22,14 @@ use Rattle.list.proofs.EachRecord.{each-record, record-small}
 use Rattle.pages.specs.Sheet.{sheetBytes}
 use Rattle.pages.proofs.SheetLaws.{bytes-fit}
 use Rattle.exports.specs.Codes.{item, past, itemAfter, itemOf, extentAfter, extentOf}
-use Rattle.exports.specs.Numbers.{Refusable, FitsVerdict, FitsItem, FitsExtent}
+use Rattle.exports.specs.Numbers.{Refusable, FitsVerdict, FitsCounts, FitsItem, FitsExtent}
 
 -- a number of the rules, at a place that is a node's or none
 pub refusable : (k p : ℕ) → 1 ≤ k → k ≤ 255 → p ≤ 512 → Refusable k p
 refusable k p a b c = (a, omega (arith, b), omega (arith, c))
+
+pub counts-fit : (op : ℕ) → FitsCounts (operationCounts op)
+counts-fit op = let f = operation-few op in (omega (arith, f .0), omega (arith, f .1))
 
 pub stage-fits : (k : ℕ) (b : Bool) (p : ℕ) (rest : Unit {0} → Verdict) → 1 ≤ k → k ≤ 255 → p ≤ 512 → (T b → FitsVerdict (rest tt))
     → FitsVerdict (stage k b p rest)

@@ -14,6 +14,7 @@ use Rattle.exports.proofs.CircuitRanges as CircuitRanges
 pub numbers-tell : NumbersTell
 numbers-tell = record {
   checks = Apart.checks-apart;
+  counts = Apart.counts-apart;
   items = Apart.items-apart;
   extents = Apart.extents-apart;
   starts = Apart.starts-apart;
@@ -31,6 +32,7 @@ answers-fit t tags s = record {
   filled = Ranges.fill-fits t;
   records = Ranges.records-fit t;
   item = Ranges.item-fits t;
+  counts = Ranges.counts-fit;
   extent = Ranges.extent-fits t;
   start = CircuitRanges.start-fits t tags;
   step = λ b w n. CircuitRanges.step-answers t tags s n b w;

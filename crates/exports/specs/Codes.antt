@@ -5,6 +5,7 @@ use Prim.Native.Nat.{ℕ, _+_, _*_}
 use mathlib.Core.List.{List}
 use lib.Dec.{ltb}
 use lib.ListN.{length, getD}
+use Rattle.table.specs.declared.Counts.{Counts}
 use Rattle.table.specs.Pick.{pick}
 use Rattle.list.specs.declared.Record.{Record}
 use Rattle.list.specs.Records.{noRecord, recordsOf}
@@ -14,6 +15,10 @@ use Rattle.table.specs.Check.{Verdict, accepted, refused, checkOf}
 abbrev pub codeOf : Verdict → ℕ
 codeOf (accepted F N) = 0
 codeOf (refused number place) = number * 65536 + place
+
+-- the child counts of an operation: the fewest * 65536 + the most
+abbrev pub countsCode : Counts → ℕ
+countsCode c = c .low * 65536 + c .high
 
 abbrev pub valueCode : ℕ → ℕ
 valueCode v = 4294967296 + v

@@ -2,7 +2,8 @@
 use Prim.Native.Nat.{ℕ, _≤_, _<_}
 use mathlib.Core.Path.{_≡_}
 use mathlib.Core.List.{List}
-use Rattle.table.specs.Check.{Verdict, accepted, refused, checkOf}
+use Rattle.table.specs.declared.Counts.{Counts}
+use Rattle.table.specs.Check.{Verdict, accepted, refused, checkOf, operationCounts}
 use Rattle.list.specs.Tags.{checkWith, fillVerdict}
 use Rattle.list.specs.Records.{recordsVerdict}
 use Rattle.rules.specs.State.{State512}
@@ -12,7 +13,7 @@ use Rattle.rules.specs.Runs.{Halt, whole, stopped, runOf, Ended, gave, atRest, 
 use Rattle.rules.specs.Runs.{Found, names, nothing, unasked}
 use Rattle.rules.specs.First.{queryOf, driveOf}
 use Rattle.rules.specs.Companions.{Bytes, Fits}
-use Rattle.exports.specs.Codes.{codeOf, Item, item, past, unlisted, itemOf, itemCode}
+use Rattle.exports.specs.Codes.{codeOf, countsCode, Item, item, past, unlisted, itemOf, itemCode}
 use Rattle.exports.specs.Codes.{Extent, bytes, unprinted, extentOf, extentCode}
 use Rattle.exports.specs.Answers.{startCode, replyCode, foundCode, haltCode, endedCode}
 
@@ -26,6 +27,9 @@ Valued v = v < 4294967296
 abbrev pub FitsVerdict : Verdict → Type 0
 FitsVerdict (accepted F N) = Unit {0}
 FitsVerdict (refused number place) = Refusable number place
+
+abbrev pub FitsCounts : Counts → Type 0
+FitsCounts c = (c .low < 65536) × (c .high < 65536)
 
 abbrev pub FitsItem : Item → Type 0
 FitsItem (item r) = (r .callee .0 < 256) × (r .caller .0 < 256) × (r .node .0 < 65536)
@@ -72,6 +76,8 @@ Tells {A} code fits = (a b : A) → fits a → fits b → code a ≡ code b → 
 pub record NumbersTell : Type 0 where
   -- table_check, list_fill_tags, list_check_tags, list_fill_records
   pub checks : (v w : Verdict) → FitsVerdict v → FitsVerdict w → codeOf v ≡ codeOf w → bare v ≡ bare w
+  -- table_operation_counts
+  pub counts : Tells countsCode FitsCounts
   -- list_record
   pub items : Tells itemCode FitsItem
   -- sheet_fill
@@ -93,6 +99,8 @@ pub record AnswersFit (t tags : List ℕ) (s : State512) : Type 0 where
   pub filled : (len : ℕ) → FitsVerdict (fillVerdict t len)
   pub records : (len : ℕ) → FitsVerdict (recordsVerdict t len)
   pub item : (i : ℕ) → FitsItem (itemOf t i)
+  -- table_operation_counts
+  pub counts : (op : ℕ) → FitsCounts (operationCounts op)
   -- sheet_fill
   pub extent : FitsExtent (extentOf t)
   -- circuit_start, circuit_step, circuit_query, circuit_run, circuit_drive

@@ -7,12 +7,12 @@ use list::Listing;
 use list::Record;
 use table::Checked;
 ghost use mathlib.Core.Path.{_≡_};
-ghost use Rattle.table.specs.Check.{checkOf};
+ghost use Rattle.table.specs.Check.{checkOf, operationCounts};
 ghost use Rattle.table.specs.Survey.{verdictOf};
 ghost use Prim.Native.Nat.{_%_, _^_, _<_};
 ghost use lib.ListN.{length, getD};
 ghost use Rattle.list.specs.Tags.{checkWith, fillVerdict, filledTags, bitsSet};
-ghost use Rattle.exports.specs.Codes.{codeOf, valueCode, recordCode, itemOf, itemCode};
+ghost use Rattle.exports.specs.Codes.{codeOf, countsCode, valueCode, recordCode, itemOf, itemCode};
 ghost use Rattle.list.specs.Records.{noRecord, recordsVerdict, filledRecords};
 
 // 0 for accepted, else the refusal's number * 65536 + its place.
@@ -31,6 +31,15 @@ pub extern "C" fn table_check(bytes: &[u8]) -> u32
     ensures { λ r. ⌜ r ≡ codeOf (checkOf (now (bytes .entry))) ⌝ }
 {
     code(table::check(bytes))
+}
+
+// The fewest children that a primitive of this operation may have * 65536 + the most; 0 where there is no such operation.
+#[no_mangle]
+pub extern "C" fn table_operation_counts(op: u8) -> u32
+    ensures { λ r. ⌜ r ≡ countsCode (operationCounts op) ⌝ }
+{
+    let c = table::operation_counts(op);
+    (c.low as u32) * 65536 + (c.high as u32)
 }
 
 // Fills a tag list with the arbiter list; 10 where its length is another.

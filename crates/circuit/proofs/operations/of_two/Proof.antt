@@ -1,8 +1,9 @@
 -- `operations::of_two` meets its contract: operation by operation.
-use Rattle.circuit.proofs.PlanLaws.{of-other}
 use native.Mathlib.Omega.{arith}
-use mathlib.Core.Path.{sym, _∙_}
+use Prim.Native.Nat.{ℕ}
+use mathlib.Core.Path.{_≡_, sym, _∙_}
 use Rattle.rules.specs.Operations.{operate, wrap}
+use Rattle.circuit.proofs.PlanLaws.{op-last}
 use Rattle.circuit.proofs.OperationLaws.{doubled, subtracted}
 use borrow.Author.Needs.{needs}
 use Rattle.circuit.proofs.operations.of_two.Statement.{statement}
@@ -26,59 +27,77 @@ number-requires-2 c κs = search needs
 returns : tie.Need-returns
 unfolding operate wrap
 returns c =
-    let at-match-keys1 : tie.At-match-keys1 = search in
-    c .wrapping-add-u32 .ensures ∙ sym (rw (at-match-keys1 .match .keys1))
+    let start : tie.Start = search in
+    let e : start .args .op ≡ 0 = omega arith in
+    c .wrapping-add-u32 .ensures ∙ sym (rw e)
 
 returns-2 : tie.Need-returns-2
 unfolding operate wrap
 returns-2 c =
-    let at-match-keys2 : tie.At-match-keys2 = search in
-    subtracted _ _ _ (omega arith) (omega arith) (omega arith) (c .wrapping-sub-u32 .ensures) ∙ sym (rw (at-match-keys2 .match .keys2))
+    let start : tie.Start = search in
+    let e : start .args .op ≡ 1 = omega arith in
+    subtracted _ _ _ (omega arith) (omega arith) (omega arith) (c .wrapping-sub-u32 .ensures) ∙ sym (rw e)
 
 returns-3 : tie.Need-returns-3
 unfolding operate wrap
-returns-3 c = sym (rw (c .match .keys3))
+returns-3 c =
+    let start : tie.Start = search in
+    let e : start .args .op ≡ 2 = omega arith in
+    sym (rw e)
 
 returns-4 : tie.Need-returns-4
 unfolding operate wrap
-returns-4 c = sym (rw (c .match .keys4))
+returns-4 c =
+    let start : tie.Start = search in
+    let e : start .args .op ≡ 3 = omega arith in
+    sym (rw e)
 
 returns-5 : tie.Need-returns-5
 unfolding operate wrap
-returns-5 c = sym (rw (c .match .keys5))
+returns-5 c =
+    let start : tie.Start = search in
+    let e : start .args .op ≡ 4 = omega arith in
+    sym (rw e)
 
 returns-6 : tie.Need-returns-6
 unfolding operate wrap
 returns-6 c =
-    let at-match-keys6 : tie.At-match-keys6 = search in
-    c .wrapping-add-u322 .ensures ∙ doubled _ ∙ sym (rw (at-match-keys6 .match .keys6))
+    let start : tie.Start = search in
+    let e : start .args .op ≡ 5 = omega arith in
+    c .wrapping-add-u322 .ensures ∙ doubled _ ∙ sym (rw e)
 
 returns-7 : tie.Need-returns-7
 unfolding operate wrap
-returns-7 c = sym (rw (c .match .keys7))
+returns-7 c =
+    let start : tie.Start = search in
+    let e : start .args .op ≡ 6 = omega arith in
+    sym (rw e)
 
 returns-8 : tie.Need-returns-8
 unfolding operate wrap
-returns-8 c = sym (rw (c .match .keys8))
+returns-8 c =
+    let start : tie.Start = search in
+    let e : start .args .op ≡ 7 = omega arith in
+    sym (rw e)
 
 returns-9 : tie.Need-returns-9
 unfolding operate wrap
 returns-9 c =
-    let at-match-keys9 : tie.At-match-keys9 = search in
-    c .number .ensures ∙ sym (rw (at-match-keys9 .match .keys9))
+    let start : tie.Start = search in
+    let e : start .args .op ≡ 8 = omega arith in
+    c .number .ensures ∙ sym (rw e)
 
 returns-10 : tie.Need-returns-10
 unfolding operate wrap
 returns-10 c =
-    let at-match-keys10 : tie.At-match-keys10 = search in
-    c .number2 .ensures ∙ sym (rw (at-match-keys10 .match .keys10))
+    let start : tie.Start = search in
+    let e : start .args .op ≡ 9 = omega arith in
+    c .number2 .ensures ∙ sym (rw e)
 
 returns-11 : tie.Need-returns-11
 returns-11 c =
     let start : tie.Start = search in
-    let m = c .match .rest in
-    of-other _ _ _ (start .args .last) (m .0 .0 .0 .0 .0 .0 .0 .0 .0 .1) (m .0 .0 .0 .0 .0 .0 .0 .0 .1) (m .0 .0 .0 .0 .0 .0 .0 .1)
-    (m .0 .0 .0 .0 .0 .0 .1) (m .0 .0 .0 .0 .0 .1) (m .0 .0 .0 .0 .1) (m .0 .0 .0 .1) (m .0 .0 .1) (m .0 .1) (m .1)
+    sym (op-last _ _ _ (start .args .last) (omega arith))
 
 pub of-two-spec : {M : Type 1} → statement M
 of-two-spec =
