@@ -27,7 +27,7 @@ enum {
     SAFL_SHEET_BYTES = 19008
 };
 
-/* An answer of 32 bits is 0, or a refusal: number * 65536 + place.
+/* An answer of 32 bits, but that of table_operation_counts, is 0, or a refusal: number * 65536 + place.
    An answer of 64 bits, but that of list_total, has its kind in the upper half, and a value or a refusal in the lower. */
 enum {
     SAFL_PLAIN = 0,   /* started, taken, the whole list, at rest, none: as the function says; the lower half is 0 */
@@ -52,10 +52,23 @@ static inline unsigned safl_place(uint32_t refusal) {
     return refusal & 0xffffu;
 }
 
+/* Child counts are fewest * 65536 + most. */
+static inline unsigned safl_fewest(uint32_t counts) {
+    return counts >> 16;
+}
+
+static inline unsigned safl_most(uint32_t counts) {
+    return counts & 0xffffu;
+}
+
 /* ---- The table: refusals 1 to 9, then 25 */
 
 /* 0 for an accepted table, or a refusal. */
 uint32_t table_check(const uint8_t *table, size_t table_len);
+
+/* How many children a primitive of this operation may have, any byte: safl_fewest and safl_most tell them. 0 where there is no such
+   operation. */
+uint32_t table_operation_counts(uint8_t operation);
 
 /* ---- The arbiter list. The table's refusals, 1 to 9 and 25, come first, then 10. */
 

@@ -1,5 +1,4 @@
 -- the operations' child counts, byte by byte
-use Prim.Native.Nat.{ℕ, _<_}
 use mathlib.Core.Bool.{Bool, true, false, _&&_, not}
 use mathlib.Core.Path.{_≡_, refl}
 use lib.Dec.{T, eqb, ltb, eqb→eq}

@@ -1,12 +1,12 @@
 -- the rules that the sweep looks up by kind, and what they say of a node
 use Prim.Native.Nat.{ℕ, zero, suc, _+_, _-_, _*_, _/_, _%_, _≤_, _<_}
 use mathlib.Core.Bool.{Bool, true, false, _||_}
-use mathlib.Core.Path.{_≡_, refl, subst, sym, ap, ap₂, _∙_}
+use mathlib.Core.Path.{_≡_, refl, sym, ap, ap₂, _∙_}
 use mathlib.Core.List.{List}
 use native.Mathlib.Omega.{arith}
 use native.Mathlib.Decide.{ℕ-discrete}
 use native.Mathlib.Numerals.{add-one}
-use lib.Dec.{T, eqb, leb, eqb→eq}
+use lib.Dec.{eqb, leb, eqb→eq}
 use lib.ListN.{getD, set}
 use borrow.Author.Tests.{eq-eqb, ne-eqb, le-leb}
 use Rattle.table.specs.declared.Counts.{Counts}
@@ -25,7 +25,8 @@ unfolding all kindRules rulesPut countsOf operationCounts
 rule-read k j a b =
     let kind : (8 * k + j) / 8 ≡ k = omega arith in
     let place : (8 * k + j) % 8 ≡ j = omega arith in
-    eqb→eq _ _ (by-trying (λ i. eqb (getD (kindRules 8) i 0) (ruleAt (i / 8) (i % 8))) 64 tt (8 * k + j) (omega arith)) ∙ ap₂ ruleAt kind place
+    eqb→eq _ _ (by-trying (λ i. eqb (getD (kindRules 8) i 0) (ruleAt (i / 8) (i % 8))) 64 tt (8 * k + j) (omega arith))
+    ∙ ap₂ ruleAt kind place
 
 -- one kind more
 pub rules-more : (k : ℕ) (l : List ℕ) (r : Rule) (x : ℕ) → l ≡ kindRules k → r ≡ ruleOf k → x ≡ packed (countsOf k 11 0)

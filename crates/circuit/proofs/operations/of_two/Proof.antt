@@ -1,6 +1,5 @@
 -- `operations::of_two` meets its contract: operation by operation.
 use native.Mathlib.Omega.{arith}
-use Prim.Native.Nat.{ℕ}
 use mathlib.Core.Path.{_≡_, sym, _∙_}
 use Rattle.rules.specs.Operations.{operate, wrap}
 use Rattle.circuit.proofs.PlanLaws.{op-last}
