@@ -4,7 +4,8 @@ ghost use Rattle.table.specs.Pick.{pick};
 ghost use mathlib.Core.List.{[], _∷_};
 ghost use Rattle.rules.specs.Operations.{operate};
 
-// Of two values; `last` is what beside gives. By ranges, with at most three operations in each: LLVM keeps no table of jumps for so few.
+// Of two values; `last` is what beside gives. At most three operations to a range: from four on LLVM would put a table of jumps into
+// read-only memory (document 02, Q-4).
 pub(crate) fn of_two(op: u16, x: u32, y: u32, last: u32) -> u32
     ensures { λ r. ⌜ r ≡ operate op (x ∷ (y ∷ (last ∷ []))) ⌝ }
 {

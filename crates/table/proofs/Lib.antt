@@ -2,7 +2,7 @@ pub mod SyntaxLaws
 pub mod CallPlaces
 pub mod Tests
 pub mod FindLaws
-pub mod OperationLaws
+pub mod OperationCounts
 pub mod KindLaws
 pub mod WidthLaws
 pub mod Loops

@@ -1,7 +1,7 @@
 -- the rules that the sweep looks up by kind, and what they say of a node
 use Prim.Native.Nat.{ℕ, zero, suc, _+_, _-_, _*_, _/_, _%_, _≤_, _<_}
 use mathlib.Core.Bool.{Bool, true, false, _||_}
-use mathlib.Core.Path.{_≡_, refl, sym, ap, ap₂, _∙_}
+use mathlib.Core.Path.{_≡_, sym, ap, ap₂, _∙_}
 use mathlib.Core.List.{List}
 use native.Mathlib.Omega.{arith}
 use native.Mathlib.Decide.{ℕ-discrete}
@@ -71,18 +71,10 @@ one-most true = omega arith
 one-most false = omega arith
 
 -- a number times 0 or 1
-pub flag-most : (x y m : ℕ) → y ≤ 1 → (y ≡ 1 → x ≤ m) → x * y ≤ m
-flag-most x zero m h f = omega arith
-flag-most x (suc zero) m h f = omega (arith, f refl)
-flag-most x (suc (suc y)) m h f = absurd (omega arith)
-
 pub flag-times : (x y : ℕ) → y ≤ 1 → x * y ≤ x
-flag-times x y h = flag-most x y x h (λ e. omega arith)
-
-pub flag-place : (c w F : ℕ) → c ≤ 1 → (c ≡ 1 → (1 ≤ w) × (w ≤ F)) → c * w ≤ F
-flag-place zero w F h f = omega arith
-flag-place (suc zero) w F h f = omega (arith, f refl .1)
-flag-place (suc (suc c)) w F h f = absurd (omega arith)
+flag-times x zero h = omega arith
+flag-times x (suc zero) h = omega arith
+flag-times x (suc (suc y)) h = absurd (omega arith)
 
 -- the tests that are looked up are those of the kind
 abbrev Told : ℕ → Type 0
@@ -206,12 +198,16 @@ counts-more k e p = go (ℕ-discrete k 4)
         let n : p * one (eqb k 4) ≡ 0 = rw (ne-eqb k 4 z) (omega arith) in
         (omega (arith, ap (λ c. c .low) s, n), omega (arith, ap (λ c. c .high) s, n))
 
--- how many children a node may have, from what was looked up
-pub wants-told : (k e p x c w : ℕ) → x ≡ packed (countsOf k 11 0) + packed (operationCounts e) * one (eqb k 3) → c ≡ one (eqb k 4)
-    → p * c ≤ 8 → w ≡ x + 257 * (p * c) → (w % 256 ≡ countsOf k e p .low) × (w / 256 ≡ countsOf k e p .high)
-wants-told k e p x c w ex ec l ew =
+-- how many children a node may have: its kind's, its operation's and its callee's numbers
+pub wants-told : (k e p x w : ℕ) → x ≡ packed (countsOf k 11 0) + packed (operationCounts e) * one (eqb k 3) → p ≤ 8
+    → ((k ≡ 4 → ⊥) → p ≡ 0) → w ≡ x + 257 * p → (w % 256 ≡ countsOf k e p .low) × (w / 256 ≡ countsOf k e p .high)
+wants-told k e p x w ex l alone ew =
     let m = counts-more k e p in
     let q = ex ∙ counts-packed k e in
     let f = counts-few k e in
-    let n = ap (λ y. p * y) ec in
+    let n = calls (ℕ-discrete k 4) in
     (omega (arith, m .0, q, f, n, l, ew), omega (arith, m .1, q, f, n, l, ew))
+  where
+    calls : Dec (k ≡ 4) → p * one (eqb k 4) ≡ p
+    calls (yes z) = rw z (omega arith)
+    calls (no z) = rw (ne-eqb k 4 z) (omega (arith, alone z))

@@ -8,11 +8,11 @@ use Rattle.table.specs.Naming.{owner}
 use Rattle.table.specs.Check.{checkOf, accepted}
 use Rattle.table.specs.Decoded.{cellAt, nodeSlot, functionSlot, nodeField, functionField, decodedInto}
 use Rattle.table.specs.Expressions.{bodyOf, exprAt}
-use Rattle.table.specs.Operations.{CountsOfBytes}
+use Rattle.table.specs.OperationCounts.{CountsOfBytes}
 use Rattle.table.specs.Well.{Laid, WidthsHold}
 use Rattle.table.proofs.LaidOut as LaidOut
 use Rattle.table.proofs.Widths as Widths
-use Rattle.table.proofs.OperationLaws as OperationLaws
+use Rattle.table.proofs.OperationCounts as OperationCounts
 use Rattle.table.proofs.SurveyLaws.{taken-by, taken-small}
 use Rattle.table.proofs.DecodedLaws.{decoded-read}
 use Rattle.table.proofs.CellLaws.{width-read}
@@ -26,9 +26,9 @@ laid = LaidOut.laid
 pub widths-hold : (t : List ℕ) (F N : ℕ) → checkOf t ≡ accepted F N → WidthsHold (functions t) (bodyOf t) (width t)
 widths-hold = Widths.widths-hold
 
--- of every operation byte, 0 to 255, the child counts are those that document 01 lists; they are 0 and 0 where the check knows no operation
+-- of all 256 bytes the child counts are document 01's, and the check knows the same ones for operations
 pub counts-of-bytes : CountsOfBytes
-counts-of-bytes = OperationLaws.counts-of-bytes
+counts-of-bytes = OperationCounts.counts-of-bytes
 
 -- what the survey puts into cells is read back, field by field
 pub nodes-decoded : (t cells : List ℕ) (F N : ℕ) → checkOf t ≡ accepted F N → length cells ≡ 3270 → (n k : ℕ) → 1 ≤ n → n ≤ nodes t → k < 8

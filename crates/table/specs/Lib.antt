@@ -4,7 +4,7 @@ pub mod Bytes
 pub mod Find
 pub mod Naming
 pub mod Check
-pub mod Operations
+pub mod OperationCounts
 pub mod Expressions
 pub mod Environment
 pub mod Well

@@ -1,4 +1,4 @@
-// What a node's kind allows (refusals 5 and 7); a primitive's operation is asked of `operation_counts`.
+// What a node's kind allows (refusals 5 and 7); how many children an operation has, `operation_counts` says (lib.rt).
 use crate::Counts;
 use crate::Node;
 ghost use mathlib.Core.Path.{_≡_};

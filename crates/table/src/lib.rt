@@ -42,15 +42,13 @@ pub enum Checked {
     Refused(u8, Node),
 }
 
-// How many children a primitive may have, worked out from its operation byte; 0 and 0 where there is no such operation. Eight and nine
-// have an arm of their own: joined with the first five they cost the check some hundredths.
+// The fewest and the most children of a primitive with this operation; of a byte that is no operation 0 and 0.
 pub fn operation_counts(op: u8) -> Counts
     ensures { λ r. ⌜ r ≡ operationCounts op ⌝ }
 {
     match op {
-        0..=4 => Counts { low: 2, high: 2 },
+        0..=4 | 8..=9 => Counts { low: 2, high: 2 },
         5..=7 => Counts { low: 1, high: 1 },
-        8..=9 => Counts { low: 2, high: 2 },
         10 => Counts { low: 1, high: 8 },
         _ => Counts { low: 0, high: 0 },
     }

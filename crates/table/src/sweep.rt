@@ -113,24 +113,27 @@ fn kind_fits(
     word <= most_word(rules, kind, owner, most, tail)
 }
 
-// The parameters of a call's callee; of what is no call, anything.
-fn arguments(table: &[u8], call: usize, word: usize) -> u32
-    requires { ⌜ Framed (now table) × (call ≤ 1) × (call ≡ 1 → IsFunction (now table) word) ⌝ }
-    ensures { λ r. ⌜ (call ≡ 1 → r ≡ params (now (table .entry)) word) ⌝ }
+// The parameters of a call's callee; 0 of what is no call.
+fn arguments(table: &[u8], call: u32, word: usize) -> u32
+    requires { ⌜ Framed (now table) × (call ≡ 1 → IsFunction (now table) word) ⌝ }
+    ensures { λ r. ⌜ (call ≡ 1 → r ≡ params (now (table .entry)) word) × ((call ≡ 1 → ⊥) → r ≡ 0) ⌝ }
 {
-    let at = 4 * (call * word);
-    crate::decode::wide(table[at]) as u32
+    if call == 1 {
+        crate::decode::wide(table[4 * word]) as u32
+    } else {
+        0
+    }
 }
 
-// The fewest children that kind and operation allow, and 256 times the most.
-fn wants(rules: &[u16; 64], kind: u16, extra: u32, call: u32, params: u32) -> u16
-    requires { ⌜ (now rules ≡ kindRules 8) × (kind < 8) × (extra < 16) × (call ≡ one (eqb kind 4))
-        × (call ≡ 1 → params ≤ 8) ⌝ }
+// The fewest children that kind and operation allow, and 256 times the most; a call has as many as its callee has parameters.
+fn wants(rules: &[u16; 64], kind: u16, extra: u32, params: u32) -> u16
+    requires { ⌜ (now rules ≡ kindRules 8) × (kind < 8) × (extra < 16) × (kind ≡ 4 → params ≤ 8)
+        × ((kind ≡ 4 → ⊥) → params ≡ 0) ⌝ }
     ensures { λ r. ⌜ (r % 256 ≡ countsOf kind extra params .low) × (r / 256 ≡ countsOf kind extra params .high) ⌝ }
 {
     let own = kinds::packed(crate::operation_counts(extra as u8)) as u32;
     let operation = own * rule(rules, kind, kinds::PRIMITIVE);
-    let counts = rule(rules, kind, kinds::COUNTS) + operation + 257 * (params * call);
+    let counts = rule(rules, kind, kinds::COUNTS) + operation + 257 * params;
     counts as u16
 }
 
@@ -171,7 +174,7 @@ fn node(table: &[u8], base: usize, rules: &[u16; 64], n: Node, own: u32, inherit
         return failed();
     }
     let call = rule(rules, kind, kinds::CALL);
-    let args = arguments(table, call as usize, word as usize);
+    let args = arguments(table, call, word as usize);
     let body = end * (inherited / 1024 % 2);
     let scope = innermost(let_in(inherited), linking::parent(own), body);
     let down = (scope.0 as u32) + 1024 * (rule(rules, kind, kinds::REACH) + 4096 - 4096 * tail);
@@ -179,7 +182,7 @@ fn node(table: &[u8], base: usize, rules: &[u16; 64], n: Node, own: u32, inherit
         passed: true,
         down,
         bound: rule(rules, kind, kinds::BOUND),
-        wants: wants(rules, kind, extra, call, args),
+        wants: wants(rules, kind, extra, args),
     }
 }
 

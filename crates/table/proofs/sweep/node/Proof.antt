@@ -143,6 +143,9 @@ module _ (k : Called) where
   call : k .rule .result ≡ one (eqb (of start .kind .result) 4)
   call = k .rule .ensures
 
+  call-yes : of start .kind .result ≡ 4 → k .rule .result ≡ 1
+  call-yes e = call ∙ ap (λ x. one (eqb x 4)) e
+
   callee : k .rule .result ≡ 1 → IsFunction (s start .args .table .now) (words start .word .result)
   callee e = let i = fits .callee (one-yes _ 4 (sym call ∙ e)) in (i .0, omega (arith, i .1, function start .1))
 
@@ -262,14 +265,11 @@ rule-requires c κs =
     let r = read p in
     (s r .pre .1, kinds r, omega arith)
 
-cast-arguments : tie.Need-cast-arguments
-cast-arguments c = search needs
-
 arguments-requires : tie.Need-arguments-requires
 arguments-requires c κs =
     let k : Called = search in
     let r = start k in
-    (node r .place .framed, omega (arith, call k, one-most (eqb (of r .kind .result) 4)), callee k)
+    (node r .place .framed, callee k)
 
 mul-body : tie.Need-mul-body
 mul-body c =
@@ -329,8 +329,8 @@ wants-requires c κs =
       s r .pre .1,
       kinds r,
       fits k .small,
-      call k,
-      λ e. omega (arith, a .arguments .ensures e, params-few _ (node r .roots) _ (callee k e)),
+      λ e. omega (arith, a .arguments .ensures .0 (call-yes k e), params-few _ (node r .roots) _ (callee k (call-yes k e))),
+      λ e. a .arguments .ensures .1 (λ z. e (one-yes _ 4 (sym (call k) ∙ z))),
     )
 
 returns-3 : tie.Need-returns-3
@@ -354,7 +354,7 @@ returns-3 c e =
       );
       bound = b .rule3 .ensures ∙ ap (λ x. one (eqb x 7)) (of r .kind .ensures);
       counts = wants-here _ _ _ _ _ _ _ (of r .kind .ensures) (extras r .extra .ensures) (words r .word .ensures)
-          (λ e. a .arguments .ensures (call k ∙ ap (λ x. one (eqb x 4)) e)) (c .wants .ensures);
+          (λ e. a .arguments .ensures .0 (call-yes k e)) (c .wants .ensures);
     }
 
 pub node-spec : {M : Type 1} → statement M
@@ -381,7 +381,6 @@ node-spec =
     failed-requires-2
     returns-2
     rule-requires
-    cast-arguments
     arguments-requires
     mul-body
     let-in-requires

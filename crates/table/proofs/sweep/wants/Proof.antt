@@ -1,19 +1,24 @@
 -- `sweep::wants` meets its contract: what its operation, its kind and its callee give a node is how many children it may have.
 use native.Mathlib.Omega.{arith}
+use native.Mathlib.Decide.{ℕ-discrete}
 use Prim.Native.Nat.{ℕ, _+_, _*_, _≤_}
 use lib.Dec.{eqb}
 use mathlib.Core.Path.{_≡_, refl, subst, sym, ap, ap₂, _∙_}
 use Rattle.table.specs.Find.{one}
 use Rattle.table.specs.Check.{operationCounts, countsOf}
 use Rattle.table.specs.Sweep.{packed}
-use Rattle.table.proofs.RuleLaws.{Few, one-most, flag-most, flag-times, operation-few, rule-small, wants-told}
+use Rattle.table.proofs.RuleLaws.{Few, one-most, flag-times, operation-few, rule-small, wants-told}
 use borrow.Author.Needs.{needs}
 use Rattle.table.proofs.sweep.wants.Statement.{statement}
 use Rattle.table.proofs.sweep.wants.Tie as tie
 
 -- what a call has more
-more : (s : tie.Start) → s .args .params * s .args .call ≤ 8
-more s = flag-most _ _ 8 (omega (arith, s .pre .3, one-most (eqb (s .args .kind) 4))) (s .pre .4)
+more : (s : tie.Start) → s .args .params ≤ 8
+more s = go (ℕ-discrete (s .args .kind) 4)
+  where
+    go : Dec (s .args .kind ≡ 4) → s .args .params ≤ 8
+    go (yes e) = s .pre .3 e
+    go (no e) = omega (arith, s .pre .4 e)
 
 -- the operation's counts
 abbrev Own : Type 0
@@ -97,11 +102,6 @@ mul-counts c =
     let s : tie.Start = search in
     record { fits = omega (arith, more s) }
 
-mul-counts-2 : tie.Need-mul-counts-2
-mul-counts-2 c =
-    let s : tie.Start = search in
-    record { fits = omega (arith, more s) }
-
 add-counts-2 : tie.Need-add-counts-2
 add-counts-2 c =
     let k : Told = search in
@@ -115,7 +115,7 @@ cast-result c =
 returns : tie.Need-returns
 returns c =
     let k : Told = search in
-    wants-told (s k .args .kind) (s k .args .extra) (s k .args .params) (x k) (s k .args .call) _ (told k) (s k .pre .3) (more (s k)) refl
+    wants-told (s k .args .kind) (s k .args .extra) (s k .args .params) (x k) _ (told k) (more (s k)) (s k .pre .4) refl
 
 pub wants-spec : {M : Type 1} → statement M
 wants-spec =
@@ -130,7 +130,6 @@ wants-spec =
     rule-requires-2
     add-counts
     mul-counts
-    mul-counts-2
     add-counts-2
     cast-result
     returns)
