@@ -1,4 +1,4 @@
-/* The proved functions for C and C++: the check of a SAFL design table, its arbiter list and sheet, its circuit.
+/* The proved functions for C and C++: the check of a SAFL design table, operations' child counts, the arbiter list and sheet, the circuit.
    Link target/staticlib/libexports.a, which `rt staticlib exports` writes for x86-64 Linux. docs/RULES.md has the rules and the numbers of
    the refusals, docs/FORMATS.md the bytes, examples/run.c a whole program.
 
@@ -66,8 +66,8 @@ static inline unsigned safl_most(uint32_t counts) {
 /* 0 for an accepted table, or a refusal. */
 uint32_t table_check(const uint8_t *table, size_t table_len);
 
-/* How many children a primitive of this operation may have, any byte: safl_fewest and safl_most tell them. 0 where there is no such
-   operation. */
+/* The fewest and the most children of a primitive with this operation: safl_fewest and safl_most read them off. Every byte is answered,
+   with 0 where it is no operation; a larger number is cut to its lowest byte, as C does. */
 uint32_t table_operation_counts(uint8_t operation);
 
 /* ---- The arbiter list. The table's refusals, 1 to 9 and 25, come first, then 10. */

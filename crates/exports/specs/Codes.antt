@@ -1,6 +1,6 @@
--- an answer as one number: of a check, and of tags and records that are filled, 0 or the refusal's number * 65536 + its place; of
--- `list_record`, `sheet_fill` and the circuit's functions the kind of the answer * 2^32 + the value, node, record, length or refusal that
--- goes with it
+-- an answer as one number: of a check, and of tags and records that are filled, 0 or the refusal's number * 65536 + its place; of child
+-- counts the fewest * 65536 + the most; of `list_record`, `sheet_fill` and the circuit's functions the kind of the answer * 2^32 + the
+-- value, node, record, length or refusal that goes with it
 use Prim.Native.Nat.{ℕ, _+_, _*_}
 use mathlib.Core.List.{List}
 use lib.Dec.{ltb}
@@ -16,7 +16,6 @@ abbrev pub codeOf : Verdict → ℕ
 codeOf (accepted F N) = 0
 codeOf (refused number place) = number * 65536 + place
 
--- the child counts of an operation: the fewest * 65536 + the most
 abbrev pub countsCode : Counts → ℕ
 countsCode c = c .low * 65536 + c .high
 
