@@ -33,7 +33,7 @@ pub extern "C" fn table_check(bytes: &[u8]) -> u32
     code(table::check(bytes))
 }
 
-// The fewest children that a primitive of this operation may have * 65536 + the most; 0 where there is no such operation.
+// The fewest children of a primitive with this operation * 65536 + the most; 0 for a byte that is no operation.
 #[no_mangle]
 pub extern "C" fn table_operation_counts(op: u8) -> u32
     ensures { λ r. ⌜ r ≡ countsCode (operationCounts op) ⌝ }

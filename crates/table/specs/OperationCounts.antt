@@ -29,5 +29,5 @@ noCounts = between 0 0
 
 pub record CountsOfBytes : Type 0 where
   pub ruled : (op : ℕ) → op < 256 → operationCounts op ≡ getD countsByNumber op noCounts
-  -- the bytes that are operations are those which no primitive is refused 5 for, whatever its first child is
+  -- the bytes that are operations are those with which a primitive is not refused 5, its word being 0, whatever its first child is
   pub known : (op first : ℕ) → op < 256 → fields 3 op 0 first ≡ ltb op (length countsByNumber)

@@ -33,7 +33,7 @@ pub fn table_check(table: &[u8]) -> u32 {
     unsafe { raw::table_check(table.as_ptr(), table.len()) }
 }
 
-/// The fewest children of an operation times 65536 plus the most; 0 where there is no such operation.
+/// The fewest children of an operation times 65536 plus the most; 0 for a byte that is no operation.
 pub fn table_operation_counts(operation: u8) -> u32 {
     // The library is lent nothing, and answers for every byte.
     unsafe { raw::table_operation_counts(operation) }

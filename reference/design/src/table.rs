@@ -31,8 +31,8 @@ pub(crate) const WORD: usize = 2;
 pub(crate) const FIRST: usize = 6;
 pub(crate) const NEXT: usize = 8;
 
-/// The fewest and the most children of an operation; 0 and 0 where there is no such operation. Check, assembler and
-/// generator all go by this.
+/// The fewest and the most children of an operation; 0 and 0 for a byte that is none. Check, assembler and generator
+/// all go by this.
 pub fn operation_counts(operation: u8) -> (u16, u16) {
     match operation {
         ADD | SUBTRACT | AND | OR | XOR | EQUAL | LESS => (2, 2),
