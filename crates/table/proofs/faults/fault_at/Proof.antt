@@ -90,9 +90,7 @@ well-formed c =
     sym (told .formed .ensures) ∙ not-false _ (c .if1 .left)
 
 formed-passed : (c : tie.Else1) → Says formed (start1 c) true
-formed-passed c =
-    let told : tie.After-formed = search in
-    formed-by (search) _ (told .formed .ensures) ∙ not-false _ (c .if1 .left)
+formed-passed c = formed-by (search) true (sym (well-formed c))
 
 abbrev start2 : tie.Else2 → tie.Start
 start2 c = search
