@@ -11,16 +11,17 @@ use Rattle.table.specs.Syntax.{Expr, Exprs, const, param, prim, call, self, con
 use Rattle.list.specs.Sets.{Calls, ∅, _∪_, shared}
 use Rattle.list.specs.Conflict.{C, C*, PC, A, A*}
 use Rattle.table.specs.Pick.{mixed, pick, Range}
+use Rattle.table.specs.Reach.{Reached}
 use Rattle.list.specs.CallSets.{callee-at, sets, Listed}
 use Rattle.list.proofs.ListedCalls.{Calling, Calling*, C-all, C-all*, sets-all}
 use Rattle.list.specs.PaperList.{Decides}
 use Rattle.list.specs.Arbiters.{Test, noCalls, joined, anyUpTo, callsIn, callsIn*, meeting, parallel, conflicts, conflicts*}
-use Rattle.list.specs.Arbiters.{callsOf, listedIn}
+use Rattle.list.specs.Arbiters.{callsOf, reachedIn, listedIn}
 
 no-decides : Decides false ⊥
 no-decides = (λ e. true≢false (sym e), λ x. absurd x)
 
-or-decides : (a b : Bool) {P Q : Type 0} → Decides a P → Decides b Q → Decides (a || b) (P ⊎ Q)
+pub or-decides : (a b : Bool) {P Q : Type 0} → Decides a P → Decides b Q → Decides (a || b) (P ⊎ Q)
 or-decides true b x y = (λ e. inl (x .0 refl), λ h. refl)
 or-decides false b x y = (λ e. inr (y .0 e), λ h. ⊎-elim (λ p. absurd (true≢false (sym (x .1 p)))) (λ q. y .1 q) h)
 
@@ -161,20 +162,30 @@ module _ (F N : ℕ) (body at : ℕ → Expr) (calleeᵇ : ℕ → ℕ) (same : 
           (sets-all (Range N) F body at calls t (omega arith)) (body g) m)
       go (no e) f = rw (ne-eqb g (suc t) e) (f g m)
 
-  -- the decided list holds exactly the arbiter list
-  pub listed-decides : (m : ℕ) → Decides (listedIn N calleeᵇ body F m) (Listed body at F m)
+  -- the decided list holds exactly the arbiter list, where it is decided which functions are reached
+  pub listed-decides : ((f : ℕ) → Reached F body f → Range F f) → ((f : ℕ) → Decides (reachedIn N calleeᵇ body F f) (Reached F body f))
+      → (m : ℕ) → Decides (listedIn N calleeᵇ body F m) (Listed body at F m)
   unfolding listedIn
-  listed-decides m = (to, from)
+  listed-decides there reaches m = (to, from)
     where
       each : ℕ → Bool
       each f = conflicts N calleeᵇ (callsOf N calleeᵇ body F) (body f) m
 
-      at-body : (f : ℕ) → 1 ≤ f → f ≤ F → Decides (each f) (A (callee-at at) (sets body at F) (body f) m)
-      at-body f a b = A-decides N calleeᵇ (callee-at at) same (callsOf N calleeᵇ body F) (sets body at F) (sets-decides F (omega arith))
-          (sets-all (Range N) F body at calls F (omega arith)) (body f) (calls f a b) m
+      both : ℕ → Bool
+      both f = reachedIn N calleeᵇ body F f && each f
 
-      to : anyUpTo F each ≡ true → Listed body at F m
-      to e = let r = any-out F each e in (r .0, r .1, r .2, at-body (r .0) (r .1) (r .2) .0 (r .3))
+      at-body : (f : ℕ) → Range F f → Decides (each f) (A (callee-at at) (sets body at F) (body f) m)
+      at-body f o = A-decides N calleeᵇ (callee-at at) same (callsOf N calleeᵇ body F) (sets body at F) (sets-decides F (omega arith))
+          (sets-all (Range N) F body at calls F (omega arith)) (body f) (calls f (o .0) (o .1)) m
 
-      from : Listed body at F m → anyUpTo F each ≡ true
-      from h = any-in F each (h .0) (h .1) (h .2) (at-body (h .0) (h .1) (h .2) .1 (h .3))
+      to : anyUpTo F both ≡ true → Listed body at F m
+      to e =
+          let r = any-out F both e in
+          let p = and-both (reachedIn N calleeᵇ body F (r .0)) (each (r .0)) (r .3) in
+          (r .0, reaches (r .0) .0 (p .0), at-body (r .0) (r .1, r .2) .0 (p .1))
+
+      from : Listed body at F m → anyUpTo F both ≡ true
+      from h =
+          let o = there (h .0) (h .1) in
+          any-in F both (h .0) (o .0) (o .1)
+          (both-and (reachedIn N calleeᵇ body F (h .0)) (each (h .0)) (reaches (h .0) .1 (h .1)) (at-body (h .0) o .1 (h .2)))

@@ -1,7 +1,7 @@
 -- the call sets and the conflicts of an accepted table: every call is of a function below main; a body's set; what a node's conflicts are
 use Prim.Native.Nat.{ℕ, zero, suc, _+_, _-_, _≤_, _<_}
 use mathlib.Core.Path.{_≡_, refl, subst, sym, ap, ap₂, _∙_}
-use mathlib.Core.Bool.{Bool, true, false, _||_}
+use mathlib.Core.Bool.{Bool, true, false, _&&_, _||_}
 use mathlib.Core.Logic.{inl, inr}
 use mathlib.Core.List.{List}
 use native.Mathlib.Omega.{arith}
@@ -20,12 +20,12 @@ use Rattle.table.proofs.LaidOut.{laid, call-here}
 use Rattle.list.specs.Arbiters.{Test, noCalls, joined, callsIn, callsIn*, parallel, conflicts, conflicts*, callsOf}
 use Rattle.list.specs.Arbiters.{listedIn}
 use Rattle.list.specs.CallSets.{callee, callee-at, sets}
-use Rattle.list.specs.Tags.{calleeOf, listed}
+use Rattle.list.specs.Tags.{calleeOf, reached, listed}
 use Rattle.table.specs.Working.{Taken}
 use Rattle.list.specs.Working.{Callee, callsBy, callsAt, conflictsAt}
 use Rattle.list.proofs.ListedCalls.{Calling, C-all, sets-all, listed-all}
-use Rattle.list.proofs.ArbiterFacts.{C-decides, sets-decides, any-in}
-use Rattle.list.proofs.Callees.{callee-word, listed-exactly}
+use Rattle.list.proofs.ArbiterFacts.{C-decides, sets-decides, any-in, both-and}
+use Rattle.list.proofs.Callees.{callee-word, reached-in, listed-exactly}
 
 pub or-left : (a b : Bool) → a ≡ true → a || b ≡ true
 or-left true b e = refl
@@ -191,22 +191,23 @@ module _ (t : List ℕ) (ok : Taken t) where
       whole-set (nodes t) (calleeOf t) (bodyOf t) m (functions t) g (i .0) (i .1)
       (λ c h k. laid t (functions t) (nodes t) ok .well .below g c h i k .1)
 
-  -- the conflicts of a node are listed
-  pub node-listed : (n : ℕ) → IsNode t n → (m : ℕ) → conflictsAt t (exprAt t n) m ≡ true → listed t m ≡ true
-  unfolding conflictsAt callsBy listed listedIn
-  node-listed n i m e =
+  -- the conflicts of a node are listed, if its function is reached
+  pub node-listed : (n : ℕ) → IsNode t n → reached t (owner t n) ≡ true → (m : ℕ) → conflictsAt t (exprAt t n) m ≡ true
+      → listed t m ≡ true
+  unfolding conflictsAt callsBy listed listedIn reached
+  node-listed n i h m e =
       let l = laid t (functions t) (nodes t) ok in
       let o = l .home-there n i in
-      any-in (functions t) (λ f. conflicts (nodes t) (calleeOf t) (callsOf (nodes t) (calleeOf t) (bodyOf t) (functions t)) (bodyOf t f) m)
-      (owner t n) (o .0) (o .1)
+      any-in (functions t) (λ f. reached t f && conflictsAt t (bodyOf t f) m) (owner t n) (o .0) (o .1)
+      (both-and (reached t (owner t n)) (conflictsAt t (bodyOf t (owner t n)) m) h
       (part (nodes t) (calleeOf t) (callsOf (nodes t) (calleeOf t) (bodyOf t) (functions t)) m (exprAt t n) e (bodyOf t (owner t n))
-      (l .placed n i))
+      (l .placed n i)))
 
   -- what is listed is a call of a function of the table
   pub listed-called : (n : ℕ) → listed t n ≡ true → (1 ≤ calleeOf t n) × (calleeOf t n ≤ functions t)
   listed-called n e =
       listed-all (λ c. (1 ≤ calleeOf t c) × (calleeOf t c ≤ functions t)) (functions t) (bodyOf t) (exprAt t)
-      (λ f a b c g i. here f a b c g i) n (listed-exactly t (functions t) (nodes t) ok n .0 e)
+      (λ f a b c g i. here f a b c g i) (reached-in t (functions t) (nodes t) ok) n (listed-exactly t (functions t) (nodes t) ok n .0 e)
     where
       here : (f : ℕ) → 1 ≤ f → f ≤ functions t → (c g : ℕ) → CallIn c g (bodyOf t f) → (1 ≤ calleeOf t c) × (calleeOf t c ≤ functions t)
       here f a b c g i =

@@ -1,7 +1,7 @@
--- a function's own set holds the calls of its body
+-- a function's own set holds the calls of its body, and those of the bodies called in it
 use Prim.Native.Nat.{ℕ, zero, suc, _+_, _-_, _≤_, _<_}
-use mathlib.Core.Path.{_≡_, refl, subst, sym}
-use mathlib.Core.Logic.{inl, inr}
+use mathlib.Core.Path.{_≡_, refl, subst, sym, _∙_}
+use mathlib.Core.Logic.{_⊎_, inl, inr, ⊎-elim}
 use native.Mathlib.Omega.{arith}
 use native.Mathlib.Nat.{not-suc-le-zero, suc-add}
 use native.Mathlib.Decide.{ℕ-discrete}
@@ -15,7 +15,7 @@ use Rattle.list.specs.CallSets.{callee-at, sets}
 -- a change of the callees' sets
 module _ (callee : ℕ → ℕ) (B B′ : ℕ → Calls) (m : ℕ) where
   mutual
-    C-over : (e : Expr) → ((c g : ℕ) → CallIn c g e → B g m → B′ g m) → C callee B e m → C callee B′ e m
+    pub C-over : (e : Expr) → ((c g : ℕ) → CallIn c g e → B g m → B′ g m) → C callee B e m → C callee B′ e m
     C-over (const n v) f h = h
     C-over (param n i) f h = h
     C-over (prim n op es) f h = C-over* es f h
@@ -34,6 +34,28 @@ module _ (callee : ℕ → ℕ) (B B′ : ℕ → Calls) (m : ℕ) where
     C-over* none f h = h
     C-over* (some e es) f (inl h) = inl (C-over e (λ c k i. f c k (inl i)) h)
     C-over* (some e es) f (inr h) = inr (C-over* es (λ c k i. f c k (inr i)) h)
+
+-- a call that stands in an expression is in its set, and so is what its callee's set holds
+module _ (callee : ℕ → ℕ) (B : ℕ → Calls) (c g m : ℕ) (goes : (c ≡ m) ⊎ B g m) where
+  mutual
+    pub calls-in : (e : Expr) → CallIn c g e → C callee B e m
+    calls-in (const n v) i = absurd i
+    calls-in (param n j) i = absurd i
+    calls-in (prim n op es) i = calls-in* es i
+    calls-in (call n h es) (inl i) = inr (⊎-elim (λ z. inl (i .0 ∙ z)) (λ y. inr (subst (λ k. B k m) (sym (i .1)) y)) goes)
+    calls-in (call n h es) (inr i) = inl (calls-in* es i)
+    calls-in (self n es) i = calls-in* es i
+    calls-in (cond n x y z) (inl i) = inl (calls-in x i)
+    calls-in (cond n x y z) (inr (inl i)) = inr (inl (calls-in y i))
+    calls-in (cond n x y z) (inr (inr i)) = inr (inr (calls-in z i))
+    calls-in (bind n ds b) (inl i) = inl (calls-in* ds i)
+    calls-in (bind n ds b) (inr i) = inr (calls-in b i)
+    calls-in (bound n d) i = absurd i
+
+    calls-in* : (es : Exprs) → CallIn* c g es → C* callee B es m
+    calls-in* none i = absurd i
+    calls-in* (some e es) (inl i) = inl (calls-in e i)
+    calls-in* (some e es) (inr i) = inr (calls-in* es i)
 
 module _ (F : ℕ) (body at : ℕ → Expr) (m : ℕ) where
   abbrev S : ℕ → ℕ → Calls

@@ -1,23 +1,29 @@
--- a call's callee is its word, and the decided list is the arbiter list
-use Prim.Native.Nat.{ℕ}
+-- of an accepted table: a call's callee is its word; `reached` decides what main reaches, and `listed` the arbiter list
+use Prim.Native.Nat.{ℕ, _≤_}
 use mathlib.Core.Bool.{Bool, true, false, _&&_, not}
-use mathlib.Core.Path.{_≡_, refl, sym}
+use mathlib.Core.Path.{_≡_, refl, subst, sym, ap, _∙_}
 use mathlib.Core.List.{List}
+use native.Mathlib.Omega.{arith}
 use native.Mathlib.Decide.{ℕ-discrete}
 use lib.Dec.{eqb}
 use borrow.Author.Tests.{ne-eqb}
-use Rattle.table.specs.Pick.{pick}
-use Rattle.table.specs.Syntax.{Exprs, const, param, prim, call, self, bound, none, some}
+use Rattle.table.specs.Pick.{pick, Range}
+use Rattle.table.specs.Syntax.{Expr, Exprs, const, param, prim, call, self, cond, bind, bound, none, some, id, Sub}
+use Rattle.table.specs.Well.{Laid}
+use Rattle.table.specs.Reach.{Reached, main, called}
 use Rattle.list.specs.CallSets.{callee, callee-at, Listed}
 use Rattle.list.specs.PaperList.{Decides}
+use Rattle.list.proofs.ListedCalls.{Calling}
 use Rattle.list.proofs.ArbiterFacts.{listed-decides}
-use Rattle.table.proofs.CallPlaces.{call-node}
+use Rattle.list.proofs.ReachedCalls.{reached-decides}
+use Rattle.table.proofs.CallPlaces.{call-node, sub-call}
 use Rattle.table.specs.Bytes.{functions, nodes, kind, extra, word, first}
 use Rattle.table.specs.Naming.{owner}
 use Rattle.table.specs.Check.{accepted, checkOf}
 use Rattle.table.specs.Expressions.{condOf, bindOf, nodeOf, exprsAt, exprAt, bodyOf}
-use Rattle.list.specs.Tags.{isCall, calleeOf, listed}
-use Rattle.table.proofs.LaidOut.{laid}
+use Rattle.list.specs.Tags.{isCall, calleeOf, reached, listed}
+use Rattle.table.proofs.LaidOut.{laid, call-here}
+use Rattle.table.proofs.ReachedFunctions.{reached-there}
 
 callee-cond : (n : ℕ) (es : Exprs) → callee (condOf n es) ≡ 0
 unfolding condOf
@@ -57,9 +63,47 @@ callee-word t n = sym (go (ℕ-discrete (kind t n) 4))
     go (no e) = rw (ne-eqb (kind t n) 4 e)
         (other (eqb (kind t n) 1) (eqb (kind t n) 2) (eqb (kind t n) 3) (eqb (kind t n) 5) (eqb (kind t n) 6))
 
--- the decided list is the arbiter list
-pub listed-exactly : (t : List ℕ) (F N : ℕ) → checkOf t ≡ accepted F N → (n : ℕ)
-    → Decides (listed t n) (Listed (bodyOf t) (exprAt t) (functions t) n)
-unfolding listed
-listed-exactly t F N e = listed-decides (functions t) (nodes t) (bodyOf t) (exprAt t) (calleeOf t) (callee-word t)
-    (λ f a b c g i. let r = laid t F N e .inside f c (a, b) (call-node c g (bodyOf t f) i) in (r .1, r .2))
+-- the expression whose callee is a function is a call of it
+call-of : (u : Expr) (g : ℕ) → callee u ≡ g → 1 ≤ g → (es : Exprs) × (u ≡ call (id u) g es)
+call-of (const n v) g e l = absurd (omega arith)
+call-of (param n i) g e l = absurd (omega arith)
+call-of (prim n op es) g e l = absurd (omega arith)
+call-of (call n h es) g e l = (es, ap (λ k. call n k es) e)
+call-of (self n es) g e l = absurd (omega arith)
+call-of (cond n a b c) g e l = absurd (omega arith)
+call-of (bind n ds b) g e l = absurd (omega arith)
+call-of (bound n d) g e l = absurd (omega arith)
+
+module _ (t : List ℕ) (F N : ℕ) (check : checkOf t ≡ accepted F N) where
+  abbrev lay : Laid (functions t) (nodes t) (bodyOf t) (exprAt t) (owner t)
+  lay = laid t F N check
+
+  -- calls are nodes of the table, and what main reaches are its functions
+  pub calls-there : (f : ℕ) → 1 ≤ f → f ≤ functions t → Calling (Range (nodes t)) (bodyOf t f)
+  calls-there f a b c g i = let r = lay .inside f c (a, b) (call-node c g (bodyOf t f) i) in (r .1, r .2)
+
+  pub reached-in : (f : ℕ) → Reached (functions t) (bodyOf t) f → Range (functions t) f
+  reached-in = reached-there (functions t) (bodyOf t) (lay .some-function) (lay .well)
+
+  -- the functions decided to be reached are those that main reaches
+  pub reached-exactly : (f : ℕ) → Decides (reached t f) (Reached (functions t) (bodyOf t) f)
+  unfolding reached
+  reached-exactly = reached-decides (functions t) (bodyOf t) (exprAt t) reached-in
+      (λ f c g a b i. lay .well .below f c g (a, b) i) (λ f c g a b i. ap callee (call-here lay f c g (a, b) i .1)) (nodes t) (calleeOf t) (callee-word t) calls-there
+
+  pub main-reached : reached t (functions t) ≡ true
+  main-reached = reached-exactly (functions t) .1 main
+
+  -- a function called at a node of a function that is reached
+  pub call-reached : (n g : ℕ) → Range (nodes t) n → calleeOf t n ≡ g → 1 ≤ g → reached t (owner t n) ≡ true → reached t g ≡ true
+  call-reached n g r e l h =
+      let u = call-of (exprAt t n) g (sym (callee-word t n) ∙ e) l in
+      reached-exactly g .1 (called (owner t n) (id (exprAt t n)) g (reached-exactly (owner t n) .0 h)
+      (sub-call (id (exprAt t n)) g (u .0) (bodyOf t (owner t n))
+      (subst (λ x. Sub x (bodyOf t (owner t n))) (u .1) (lay .placed n r))))
+
+  -- the decided list is the arbiter list
+  pub listed-exactly : (n : ℕ) → Decides (listed t n) (Listed (bodyOf t) (exprAt t) (functions t) n)
+  unfolding listed reached
+  listed-exactly = listed-decides (functions t) (nodes t) (bodyOf t) (exprAt t) (calleeOf t) (callee-word t) calls-there reached-in
+      reached-exactly

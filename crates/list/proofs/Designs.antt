@@ -5,14 +5,15 @@ use mathlib.Core.List.{[], _∷_}
 use Rattle.table.specs.Designs.{twice, pair, layered, fir}
 use Rattle.table.proofs.CheckedDesigns.{syntax-open}
 use Rattle.list.specs.declared.Record.{Record}
-use Rattle.list.specs.Arbiters.{noCalls, joined, anyUpTo, callsIn, meeting, parallel, conflicts, callsOf, listedIn}
+use Rattle.list.specs.Arbiters.{noCalls, joined, anyUpTo, callsIn, meeting, parallel, conflicts, callsOf, reachedIn}
+use Rattle.list.specs.Arbiters.{listedIn}
 use Rattle.list.specs.Tags.{isCall, calleeOf, listed, bitsFrom, bytesFrom, tagLength, tagsOf}
 use Rattle.list.specs.Records.{callsFrom, recordsFrom, recordsOf}
 
 -- what closed evaluation has to see through
 unfoldable pub list-open : Unit {0}
-unfolding syntax-open noCalls joined anyUpTo callsIn meeting parallel conflicts callsOf listedIn isCall calleeOf listed bitsFrom bytesFrom
-    tagLength tagsOf callsFrom recordsFrom recordsOf
+unfolding syntax-open noCalls joined anyUpTo callsIn meeting parallel conflicts callsOf reachedIn listedIn isCall calleeOf listed bitsFrom
+    bytesFrom tagLength tagsOf callsFrom recordsFrom recordsOf
 list-open = tt
 
 -- f(f(x)): empty

@@ -7,6 +7,7 @@ pub mod ArbiterFacts
 pub mod PaperConflict
 pub mod Designs
 pub mod CallSetFacts
+pub mod ReachedCalls
 pub mod Callees
 pub mod CallLaws
 pub mod ParallelLaws

@@ -1,7 +1,7 @@
--- the conflicts found once every body is walked are the list, and its bytes are the tag bytes
+-- the conflicts found once main's body is walked are the list, and its bytes are the tag bytes
 use Prim.Native.Nat.{ℕ, zero, suc, _+_, _-_, _*_, _/_, _%_, _^_, _≤_, _<_}
-use mathlib.Core.Path.{_≡_, refl, sym, ap, ap₂, _∙_}
-use mathlib.Core.Bool.{Bool, true, false, _&&_, true≢false}
+use mathlib.Core.Path.{_≡_, refl, subst, sym, ap, ap₂, _∙_}
+use mathlib.Core.Bool.{Bool, true, false, _&&_, _||_, true≢false}
 use mathlib.Core.List.{List}
 use native.Mathlib.Omega.{arith}
 use native.Mathlib.Nat.{pow-suc, mul-comm, div-div-eq-div-mul, div-one}
@@ -9,22 +9,23 @@ use native.Mathlib.Decide.{ℕ-discrete}
 use lib.Dec.{eqb, leb}
 use lib.ListN.{length, getD, take, replicate}
 use lib.Seq.{ext-getD, getD-take, length-take-le}
-use borrow.Author.Tests.{le-leb}
+use borrow.Author.Tests.{le-leb, ne-eqb}
 use Rattle.table.proofs.Tests.{and-no}
 use Rattle.table.specs.Bytes.{functions, nodes}
 use Rattle.table.specs.Find.{one}
 use Rattle.table.specs.Expressions.{bodyOf}
 use Rattle.table.specs.Working.{IsFunction}
 use Rattle.table.proofs.Passed.{passed}
-use Rattle.list.specs.Arbiters.{Test, listedIn}
-use Rattle.list.specs.Tags.{tagged, listed, bitsFrom, bytesFrom, tagLength, tagsOf, bitsSet}
+use Rattle.list.specs.Arbiters.{Test, reachedIn, listedIn}
+use Rattle.list.specs.Tags.{tagged, reached, listed, bitsFrom, bytesFrom, tagLength, tagsOf, bitsSet}
 use Rattle.list.specs.Records.{recordsOf}
 use Rattle.table.specs.Working.{Taken}
-use Rattle.list.specs.Working.{bitAt, packed, siteBit, Bit, callsBy, conflictsAt, Seen, Memo}
+use Rattle.list.specs.Working.{bitAt, packed, siteBit, Bit, callsBy, calledIn, conflictsAt, Seen, Memo}
 use Rattle.list.proofs.BitLaws.{tagged-bit, zeros-at}
 use Rattle.list.proofs.WordLaws.{none-packed}
-use Rattle.list.proofs.ArbiterFacts.{any-out}
+use Rattle.list.proofs.ArbiterFacts.{and-both, any-out}
 use Rattle.list.proofs.ParallelLaws.{by-true}
+use Rattle.list.proofs.Callees.{main-reached}
 use Rattle.list.proofs.TagFacts.{byte-is, bytes-length, listed-call}
 use Rattle.list.proofs.Totals.{total-whole}
 
@@ -37,27 +38,47 @@ module _ (t : List ℕ) where
     sets = λ g m i s b. absurd (s (zeros-at 33 g));
     sited = λ g m i s b e. absurd (s (zeros-at 33 g));
     masks = λ g h i s b. absurd (s (zeros-at 33 g));
+    closed = λ g h i s b e. absurd (s (zeros-at 33 g));
     whole = λ g m i s b e. absurd (s (zeros-at 33 g));
     sound = λ m b e. absurd (true≢false (sym e ∙ none-packed 520 m));
     sites = λ h m i b e. absurd (true≢false (sym e ∙ none-packed 520 (siteBit h m)));
   }
 
-  -- after the last
-  pub found-list : (called rows : List ℕ) → Memo t called rows → ((g : ℕ) → IsFunction t g → Seen called g) → (m : ℕ) → Bit m
-      → packed rows m ≡ listed t m
-  unfolding listed listedIn conflictsAt callsBy
-  found-list called rows k all m b = by-true (packed rows m) (listed t m) (k .sound m b)
-      (λ e. let r = any-out (functions t) (λ f. conflictsAt t (bodyOf t f) m) e in
-      k .whole (r .0) m (r .1, r .2) (all (r .0) (r .1, r .2)) b (r .3))
+  -- what the walk of main's body asks for
+  pub main-there : Taken t → (f : ℕ) → f ≡ functions t → Taken t × IsFunction t f × (reached t f ≡ true)
+  main-there ok f e = (
+    ok,
+    (omega (arith, e, passed t (functions t) (nodes t) ok .0 .F-low), omega (arith, e)),
+    ap (reached t) e ∙ main-reached t (functions t) (nodes t) ok,
+  )
 
--- one more body walked
-pub all-seen : (F : ℕ) (called called′ : List ℕ) (f : ℕ) → ((g : ℕ) → f < g → g ≤ F → Seen called g)
-    → ((g : ℕ) → Seen called g → Seen called′ g) → Seen called′ f → (g : ℕ) → f - 1 < g → g ≤ F → Seen called′ g
-all-seen F called called′ f old kept here g a b = go (ℕ-discrete g f)
-  where
-    go : Dec (g ≡ f) → Seen called′ g
-    go (yes e) z = here (ap (λ k. getD called′ k 0) (sym e) ∙ z)
-    go (no e) z = kept g (old g (omega arith) b) z
+  -- after main's
+  module _ (called rows : List ℕ) (k : Memo t called rows) (ok : Taken t) (F : ℕ) (is : F ≡ functions t)
+      (main : Seen called F) where
+    -- what main reaches has been walked
+    reached-seen : (f : ℕ) → IsFunction t f → reached t f ≡ true → Seen called f
+    unfolding reached reachedIn calledIn callsBy
+    reached-seen f i e = go (ℕ-discrete f F)
+      where
+        other : (a b : Bool) → a ≡ false → a || b ≡ true → b ≡ true
+        other true b p q = absurd (true≢false p)
+        other false b p q = q
+
+        inside : (f ≡ F → ⊥) → calledIn t (callsBy t F) f ≡ true
+        inside d = other (eqb f F) (calledIn t (callsBy t F) f) (ne-eqb f F d)
+            (subst (λ x. eqb f x || calledIn t (callsBy t x) f ≡ true) (sym is) e)
+
+        go : Dec (f ≡ F) → Seen called f
+        go (yes d) = subst (Seen called) (sym d) main
+        go (no d) = k .closed F f (main-there ok F is .1) main
+            (i .0, omega (arith, i .1, passed t (functions t) (nodes t) ok .0 .F-high, is, d)) (inside d)
+
+    pub found-list : (m : ℕ) → Bit m → packed rows m ≡ listed t m
+    unfolding listed listedIn reached conflictsAt callsBy
+    found-list m b = by-true (packed rows m) (listed t m) (k .sound m b)
+        (λ e. let r = any-out (functions t) (λ f. reached t f && conflictsAt t (bodyOf t f) m) e in
+        let p = and-both (reached t (r .0)) (conflictsAt t (bodyOf t (r .0)) m) (r .3) in
+        k .whole (r .0) m (r .1, r .2) (reached-seen (r .0) (r .1, r .2) (p .0)) b (p .1))
 
 -- a number of k bits is what its bits are
 number-is : (s : Test) (k n x : ℕ) → x < 2 ^ k → ((j : ℕ) → j < k → bitAt x j ≡ s (n + j)) → x ≡ bitsFrom s k n

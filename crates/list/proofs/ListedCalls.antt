@@ -8,7 +8,8 @@ use Rattle.table.specs.Syntax.{Expr, Exprs, const, param, prim, call, self, con
 use Rattle.list.specs.Sets.{Calls, ∅, _∪_}
 use Rattle.list.specs.Conflict.{C, C*, PC, A, A*}
 use Rattle.table.specs.Well.{CallIn, CallIn*}
-use Rattle.table.specs.Pick.{mixed}
+use Rattle.table.specs.Pick.{mixed, Range}
+use Rattle.table.specs.Reach.{Reached}
 use Rattle.list.specs.CallSets.{callee-at, sets, Listed}
 
 module _ (Q : ℕ → Type 0) where
@@ -80,6 +81,7 @@ module _ (Q : ℕ → Type 0) where
         go (yes e) f x = C-all (callee-at at) (sets body at t) f (body g) (calls g (omega arith) (omega arith)) m x
         go (no e) f x = f g m x
 
-    pub listed-all : (m : ℕ) → Listed body at F m → Q m
-    listed-all m h =
-        A-all (callee-at at) (sets body at F) (sets-all F (omega arith)) (body (h .0)) (calls (h .0) (h .1) (h .2)) m (h .3)
+    pub listed-all : ((f : ℕ) → Reached F body f → Range F f) → (m : ℕ) → Listed body at F m → Q m
+    listed-all there m h =
+        let o = there (h .0) (h .1) in
+        A-all (callee-at at) (sets body at F) (sets-all F (omega arith)) (body (h .0)) (calls (h .0) (o .0) (o .1)) m (h .2)

@@ -10,6 +10,7 @@ use Rattle.table.proofs.Tests.{and-no}
 use Rattle.table.specs.Pick.{pick}
 use Rattle.table.specs.Syntax.{Expr, Exprs, const, param, prim, call, self, cond, bind, bound, none, some}
 use Rattle.table.specs.Bytes.{functions, nodes, root, kind, extra, word, first, next}
+use Rattle.table.specs.Naming.{owner}
 use Rattle.table.specs.Expressions.{lastOf, exprsAt, exprAt, bodyOf, defsAt, finalAt, thenAt, elseAt}
 use Rattle.table.specs.Working.{IsNode, IsFunction, Linked}
 use Rattle.table.proofs.Passed.{Passed, passed}
@@ -19,7 +20,7 @@ use Rattle.table.proofs.Tree.{exprs-none, exprs-some, defs-none, defs-some}
 use Rattle.table.proofs.NodeCases.{NodeCase, node-case, kids-three}
 use Rattle.table.proofs.NodeCases.{is-const, is-param, is-prim, is-call, is-self, is-cond, is-bind, is-bound}
 use Rattle.list.specs.Arbiters.{Test, noCalls, joined, callsIn, parallel, conflicts}
-use Rattle.list.specs.Tags.{calleeOf}
+use Rattle.list.specs.Tags.{calleeOf, reached}
 use Rattle.list.specs.CallSets.{callee}
 use Rattle.table.specs.Decoded.{cellAt, nodeSlot, nodeField}
 use Rattle.table.specs.Working.{Taken, Decoded}
@@ -259,7 +260,7 @@ module _ (t : List ℕ) (f n : ℕ) (at : Within t f n) where
     pub is : Is t (exprAt t n) (callsAt* t (siblings t false (first t n))) (conflictsAt* t (siblings t false (first t n)))
 
   child : (first t n ≡ 0 → ⊥) → Within t f (first t n)
-  child z = record { taken = at .taken; node = first-node t lk n i z; own = owner-first t lk n i z ∙ at .own }
+  child z = record { taken = at .taken; node = first-node t lk n i z; own = owner-first t lk n i z ∙ at .own; reaches = at .reaches }
 
   pub choosing : kind t n ≡ 5 → Choosing
   choosing p = go v
@@ -312,7 +313,7 @@ module _ (t : List ℕ) (f n : ℕ) (at : Within t f n) where
       → ((m : ℕ) → parallelAt t (kidsAt t defs n) m ≡ true → x m ≡ true) → Beside t n defs
   beside-by defs s x is p q = record {
     calls = λ m e. calls-called t (at .taken) n i m (is .calls m ∙ p m e);
-    conflicts = λ m e. node-listed t (at .taken) n i m (is .conflicts m ∙ q m e);
+    conflicts = λ m e. node-listed t (at .taken) n i (ap (reached t) (at .own) ∙ at .reaches) m (is .conflicts m ∙ q m e);
   }
 
   pub beside-apart : 3 ≤ kind t n → kind t n ≤ 4 → Beside t n false
@@ -336,7 +337,7 @@ module _ (t : List ℕ) (f n : ℕ) (at : Within t f n) where
 
   pub next-there : (next t n ≡ 0 → ⊥) → Within t f (next t n) × (n < next t n)
   next-there z = (
-    record { taken = at .taken; node = next-node t lk n i z; own = owner-next t lk n i z ∙ at .own },
+    record { taken = at .taken; node = next-node t lk n i z; own = owner-next t lk n i z ∙ at .own; reaches = at .reaches },
     link t lk n i .next-on z .0,
   )
 
@@ -364,10 +365,10 @@ module _ (t : List ℕ) (f n : ℕ) (at : Within t f n) where
   no-child z = ap (exprsAt t) z ∙ exprs-none t lk
 
 -- the root of a body
-pub root-there : (t : List ℕ) → Taken t → (g : ℕ) → IsFunction t g → Within t g (root t g)
-root-there t ok g i =
+pub root-there : (t : List ℕ) → Taken t → (g : ℕ) → IsFunction t g → reached t g ≡ true → Within t g (root t g)
+root-there t ok g i h =
     let lk = passed t (functions t) (nodes t) ok .0 .linking in
-    record { taken = ok; node = lk .roots g i; own = owner-root t lk g i }
+    record { taken = ok; node = lk .roots g i; own = owner-root t lk g i; reaches = h }
 
 pub body-root : (t : List ℕ) (g : ℕ) → bodyOf t g ≡ exprAt t (root t g)
 unfolding bodyOf
@@ -376,9 +377,8 @@ body-root t g = refl
 pub few : (t : List ℕ) → Taken t → (functions t ≤ 32) × (nodes t ≤ 512)
 few t ok = let p = passed t (functions t) (nodes t) ok .0 in (p .F-high, p .N-high)
 
-pub owner-few : (t : List ℕ) (f n : ℕ) → Within t f n → (1 ≤ f) × (f ≤ functions t)
-owner-few t f n at =
-    subst (IsFunction t) (at .own) (owner-in t (passed t (functions t) (nodes t) (at .taken) .0 .linking) n (at .node))
+pub owner-few : (t : List ℕ) → Taken t → (n : ℕ) → IsNode t n → IsFunction t (owner t n)
+owner-few t ok = owner-in t (passed t (functions t) (nodes t) ok .0 .linking)
 
 -- what was read of a node
 pub told : (t : List ℕ) (f n : ℕ) (cells : List ℕ) → Decoded t cells → Within t f n → (k r : ℕ) → k < 8

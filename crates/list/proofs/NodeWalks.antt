@@ -7,16 +7,17 @@ use native.Mathlib.Omega.{arith}
 use lib.Bits.{bitOr}
 use lib.Dec.{eqb}
 use lib.ListN.{length, getD, set, replicate}
-use Rattle.table.specs.Bytes.{root, kind, word, first}
+use Rattle.table.specs.Bytes.{functions, nodes, root, kind, word, first}
 use Rattle.table.specs.Expressions.{exprAt, finalAt}
 use Rattle.table.specs.Working.{IsFunction}
 use Rattle.list.specs.declared.walk.Siblings.{Siblings}
 use Rattle.list.specs.Arbiters.{Test, noCalls, joined}
-use Rattle.list.specs.Tags.{calleeOf}
+use Rattle.list.specs.Tags.{calleeOf, reached}
 use Rattle.table.specs.Working.{Taken}
 use Rattle.list.specs.Working.{callsBy, callsAt, callsAt*, conflictsAt, conflictsAt*, parallelAt, siblings, kidsAt, Seen}
 use Rattle.list.specs.Working.{entryAt, packed, Adds, Kept, PutAt, Memo, Grown, Walk, Onto, OntoNode, OntoKids}
 use Rattle.list.specs.Working.{Within, KindTo, Chained, Sided}
+use Rattle.list.proofs.Callees.{call-reached}
 use Rattle.list.proofs.WalkLaws.{walk-none, walk-same, walk-entry, walk-body}
 use Rattle.list.proofs.OntoLaws.{onto-one, onto-walk, onto-same, onto-two}
 use Rattle.list.proofs.NodeLaws.{Is, leaf, apart, enters-none, enters-again, entering, choosing, binding, body-root}
@@ -107,9 +108,16 @@ module _ (t : List ℕ) (f n : ℕ) (at : Within t f n) where
   pub callee-there : (k w : ℕ) → KindTo t n k 4 → (k ≡ 3 → ⊥) → w ≡ word t n → (w ≡ f → ⊥) → IsFunction t w × (w < f) × (w ≤ 31)
   callee-there k w e q u y =
       let g = entering t f n at (call-kind k e q) (λ z. y (u ∙ z)) in
-      let o = owner-few t f n at in
+      let o = subst (IsFunction t) (at .own) (owner-few t (at .taken) n (at .node)) in
       let l = few t (at .taken) .0 in
       ((omega (arith, g .low, u), omega (arith, g .below, u, o .1)), omega (arith, g .below, u), omega (arith, g .below, u, o .1, l))
+
+  -- the callee is reached, since f is
+  pub callee-reached : (k w : ℕ) → KindTo t n k 4 → (k ≡ 3 → ⊥) → w ≡ word t n → (w ≡ f → ⊥) → reached t w ≡ true
+  callee-reached k w e q u y =
+      let g = entering t f n at (call-kind k e q) (λ z. y (u ∙ z)) in
+      call-reached t (functions t) (nodes t) (at .taken) n w (at .node) (g .target ∙ sym u) (callee-there k w e q u y .0 .0)
+      (ap (reached t) (at .own) ∙ at .reaches)
 
   -- a call of another function
   pub at-entry : (k w v : ℕ) (set set′ set″ c c′ r r′ r″ : List ℕ) → KindTo t n k 4 → (k ≡ 3 → ⊥) → w ≡ word t n → (w ≡ f → ⊥)

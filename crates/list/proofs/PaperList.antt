@@ -10,7 +10,6 @@ use Rattle.table.specs.Pick.{Range}
 use Rattle.table.specs.Bytes.{functions, nodes}
 use Rattle.table.specs.Check.{accepted, checkOf}
 use Rattle.table.specs.Expressions.{exprAt, bodyOf}
-use Rattle.table.proofs.CallPlaces.{call-node}
 use Rattle.table.proofs.LaidOut.{laid}
 use Rattle.list.specs.Sets.{Calls, ∅}
 use Rattle.list.specs.Conflict.{C, C*, PC, A, A*}
@@ -23,7 +22,7 @@ use Rattle.list.proofs.ListedCalls.{Calling, sets-all}
 use Rattle.list.specs.PaperList.{Decides, PaperList}
 use Rattle.list.proofs.ArbiterFacts.{C-decides, sets-decides}
 use Rattle.list.proofs.PaperConflict.{to-paper, from-paper}
-use Rattle.list.proofs.Callees.{callee-word, listed-exactly}
+use Rattle.list.proofs.Callees.{callee-word, calls-there, listed-exactly}
 use Rattle.list.proofs.CallLaws.{body-set}
 use Rattle.table.proofs.SurveyLaws.{taken-by}
 
@@ -99,7 +98,7 @@ module _ (body at : ℕ → Expr) (F : ℕ) (below : (f c g : ℕ) → Range F f
 
 module _ (t : List ℕ) (ok : Taken t) where
   calls : (f : ℕ) → 1 ≤ f → f ≤ functions t → Calling (Range (nodes t)) (bodyOf t f)
-  calls f a b c g i = let r = laid t (functions t) (nodes t) ok .inside f c (a, b) (call-node c g (bodyOf t f) i) in (r .1, r .2)
+  calls = calls-there t (functions t) (nodes t) ok
 
   decided : (g m : ℕ) → Decides (callsBy t g m) (bodySets t g m)
   unfolding callsBy
@@ -121,7 +120,7 @@ module _ (t : List ℕ) (ok : Taken t) where
   A-in f n = A-paper (callee-at (exprAt t)) (bodySets t) n (bodyOf t f)
 
   whole : (n : ℕ) → Iff (Listed (bodyOf t) (exprAt t) (functions t) n) (PaperListed t n)
-  whole n = (λ h. (h .0, h .1, h .2, A-in (h .0) n .0 (h .3)), λ h. (h .0, h .1, h .2, A-in (h .0) n .1 (h .3)))
+  whole n = (λ h. (h .0, h .1, A-in (h .0) n .0 (h .2)), λ h. (h .0, h .1, A-in (h .0) n .1 (h .2)))
 
   of-taken : PaperList t
   of-taken = record {

@@ -22,7 +22,7 @@ use Rattle.table.specs.Expressions.{exprAt, bodyOf}
 use Rattle.table.proofs.FindLaws.{pair, same, passes-all, passes-lowest}
 use Rattle.table.proofs.Passed.{goes-on}
 use Rattle.list.proofs.BitLaws.{tagged-bit}
-use Rattle.list.proofs.Callees.{callee-word, listed-exactly}
+use Rattle.list.proofs.Callees.{callee-word, reached-in, listed-exactly}
 use Rattle.list.specs.Tags.{Holding, tagged, isCall, calleeOf, listed, bitsFrom, bytesFrom, tagLength, tagsOf, nonePast, tagFits}
 use Rattle.list.specs.Tags.{tagsRefusal, after, checkWith}
 
@@ -93,7 +93,8 @@ module _ (t : List ℕ) (F N : ℕ) (check : checkOf t ≡ accepted F N) where
   -- what is listed is a call of the table
   pub listed-call : (n : ℕ) → listed t n ≡ true → Range (nodes t) n × (isCall t n ≡ true)
   unfolding calleeOf
-  listed-call n e = listed-all (λ c. Range (nodes t) c × (isCall t c ≡ true)) (functions t) (bodyOf t) (exprAt t) here n
+  listed-call n e = listed-all (λ c. Range (nodes t) c × (isCall t c ≡ true)) (functions t) (bodyOf t) (exprAt t) here
+      (reached-in t F N check) n
       (listed-exactly t F N check n .0 e)
     where
       called : (b : Bool) (w g : ℕ) → pick b w 0 ≡ g → 1 ≤ g → b ≡ true

@@ -63,6 +63,7 @@ module _ (t : List ℕ) where
     grown = grown-none called rows;
     added = adds-none s set l (λ m b. p m);
     functions = λ h c. zero-bit h ∙ sym (called-none t s h p);
+    enters = λ h c e. absurd (true≢false (sym e ∙ called-none t s h p));
     finds = λ m b e. absurd (true≢false (sym e ∙ q m));
     met = λ m b e. absurd (true≢false (sym e ∙ p m));
   }
@@ -75,6 +76,7 @@ module _ (t : List ℕ) where
     grown = w .grown;
     added = adds-same s s′ set set′ (w .added) (λ m b. p m);
     functions = λ h k. w .functions h k ∙ called-same t s s′ h (λ m a b. sym (p m));
+    enters = λ h k e. w .enters h k (called-same t s s′ h (λ m a b. sym (p m)) ∙ e);
     finds = λ m b e. w .finds m b (sym (q m) ∙ e);
     met = λ m b e. w .met m b (sym (p m) ∙ e);
   }
@@ -87,6 +89,8 @@ module _ (t : List ℕ) where
     grown = grown-two c c′ c″ r r′ r″ (v .grown) (w .grown);
     added = adds-two s s′ (joined s s′) set set′ set″ (v .added) (w .added) (λ m b. joined-is s s′ m);
     functions = λ h k. or-bit a b h ∙ ap₂ (λ p q. p || q) (v .functions h k) (w .functions h k) ∙ sym (called-two t s s′ h);
+    enters = λ h k e. ⊎-elim (λ p. w .grown .seen h (v .enters h k p)) (λ p. w .enters h k p)
+        (or-out (calledIn t s h) (calledIn t s′ h) (sym (called-two t s s′ h) ∙ e));
     finds = λ m i e. ⊎-elim (λ p. w .grown .stays m i (v .finds m i p)) (λ p. w .finds m i p) (or-out (x m) (x′ m) (sym
         (joined-is x x′ m) ∙ e));
     met = λ m i e. ⊎-elim (λ p. met-stays c′ c″ r′ r″ (w .grown) m i (v .met m i p)) (λ p. w .met m i p) (or-out (s m) (s′ m) (sym
@@ -105,6 +109,7 @@ module _ (t : List ℕ) where
       grown = w .grown;
       added = adds-none (callsAt* t es) set l none;
       functions = w .functions;
+      enters = w .enters;
       finds = λ m b e. ⊎-elim (λ p. absurd (true≢false (sym p ∙ apart m b))) (λ p. w .finds m b p)
           (or-out (parallelAt t es m) (conflictsAt* t es m) (sym (joined-is (parallelAt t es) (conflictsAt* t es) m) ∙ e));
       met = w .met;
@@ -131,6 +136,7 @@ module _ (t : List ℕ) where
         sets = λ g m i s b. met .other g m (i .0) b ∙ w .memo .sets g m i s b;
         sited = λ g m i s b e. still m b (w .memo .sited g m i s b e);
         masks = w .memo .masks;
+        closed = w .memo .closed;
         whole = λ g m i s b e. more m b (w .memo .whole g m i s b e);
         sound = λ m b e. ⊎-elim (λ p. w .memo .sound m b p) (λ p. q m (sym (meets m b) ∙ p))
             (or-out (packed r′ m) (packed own m && sharedOf own r′ once twice m) (sym (met .bits m b) ∙ e));
@@ -143,6 +149,7 @@ module _ (t : List ℕ) where
       };
       added = adds-same (packed own) (callsAt* t es) set set′ added (λ m b. sym (members m b));
       functions = w .functions;
+      enters = w .enters;
       finds = λ m b e. ⊎-elim
           (λ p. met .bits m b ∙ or-right (packed r′ m) (packed own m && sharedOf own r′ once twice m) (meets m b ∙ p))
           (λ p. more m b (w .finds m b p))
@@ -176,6 +183,7 @@ module _ (t : List ℕ) where
       sets = λ h m q s b. other h m (omega (arith, q .1, few, low .0)) b ∙ k .sets h m q s b;
       sited = λ h m q s b x. still m b (k .sited h m q s b x);
       masks = k .masks;
+      closed = k .closed;
       whole = λ h m q s b x. found m b ∙ k .whole h m q s b x;
       sound = λ m b x. k .sound m b (sym (found m b) ∙ x);
       sites = λ h m q b x. ⊎-elim (λ p. k .sites h m q b p) (λ p. here h m p)
@@ -193,6 +201,9 @@ module _ (t : List ℕ) where
         ∙ ap₂ (λ p q. p || q) (k .masks g h j seen q) (pow-bit g h ∙ turn g h ∙ ap (eqb h) (sym e))
         ∙ or-swap (calledIn t (callsBy t g) h) (eqb h (calleeOf t n)) ∙ ap (λ p. p || calledIn t (callsBy t g) h) (sym (called-one t n h i))
         ∙ sym (called-two t (eqb n) (callsBy t g) h);
+    enters = λ h q p. ⊎-elim (λ z. subst (Seen c′) (sym (eqb-true h g (ap (eqb h) (sym e) ∙ sym (called-one t n h i) ∙ z))) seen)
+        (λ z. k .closed g h j seen q z)
+        (or-out (calledIn t (eqb n) h) (calledIn t (callsBy t g) h) (sym (called-two t (eqb n) (callsBy t g) h) ∙ p));
     finds = λ m b q. absurd (true≢false (sym q ∙ none-there m));
     met = λ m b x. ⊎-elim (λ p. own m b (eqb-true n m p)) (λ p. still m b (k .sited g m j seen b p))
         (or-out (eqb n m) (callsBy t g m) (sym (joined-is (eqb n) (callsBy t g) m) ∙ x));
@@ -250,6 +261,7 @@ module _ (t : List ℕ) where
       sets = λ h m j s b. sets h m j s b (ℕ-discrete h g);
       sited = λ h m j s b e. still m b (sited h m j s b e (ℕ-discrete h g));
       masks = λ h k j s b. masks h k j s b (ℕ-discrete h g);
+      closed = λ h k j s r e. closed h k j s r e (ℕ-discrete h g);
       whole = λ h m j s b e. found m b ∙ whole h m j s b e (ℕ-discrete h g);
       sound = λ m b e. w .memo .sound m b (sym (found m b) ∙ e);
       sites = λ h m q b e. w .memo .sites h m q b (sym (site h m q b) ∙ e);
@@ -319,6 +331,12 @@ module _ (t : List ℕ) where
           → bitAt (getD c″ h 0) k ≡ calledIn t (callsBy t h) k
       masks h k j s r (yes d) = subst (λ z. bitAt (getD c″ z 0) k ≡ calledIn t (callsBy t z) k) (sym d) (own-mask k r)
       masks h k j s r (no d) = ap (λ x. bitAt x k) (at-other h d) ∙ w .memo .masks h k j (old h s d) r
+
+      closed : (h k : ℕ) → IsFunction t h → (getD c″ h 0 ≡ 0 → ⊥) → Callee k → calledIn t (callsBy t h) k ≡ true → Dec (h ≡ g)
+          → getD c″ k 0 ≡ 0 → ⊥
+      closed h k j s r e (yes d) = now k (w .enters k r (called-same t (callsAt t (bodyOf t g)) (callsBy t g) k
+          (λ m a b. sym (body-set t ok g m i)) ∙ subst (λ z. calledIn t (callsBy t z) k ≡ true) d e)) (ℕ-discrete k g)
+      closed h k j s r e (no d) = now k (w .memo .closed h k j (old h s d) r e) (ℕ-discrete k g)
 
       whole : (h m : ℕ) → IsFunction t h → (getD c″ h 0 ≡ 0 → ⊥) → Bit m → conflictsAt t (bodyOf t h) m ≡ true → Dec (h ≡ g)
           → packed r′ m ≡ true

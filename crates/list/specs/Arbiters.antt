@@ -75,7 +75,12 @@ module _ (N : ℕ) (callee : ℕ → ℕ) (body : ℕ → Expr) where
   callsOf zero g m = false
   callsOf (suc t) g m = pick (eqb g (suc t)) (callsIn N callee (callsOf t) (body g) m) (callsOf t g m)
 
-  -- the list: in conflict in one of the F bodies
+  -- the functions reached: main, which is F, and those called in C of its body
+  unfoldable pub reachedIn : ℕ → Test
+  unfolding anyUpTo callsOf
+  reachedIn F g = eqb g F || anyUpTo N (λ c. callsOf F F c && eqb g (callee c))
+
+  -- the list: in conflict in the body of a function reached
   unfoldable pub listedIn : ℕ → Test
-  unfolding anyUpTo conflicts callsOf
-  listedIn F α = anyUpTo F (λ f. conflicts N callee (callsOf F) (body f) α)
+  unfolding anyUpTo conflicts callsOf reachedIn
+  listedIn F α = anyUpTo F (λ f. reachedIn F f && conflicts N callee (callsOf F) (body f) α)

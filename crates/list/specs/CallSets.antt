@@ -1,10 +1,11 @@
 -- the call sets of a whole program, function by function, and its arbiter list
-use Prim.Native.Nat.{ℕ, zero, suc, _≤_}
+use Prim.Native.Nat.{ℕ, zero, suc}
 use native.Mathlib.Decide.{ℕ-discrete}
 use Rattle.table.specs.Syntax.{Expr, const, param, prim, call, self, cond, bind, bound}
 use Rattle.list.specs.Sets.{Calls}
 use Rattle.list.specs.Conflict.{C, A}
 use Rattle.table.specs.Pick.{mixed}
+use Rattle.table.specs.Reach.{Reached}
 
 -- the function that a node calls, if it is a call and no self call
 abbrev pub callee : Expr → ℕ
@@ -26,6 +27,6 @@ module _ (body at : ℕ → Expr) where
   sets zero g m = ⊥
   sets (suc t) g m = mixed (ℕ-discrete g (suc t)) (C (callee-at at) (sets t) (body g) m) (sets t g m)
 
-  -- the arbiter list: the calls in conflict in some body
+  -- the arbiter list: the calls in conflict in the body of some function that main, which is F, reaches
   abbrev pub Listed : ℕ → ℕ → Type 0
-  Listed F α = (f : ℕ) × (1 ≤ f) × (f ≤ F) × A (callee-at at) (sets F) (body f) α
+  Listed F α = (f : ℕ) × Reached F body f × A (callee-at at) (sets F) (body f) α

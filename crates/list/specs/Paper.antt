@@ -4,6 +4,7 @@ use mathlib.Core.Path.{_≡_}
 use mathlib.Core.List.{List}
 use Rattle.table.specs.Syntax.{Expr, Exprs, const, param, prim, call, self, cond, bind, bound, none, some}
 use Rattle.table.specs.Pick.{Range}
+use Rattle.table.specs.Reach.{Reached}
 use Rattle.table.specs.Bytes.{functions}
 use Rattle.table.specs.Expressions.{exprAt, bodyOf}
 use Rattle.list.specs.Sets.{Calls, ∅, _∪_, shared}
@@ -52,9 +53,9 @@ module _ (body at : ℕ → Expr) (F : ℕ) (B : ℕ → Calls) where
   abbrev pub PaperC : Type 0
   PaperC = (f : ℕ) → Range F f → B f ≐ C (callee-at at) B (body f)
 
-  -- A⟦p⟧ is the union of the A⟦e_f⟧: all F bodies count
+  -- A⟦p⟧ is the union of the A⟦e_f⟧: the functions f count that main reaches by calls, main among them
   abbrev pub programA : Calls
-  programA α = (f : ℕ) × (1 ≤ f) × (f ≤ F) × paperA (callee-at at) B (body f) α
+  programA α = (f : ℕ) × Reached F body f × paperA (callee-at at) B (body f) α
 
 -- of a table: C of its bodies, and the paper's A of its program
 abbrev pub bodySets : List ℕ → ℕ → Calls

@@ -7,7 +7,7 @@ use lib.Count.{ones}
 use lib.ListN.{length, getD}
 use mathlib.Core.Path.{_≡_}
 use Rattle.table.specs.Pick.{pick, Range}
-use Rattle.list.specs.Arbiters.{Test, listedIn}
+use Rattle.list.specs.Arbiters.{Test, reachedIn, listedIn}
 use Rattle.table.specs.Bytes.{functions, nodes, kind, word}
 use Rattle.table.specs.Find.{one, lowest, all}
 use Rattle.table.specs.Naming.{owner}
@@ -27,7 +27,11 @@ isCall t n = eqb (kind t n) 4 && not (eqb (word t n) (owner t n))
 unfoldable pub calleeOf : List ℕ → ℕ → ℕ
 calleeOf t n = pick (isCall t n) (word t n) 0
 
--- the arbiter list: all F bodies count
+-- main, and what it reaches by calls
+unfoldable pub reached : List ℕ → Test
+reached t = reachedIn (nodes t) (calleeOf t) (bodyOf t) (functions t)
+
+-- the arbiter list: the bodies of the functions reached count
 unfoldable pub listed : List ℕ → Test
 listed t = listedIn (nodes t) (calleeOf t) (bodyOf t) (functions t)
 

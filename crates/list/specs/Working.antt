@@ -17,7 +17,7 @@ use Rattle.list.specs.declared.Record.{Record}
 use Rattle.list.specs.declared.records.Marked.{Marked}
 use Rattle.list.specs.declared.walk.Siblings.{Siblings}
 use Rattle.list.specs.Arbiters.{Test, noCalls, joined, anyUpTo, callsIn, callsIn*, parallel, conflicts, conflicts*, callsOf}
-use Rattle.list.specs.Tags.{tagged, calleeOf, listed}
+use Rattle.list.specs.Tags.{tagged, calleeOf, reached, listed}
 use Rattle.list.specs.Records.{callsFrom, recordsFrom, recordsOf, recordsVerdict}
 
 -- bit k of a number
@@ -127,14 +127,15 @@ Seen called g = getD called g 0 ≡ 0 → ⊥
 abbrev pub Met : (t rows : List ℕ) → ℕ → Type 0
 Met t rows m = Callee (calleeOf t m) × (packed rows (siteBit (calleeOf t m) m) ≡ true)
 
--- of each body that has been walked: its calls, which have been met, the functions called in it, and its conflicts among those found,
--- which are listed; and a site is a call of its function
+-- of each body that has been walked: its calls, which have been met, the functions called in it, whose bodies have been walked too, and
+-- its conflicts among those found, which are listed; and a site is a call of its function
 pub record Memo (t called rows : List ℕ) : Type 0 where
   pub size-called : length called ≡ 33
   pub size-rows : length rows ≡ 520
   pub sets : (g m : ℕ) → IsFunction t g → Seen called g → Bit m → packed rows (512 * g + m) ≡ callsBy t g m
   pub sited : (g m : ℕ) → IsFunction t g → Seen called g → Bit m → callsBy t g m ≡ true → Met t rows m
   pub masks : (g h : ℕ) → IsFunction t g → Seen called g → Callee h → bitAt (getD called g 0) h ≡ calledIn t (callsBy t g) h
+  pub closed : (g h : ℕ) → IsFunction t g → Seen called g → Callee h → calledIn t (callsBy t g) h ≡ true → Seen called h
   pub whole : (g m : ℕ) → IsFunction t g → Seen called g → Bit m → conflictsAt t (bodyOf t g) m ≡ true → packed rows m ≡ true
   pub sound : (m : ℕ) → Bit m → packed rows m ≡ true → listed t m ≡ true
   pub sites : (h m : ℕ) → Callee h → Bit m → packed rows (siteBit h m) ≡ true → calleeOf t m ≡ h
@@ -145,12 +146,13 @@ pub record Grown (called called′ rows rows′ : List ℕ) : Type 0 where
   pub stays : (m : ℕ) → Bit m → packed rows m ≡ true → packed rows′ m ≡ true
   pub stands : (h m : ℕ) → Callee h → Bit m → packed rows (siteBit h m) ≡ true → packed rows′ (siteBit h m) ≡ true
 
--- a walk over what has the calls s and the conflicts x: set gets the calls, mask is of the functions called
+-- a walk over what has the calls s and the conflicts x: set gets the calls, mask is of the functions called, whose bodies are walked
 pub record Walk (t : List ℕ) (s x : Test) (mask : ℕ) (set set′ called called′ rows rows′ : List ℕ) : Type 0 where
   pub memo : Memo t called′ rows′
   pub grown : Grown called called′ rows rows′
   pub added : Adds s set set′
   pub functions : (h : ℕ) → Callee h → bitAt mask h ≡ calledIn t s h
+  pub enters : (h : ℕ) → Callee h → calledIn t s h ≡ true → Seen called′ h
   pub finds : (m : ℕ) → Bit m → x m ≡ true → packed rows′ m ≡ true
   pub met : (m : ℕ) → Bit m → s m ≡ true → Met t rows′ m
 
@@ -163,11 +165,12 @@ pub record Onto (t : List ℕ) (s x : Test) (mask mask′ : ℕ) (set set′ cal
 abbrev pub OntoNode : (t : List ℕ) (n mask mask′ : ℕ) (set set′ called called′ rows rows′ : List ℕ) → Type 0
 OntoNode t n = Onto t (callsAt t (exprAt t n)) (conflictsAt t (exprAt t n))
 
--- a node of function f in an accepted table
+-- a node of function f, which is reached, in an accepted table
 pub record Within (t : List ℕ) (f n : ℕ) : Type 0 where
   pub taken : Taken t
   pub node : IsNode t n
   pub own : owner t n ≡ f
+  pub reaches : reached t f ≡ true
 
 -- a node of kind k, which is 3 to top
 pub record KindTo (t : List ℕ) (n k top : ℕ) : Type 0 where

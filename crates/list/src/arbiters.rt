@@ -1,4 +1,4 @@
-// The arbiter list of an accepted table as a packed set: every body is walked, main's first, and each once.
+// The arbiter list of an accepted table as a packed set: main's body is walked, and each body that it reaches, once.
 use crate::bits::Rows;
 use crate::walk;
 use table::Function;
@@ -39,7 +39,7 @@ fn bytes(rows: &Rows) -> [u8; 64]
     set
 }
 
-// The calls that are in conflict in one of the bodies.
+// The calls that are in conflict in a body that main reaches.
 pub(crate) fn arbiters(table: &[u8], cells: &Cells) -> [u8; 64]
     requires { ⌜ Read (now table) (now cells) ⌝ }
     ensures { λ r. ⌜ (length r ≡ 64) × ((i : ℕ) → i < 64 → getD r i 0 < 256)
@@ -48,10 +48,6 @@ pub(crate) fn arbiters(table: &[u8], cells: &Cells) -> [u8; 64]
     let mut rows = [0u64; 520];
     let mut called = [0u32; 33];
     let main = decoded::main(cells);
-    let mut f: u16 = main.0;
-    while 0 < f {
-        walk::body_walk(&table, cells, Function(f), &mut called, &mut rows);
-        f -= 1;
-    }
+    walk::body_walk(&table, cells, main, &mut called, &mut rows);
     bytes(&rows)
 }

@@ -9,11 +9,12 @@ use table::Node;
 use table::decoded;
 use table::decoded::Cells;
 ghost use mathlib.Core.Path.{_≡_};
-ghost use mathlib.Core.Bool.{false};
+ghost use mathlib.Core.Bool.{true, false};
 ghost use lib.ListN.{length};
 ghost use Rattle.table.specs.Bytes.{first};
 ghost use Rattle.table.specs.Working.{Taken, IsFunction, Decoded};
 ghost use Rattle.list.specs.Arbiters.{noCalls};
+ghost use Rattle.list.specs.Tags.{reached};
 ghost use Rattle.list.specs.Working.{entryAt, Seen, Memo, Grown, Onto, OntoNode, OntoKids};
 ghost use Rattle.list.specs.Working.{Within, KindTo, Beside, Sided, Chained};
 
@@ -238,7 +239,7 @@ pub(crate) fn body_walk(
     called: &mut [u32; 33],
     rows: &mut Rows,
 )
-    requires { ⌜ Taken (now (now table)) × IsFunction (now (now table)) (g .0) ⌝ }
+    requires { ⌜ Taken (now (now table)) × IsFunction (now (now table)) (g .0) × (reached (now (now table)) (g .0) ≡ true) ⌝ }
     requires { ⌜ Decoded (now (now table)) (now cells) ⌝ }
     requires { ⌜ Memo (now (now table)) (now called) (now rows) ⌝ }
     ensures { λ _. ⌜ Memo (now (now (table .entry))) (now (called .exit)) (now (rows .exit))

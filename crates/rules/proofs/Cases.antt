@@ -5,7 +5,8 @@ use mathlib.Core.Path.{_≡_, refl, subst, sym, ap, _∙_}
 use mathlib.Core.List.{List, [], _∷_, _++_}
 use mathlib.Core.Logic.{inl, inr}
 use lib.ListN.{length, replicate}
-use Rattle.list.specs.Arbiters.{noCalls, joined, anyUpTo, callsIn, meeting, parallel, conflicts, callsOf, listedIn}
+use Rattle.list.specs.Arbiters.{noCalls, joined, anyUpTo, callsIn, meeting, parallel, conflicts, callsOf, reachedIn}
+use Rattle.list.specs.Arbiters.{listedIn}
 use Rattle.list.specs.Tags.{tagged, isCall, calleeOf, listed, bitsFrom, bytesFrom, tagLength, tagsOf, nonePast, tagFits, tagsRefusal}
 use Rattle.list.specs.Tags.{after, checkWith}
 use Rattle.rules.specs.Operations.{lastValue, wrap, operate}
@@ -74,8 +75,8 @@ reads t tags args ns k v s e =
 
 -- what closed evaluation has to see through
 unfoldable pub list-open : Unit {0}
-unfolding syntax-open noCalls joined anyUpTo callsIn meeting parallel conflicts callsOf listedIn isCall calleeOf listed bitsFrom bytesFrom
-    tagLength tagsOf
+unfolding syntax-open noCalls joined anyUpTo callsIn meeting parallel conflicts callsOf reachedIn listedIn isCall calleeOf listed bitsFrom
+    bytesFrom tagLength tagsOf
 list-open = tt
 
 unfoldable pub circuit-open : Unit {0}

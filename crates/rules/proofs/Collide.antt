@@ -12,7 +12,9 @@ use Rattle.rules.proofs.Shape.{Busy, Done*, busy-moves}
 use Rattle.rules.proofs.Moves.{Finished*, finished*}
 use Rattle.table.proofs.CallPlaces.{find, sub-call}
 use Rattle.table.specs.Well.{Fn, CallIn, Well}
+use Rattle.table.specs.Reach.{Reached}
 use Rattle.rules.proofs.Invariant.{Active, Sound}
+use Rattle.rules.proofs.ActiveReached.{active-reached}
 use Rattle.rules.proofs.Acting.{stepping, stepping-live, first-phase, second-phase}
 use Rattle.list.specs.Sets.{Calls}
 use Rattle.list.specs.Conflict.{C, A}
@@ -97,7 +99,7 @@ module _ (F : ℕ) (body : ℕ → Expr) (s : View) (callee : ℕ → ℕ) (B : 
             (inr (bodies (w .f) α (w .fn) (way-C s callee B (w .u) α (body (w .f)) (w .goes)))) in (o .0, o .1, o .2)
 
     abbrev pub Listed : ℕ → Type 0
-    Listed α = (f : ℕ) × Fn F body f × A callee B (body f) α
+    Listed α = (f : ℕ) × Reached F body f × A callee B (body f) α
 
     abbrev Collide : ℕ → ℕ → ℕ → Type 0
     Collide k α β = (w : Walker α) (x : Walker β) → callee α ≡ callee β → (w .u ≡ x .u → ⊥) → callee (w .u) < x .f → callee (x .u) < w .f
@@ -109,7 +111,7 @@ module _ (F : ℕ) (body : ℕ → Expr) (s : View) (callee : ℕ → ℕ) (B : 
         same : w .f ≡ x .f → Listed α
         same z = (
           w .f,
-          w .fn,
+          active-reached F body s sound (w .f) (w .fn) (w .active),
           meet s callee B (w .u) (x .u) α β d e (body (w .f)) (sound .opened (w .f) (w .fn) (w .active)) (w .goes)
               (subst (λ y. Way s callee B (x .u) β (body y)) (sym z) (x .goes)),
         )

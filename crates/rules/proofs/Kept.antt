@@ -210,7 +210,7 @@ module _ (units : Arithmetic) {F N : ℕ} {body at : ℕ → Expr} {home : ℕ �
       let x = waiting-listed F body s (callee-at at) (sets body at F) (laid .well) sound callees bodies
       (home n) (laid .home-there n r) (w .0) (w .1) (w .2)
       (subst (λ u. Sub u (body (home n))) (w .3) (laid .placed n r)) (w .4) (w .5) (w .6) in
-      subst (Listed body at F) e (x .0, x .1 .0, x .1 .1, x .2)
+      subst (Listed body at F) e x
     where
       callees : (f c g : ℕ) → Fn F body f → CallIn c g (body f) → callee-at at c ≡ g
       callees f c g q i = ap callee (call-here laid f c g q i .1)

@@ -91,6 +91,7 @@ pub mod Again
 -- some node has a step; a call that waits is listed
 pub mod Progress
 pub mod Exclusive
+pub mod ActiveReached
 pub mod Collide
 -- the whole rest falls by one with each step, and the answer is the reading's, which is unique
 pub mod SumLaws

@@ -40,6 +40,7 @@ pub mod RuleLaws
 pub mod Bodies
 pub mod LaidOut
 pub mod Widths
+pub mod ReachedFunctions
 pub mod CheckedDesigns
 pub mod WidthCases
 pub mod Theorems

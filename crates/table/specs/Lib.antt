@@ -8,6 +8,7 @@ pub mod OperationCounts
 pub mod Expressions
 pub mod Environment
 pub mod Well
+pub mod Reach
 pub mod Decoded
 pub mod Survey
 pub mod Working

@@ -68,7 +68,7 @@ module _ (t : ℕ) where
       let ok = p .1 .0 .0 in
       let i = p .1 .0 .1 in
       let e = roots after-root in
-      let w = subst (Within _ _) (sym e) (root-there _ ok _ i) in
+      let w = subst (Within _ _) (sym e) (root-there _ ok _ i (p .1 .0 .2)) in
       (omega (arith, p .0, few _ ok .1, w .node .0), (refl, (w, (p .1 .1 .0, p .1 .1 .1))))
 
   pub keep-requires : lts.Need-keep-requires given (measures.body-walk-at t) body-walk.Post

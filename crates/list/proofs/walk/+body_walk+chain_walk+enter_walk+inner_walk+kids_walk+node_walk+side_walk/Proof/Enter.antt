@@ -1,15 +1,17 @@
 -- what a primitive or a call calls besides its children
 use Prim.Native.Nat.{ℕ, _<_, _≤_}
 use mathlib.Core.Path.{_≡_, sym, _∙_}
+use mathlib.Core.Bool.{true}
 use native.Mathlib.Omega.{arith}
 use Rattle.table.specs.Bytes.{kind, word}
 use borrow.Author.Needs.{needs}
 use Rattle.list.proofs.BitLaws.{bit-is}
 use Rattle.table.specs.Working.{IsFunction}
+use Rattle.list.specs.Tags.{reached}
 use Rattle.list.specs.Working.{Bit}
 use Rattle.list.proofs.NodeLaws.{told, told-callee, few}
 use Rattle.list.proofs.OntoLaws.{onto-none, onto-one}
-use Rattle.list.proofs.NodeWalks.{call-kind, at-same, at-again, callee-there, at-entry}
+use Rattle.list.proofs.NodeWalks.{call-kind, at-same, at-again, callee-there, callee-reached, at-entry}
 use Rattle.list.proofs.walk.enter_walk.Reads as enter-walk
 use Rattle.table.proofs.decoded.callee.Reads as callee-reads
 use Rattle.table.proofs.decoded.owner.Reads as owner-reads
@@ -133,12 +135,17 @@ module _ (t : ℕ) where
         let p = s .pre .1 in
         callee-there _ _ _ (p .1 .0) _ _ (p .1 .1 .0) (some (called read) .if1 .left) (callees (called read)) other
 
+    reaches : reached (s .args .table .now .now) (called read .callee .result .0) ≡ true
+    reaches =
+        let p = s .pre .1 in
+        callee-reached _ _ _ (p .1 .0) _ _ (p .1 .1 .0) (some (called read) .if1 .left) (callees (called read)) other
+
   pub body-walk-requires : lts.Need-body-walk-requires given (measures.enter-walk-at t) enter-walk.Post
   body-walk-requires c κs =
       let else2 : Else2 = search in
       let p = s else2 .pre in
       let u = there else2 in
-      (omega (arith, p .0, u .1, few _ (p .1 .1 .0 .taken) .1), ((p .1 .1 .0 .taken, u .0), p .1 .1 .1 .1))
+      (omega (arith, p .0, u .1, few _ (p .1 .1 .0 .taken) .1), ((p .1 .1 .0 .taken, u .0, reaches else2), p .1 .1 .1 .1))
 
   pub cast-at : lts.Need-cast-at given (measures.enter-walk-at t) enter-walk.Post
   cast-at c = search needs
