@@ -110,10 +110,10 @@ module _ (N : ℕ) (calleeᵇ callee : ℕ → ℕ) (same : (n : ℕ) → callee
       (parallel N calleeᵇ Bᵇ (joined tᵇ (callsIn N calleeᵇ Bᵇ e)) es m)
       (shared-decides (callsIn N calleeᵇ Bᵇ e) (joined tᵇ (callsIn* N calleeᵇ Bᵇ es)) (C callee B e) (t ∪ C* callee B es) (C-decides e)
       (λ i. or-decides (tᵇ i) (callsIn* N calleeᵇ Bᵇ es i) (y i) (C-decides* es i))
-      (λ i h. ⊎-elim (λ u. r i u) (λ u. C-all* (Range N) callee B ranged es (λ c g j. k c g (inr j)) i u) h) m)
+      (λ i h. ⊎-elim (λ u. r i u) (λ u. C-all* (Range N) callee B es (λ c g j. (k c g (inr j), ranged g)) i u) h) m)
       (PC-decides (joined tᵇ (callsIn N calleeᵇ Bᵇ e)) (t ∪ C callee B e) es
       (λ i. or-decides (tᵇ i) (callsIn N calleeᵇ Bᵇ e i) (y i) (C-decides e i))
-      (λ i h. ⊎-elim (λ u. r i u) (λ u. C-all (Range N) callee B ranged e (λ c g j. k c g (inl j)) i u) h) (λ c g j. k c g (inr j)) m)
+      (λ i h. ⊎-elim (λ u. r i u) (λ u. C-all (Range N) callee B e (λ c g j. (k c g (inl j), ranged g)) i u) h) (λ c g j. k c g (inr j)) m)
 
   pub first-decides : (es : Exprs) → Calling* (Range N) es → (m : ℕ) → Decides (parallel N calleeᵇ Bᵇ noCalls es m) (PC callee B ∅ es m)
   unfolding noCalls
@@ -148,7 +148,7 @@ module _ (N : ℕ) (calleeᵇ callee : ℕ → ℕ) (same : (n : ℕ) → callee
         (A-decides* es (λ x f i. r x f (inr i)) m)
 
 module _ (F N : ℕ) (body at : ℕ → Expr) (calleeᵇ : ℕ → ℕ) (same : (n : ℕ) → calleeᵇ n ≡ callee-at at n)
-    (calls : (f : ℕ) → 1 ≤ f → f ≤ F → Calling (Range N) (body f)) where
+    (calls : (f : ℕ) → Range F f → Calling (Range N) (body f)) where
   pub sets-decides : (t : ℕ) → t ≤ F → (g m : ℕ) → Decides (callsOf N calleeᵇ body t g m) (sets body at t g m)
   unfolding callsOf
   sets-decides zero l g m = no-decides
@@ -176,7 +176,7 @@ module _ (F N : ℕ) (body at : ℕ → Expr) (calleeᵇ : ℕ → ℕ) (same : 
 
       at-body : (f : ℕ) → Range F f → Decides (each f) (A (callee-at at) (sets body at F) (body f) m)
       at-body f o = A-decides N calleeᵇ (callee-at at) same (callsOf N calleeᵇ body F) (sets body at F) (sets-decides F (omega arith))
-          (sets-all (Range N) F body at calls F (omega arith)) (body f) (calls f (o .0) (o .1)) m
+          (sets-all (Range N) F body at calls F (omega arith)) (body f) (calls f o) m
 
       to : anyUpTo F both ≡ true → Listed body at F m
       to e =

@@ -15,17 +15,16 @@ use Rattle.table.specs.Bytes.{functions, nodes}
 use Rattle.table.specs.Naming.{owner}
 use Rattle.table.specs.Expressions.{exprAt, bodyOf}
 use Rattle.table.specs.Working.{IsNode, IsFunction}
-use Rattle.table.proofs.CallPlaces.{call-node}
-use Rattle.table.proofs.LaidOut.{laid, call-here}
+use Rattle.table.proofs.LaidOut.{laid}
 use Rattle.list.specs.Arbiters.{Test, noCalls, joined, callsIn, callsIn*, parallel, conflicts, conflicts*, callsOf}
 use Rattle.list.specs.Arbiters.{listedIn}
-use Rattle.list.specs.CallSets.{callee, callee-at, sets}
+use Rattle.list.specs.CallSets.{callee-at, sets}
 use Rattle.list.specs.Tags.{calleeOf, reached, listed}
 use Rattle.table.specs.Working.{Taken}
 use Rattle.list.specs.Working.{Callee, callsBy, callsAt, conflictsAt}
-use Rattle.list.proofs.ListedCalls.{Calling, C-all, sets-all, listed-all}
+use Rattle.list.proofs.ListedCalls.{Calling, C-all, sets-all}
 use Rattle.list.proofs.ArbiterFacts.{C-decides, sets-decides, any-in, both-and}
-use Rattle.list.proofs.Callees.{callee-word, reached-in, listed-exactly}
+use Rattle.list.proofs.Callees.{callee-word, calls-there, call-below, reached-in, listed-stands}
 
 pub or-left : (a b : Bool) → a ≡ true → a || b ≡ true
 or-left true b e = refl
@@ -157,29 +156,26 @@ module _ (t : List ℕ) (ok : Taken t) where
   abbrev Called : ℕ → Type 0
   Called c = Range (nodes t) c × Callee (calleeOf t c)
 
-  calling : (f : ℕ) → 1 ≤ f → f ≤ functions t → Calling Called (bodyOf t f)
-  calling f a b c g i =
-      let l = laid t (functions t) (nodes t) ok in
-      let r = l .inside f c (a, b) (call-node c g (bodyOf t f) i) in
-      let q = call-here l f c g (a, b) i in
-      let e : calleeOf t c ≡ g = callee-word t c ∙ ap callee (q .1) in
-      let w = l .well .below f c g (a, b) i in
-      ((r .1, r .2), (omega (arith, e, w .0), omega (arith, e, w .1, l .functions)))
+  calling : (f : ℕ) → IsFunction t f → Calling Called (bodyOf t f)
+  calling f o c g i =
+      let b = call-below t (functions t) (nodes t) ok f c g o i in (
+        calls-there t (functions t) (nodes t) ok f o c g i,
+        (omega (arith, b .0, b .1), omega (arith, b .0, b .2, o .1, laid t (functions t) (nodes t) ok .functions)),
+      )
 
   calling-at : (n : ℕ) → IsNode t n → Calling Called (exprAt t n)
   calling-at n i c g k =
       let l = laid t (functions t) (nodes t) ok in
-      let o = l .home-there n i in
-      calling (owner t n) (o .0) (o .1) c g (call-up (exprAt t n) c g k (bodyOf t (owner t n)) (l .placed n i))
+      calling (owner t n) (l .home-there n i) c g (call-up (exprAt t n) c g k (bodyOf t (owner t n)) (l .placed n i))
 
   pub calls-called : (n : ℕ) → IsNode t n → (m : ℕ) → callsAt t (exprAt t n) m ≡ true → Called m
   unfolding callsAt callsBy
   calls-called n i m e =
-      C-all Called (callee-at (exprAt t)) (sets (bodyOf t) (exprAt t) (functions t))
-      (sets-all Called (functions t) (bodyOf t) (exprAt t) calling (functions t) (omega arith)) (exprAt t n) (calling-at n i) m
+      C-all Called (callee-at (exprAt t)) (sets (bodyOf t) (exprAt t) (functions t)) (exprAt t n)
+      (λ c g k. (calling-at n i c g k, sets-all Called (functions t) (bodyOf t) (exprAt t) calling (functions t) (omega arith) g)) m
       (C-decides (nodes t) (calleeOf t) (callee-at (exprAt t)) (callee-word t)
       (callsOf (nodes t) (calleeOf t) (bodyOf t) (functions t)) (sets (bodyOf t) (exprAt t) (functions t))
-      (sets-decides (functions t) (nodes t) (bodyOf t) (exprAt t) (calleeOf t) (callee-word t) (λ f a b c g k. calling f a b c g k .0)
+      (sets-decides (functions t) (nodes t) (bodyOf t) (exprAt t) (calleeOf t) (callee-word t) (λ f o c g k. calling f o c g k .0)
       (functions t) (omega arith))
       (λ g m s. sets-all Called (functions t) (bodyOf t) (exprAt t) calling (functions t) (omega arith) g m s .0)
       (exprAt t n) m .0 e)
@@ -206,13 +202,7 @@ module _ (t : List ℕ) (ok : Taken t) where
   -- what is listed is a call of a function of the table
   pub listed-called : (n : ℕ) → listed t n ≡ true → (1 ≤ calleeOf t n) × (calleeOf t n ≤ functions t)
   listed-called n e =
-      listed-all (λ c. (1 ≤ calleeOf t c) × (calleeOf t c ≤ functions t)) (functions t) (bodyOf t) (exprAt t)
-      (λ f a b c g i. here f a b c g i) (reached-in t (functions t) (nodes t) ok) n (listed-exactly t (functions t) (nodes t) ok n .0 e)
-    where
-      here : (f : ℕ) → 1 ≤ f → f ≤ functions t → (c g : ℕ) → CallIn c g (bodyOf t f) → (1 ≤ calleeOf t c) × (calleeOf t c ≤ functions t)
-      here f a b c g i =
-          let l = laid t (functions t) (nodes t) ok in
-          let q = call-here l f c g (a, b) i in
-          let w = l .well .below f c g (a, b) i in
-          let z : calleeOf t c ≡ g = callee-word t c ∙ ap callee (q .1) in
-          (omega (arith, z, w .0), omega (arith, z, w .1, b))
+      let x = listed-stands t (functions t) (nodes t) ok n e in
+      let o = reached-in t (functions t) (nodes t) ok (x .0) (x .2) in
+      let b = call-below t (functions t) (nodes t) ok (x .0) n (x .1) o (x .3) in
+      (omega (arith, b .0, b .1), omega (arith, b .0, b .2, o .1))

@@ -8,14 +8,14 @@ use native.Mathlib.Decide.{ℕ-discrete}
 use Rattle.table.specs.Syntax.{Expr, Exprs, const, param, prim, call, self, cond, bind, bound, none, some}
 use Rattle.list.specs.Sets.{Calls}
 use Rattle.list.specs.Conflict.{C, C*}
-use Rattle.table.specs.Well.{CallIn, CallIn*}
+use Rattle.table.specs.Well.{Fn, CallIn, CallIn*}
 use Rattle.table.specs.Pick.{mixed}
 use Rattle.list.specs.CallSets.{callee-at, sets}
 
 -- a change of the callees' sets
 module _ (callee : ℕ → ℕ) (B B′ : ℕ → Calls) (m : ℕ) where
   mutual
-    pub C-over : (e : Expr) → ((c g : ℕ) → CallIn c g e → B g m → B′ g m) → C callee B e m → C callee B′ e m
+    C-over : (e : Expr) → ((c g : ℕ) → CallIn c g e → B g m → B′ g m) → C callee B e m → C callee B′ e m
     C-over (const n v) f h = h
     C-over (param n i) f h = h
     C-over (prim n op es) f h = C-over* es f h
@@ -94,17 +94,17 @@ module _ (F : ℕ) (body at : ℕ → Expr) (m : ℕ) where
   sink (suc d) t g h x = sink d t g h (lower (d + t) g (omega arith) (subst (λ n. S n g m) (suc-add d t) x))
 
   -- a body's calls, its callees' included, are in its set
-  pub body-calls : ((f c g : ℕ) → 1 ≤ f → f ≤ F → CallIn c g (body f) → (1 ≤ g) × (g < f)) → (g : ℕ) → 1 ≤ g → g ≤ F
+  pub body-calls : ((f c g : ℕ) → Fn F body f → CallIn c g (body f) → (1 ≤ g) × (g < f)) → (g : ℕ) → Fn F body g
       → C (callee-at at) (S F) (body g) m → S F g m
-  body-calls below zero p q x = absurd (not-suc-le-zero p)
-  body-calls below (suc t) p q x = subst (λ n. S n (suc t) m) (diff .1) (raise (diff .0) (suc t) (suc t) (omega arith) (own t here))
+  body-calls below zero r x = absurd (not-suc-le-zero (r .0))
+  body-calls below (suc t) r x = subst (λ n. S n (suc t) m) (diff .1) (raise (diff .0) (suc t) (suc t) (omega arith) (own t here))
     where
       diff : (d : ℕ) × (d + suc t ≡ F)
-      diff = (F - suc t, omega arith)
+      diff = (F - suc t, omega (arith, r .1))
 
       down : (g : ℕ) → g ≤ suc t → S F g m → S (suc t) g m
       down g h y = sink (diff .0) (suc t) g h (subst (λ n. S n g m) (sym (diff .1)) y)
 
       here : C (callee-at at) (S t) (body (suc t)) m
       here = C-over (callee-at at) (S F) (S t) m (body (suc t))
-          (λ c g i y. lower t g (omega (arith, below (suc t) c g p q i)) (down g (omega (arith, below (suc t) c g p q i)) y)) x
+          (λ c g i y. lower t g (omega (arith, below (suc t) c g r i .1)) (down g (omega (arith, below (suc t) c g r i .1)) y)) x

@@ -1,5 +1,5 @@
 -- of an accepted table: a call's callee is its word; `reached` decides what main reaches, and `listed` the arbiter list
-use Prim.Native.Nat.{ℕ, _≤_}
+use Prim.Native.Nat.{ℕ, _≤_, _<_}
 use mathlib.Core.Bool.{Bool, true, false, _&&_, not}
 use mathlib.Core.Path.{_≡_, refl, subst, sym, ap, _∙_}
 use mathlib.Core.List.{List}
@@ -9,11 +9,11 @@ use lib.Dec.{eqb}
 use borrow.Author.Tests.{ne-eqb}
 use Rattle.table.specs.Pick.{pick, Range}
 use Rattle.table.specs.Syntax.{Expr, Exprs, const, param, prim, call, self, cond, bind, bound, none, some, id, Sub}
-use Rattle.table.specs.Well.{Laid}
+use Rattle.table.specs.Well.{CallIn, Laid}
 use Rattle.table.specs.Reach.{Reached, main, called}
 use Rattle.list.specs.CallSets.{callee, callee-at, Listed}
 use Rattle.list.specs.PaperList.{Decides}
-use Rattle.list.proofs.ListedCalls.{Calling}
+use Rattle.list.proofs.ListedCalls.{Calling, listed-all}
 use Rattle.list.proofs.ArbiterFacts.{listed-decides}
 use Rattle.list.proofs.ReachedCalls.{reached-decides}
 use Rattle.table.proofs.CallPlaces.{call-node, sub-call}
@@ -79,8 +79,12 @@ module _ (t : List ℕ) (F N : ℕ) (check : checkOf t ≡ accepted F N) where
   lay = laid t F N check
 
   -- calls are nodes of the table, and what main reaches are its functions
-  pub calls-there : (f : ℕ) → 1 ≤ f → f ≤ functions t → Calling (Range (nodes t)) (bodyOf t f)
-  calls-there f a b c g i = let r = lay .inside f c (a, b) (call-node c g (bodyOf t f) i) in (r .1, r .2)
+  pub calls-there : (f : ℕ) → Range (functions t) f → Calling (Range (nodes t)) (bodyOf t f)
+  calls-there f o c g i = let r = lay .inside f c o (call-node c g (bodyOf t f) i) in (r .1, r .2)
+
+  -- and of a function below the body's own
+  pub call-below : (f c g : ℕ) → Range (functions t) f → CallIn c g (bodyOf t f) → (calleeOf t c ≡ g) × (1 ≤ g) × (g < f)
+  call-below f c g o i = let b = lay .well .below f c g o i in (callee-word t c ∙ ap callee (call-here lay f c g o i .1), b .0, b .1)
 
   pub reached-in : (f : ℕ) → Reached (functions t) (bodyOf t) f → Range (functions t) f
   reached-in = reached-there (functions t) (bodyOf t) (lay .some-function) (lay .well)
@@ -88,8 +92,8 @@ module _ (t : List ℕ) (F N : ℕ) (check : checkOf t ≡ accepted F N) where
   -- the functions decided to be reached are those that main reaches
   pub reached-exactly : (f : ℕ) → Decides (reached t f) (Reached (functions t) (bodyOf t) f)
   unfolding reached
-  reached-exactly = reached-decides (functions t) (bodyOf t) (exprAt t) reached-in
-      (λ f c g a b i. lay .well .below f c g (a, b) i) (λ f c g a b i. ap callee (call-here lay f c g (a, b) i .1)) (nodes t) (calleeOf t) (callee-word t) calls-there
+  reached-exactly = reached-decides (functions t) (bodyOf t) (exprAt t) reached-in (lay .well .below)
+      (λ f c g o i. ap callee (call-here lay f c g o i .1)) (nodes t) (calleeOf t) (callee-word t) calls-there
 
   pub main-reached : reached t (functions t) ≡ true
   main-reached = reached-exactly (functions t) .1 main
@@ -107,3 +111,17 @@ module _ (t : List ℕ) (F N : ℕ) (check : checkOf t ≡ accepted F N) where
   unfolding listed reached
   listed-exactly = listed-decides (functions t) (nodes t) (bodyOf t) (exprAt t) (calleeOf t) (callee-word t) calls-there reached-in
       reached-exactly
+
+  -- what is listed is a call in the body of a function that main reaches
+  pub listed-stands : (n : ℕ) → listed t n ≡ true
+      → (f : ℕ) × (g : ℕ) × Reached (functions t) (bodyOf t) f × CallIn n g (bodyOf t f)
+  listed-stands n e =
+      listed-all (λ c. (f : ℕ) × (g : ℕ) × Reached (functions t) (bodyOf t) f × CallIn c g (bodyOf t f)) (functions t) (bodyOf t) (exprAt t)
+      (λ f r c g i. (f, g, r, i)) n (listed-exactly n .0 e)
+
+  pub listed-reached : (n : ℕ) → listed t n ≡ true → Reached (functions t) (bodyOf t) (owner t n)
+  listed-reached n e =
+      let x = listed-stands n e in
+      let f = x .0 in
+      let here = lay .inside f n (reached-in f (x .2)) (call-node n (x .1) (bodyOf t f) (x .3)) in
+      subst (Reached (functions t) (bodyOf t)) (sym (here .0)) (x .2)

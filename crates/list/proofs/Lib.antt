@@ -32,4 +32,5 @@ pub mod TagLoops
 pub mod TagVerdicts
 pub mod PaperList
 pub mod SmallDesigns
+pub mod ReachDesigns
 pub mod Theorems

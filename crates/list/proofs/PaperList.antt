@@ -97,7 +97,7 @@ module _ (body at : ℕ → Expr) (F : ℕ) (below : (f c g : ℕ) → Range F f
       (λ c g i. let b = below f c g r i in agree k g m (omega (arith, b .1)) (b .0, omega (arith, b .1, r .1)))) (back (y f r m)))
 
 module _ (t : List ℕ) (ok : Taken t) where
-  calls : (f : ℕ) → 1 ≤ f → f ≤ functions t → Calling (Range (nodes t)) (bodyOf t f)
+  calls : (f : ℕ) → Range (functions t) f → Calling (Range (nodes t)) (bodyOf t f)
   calls = calls-there t (functions t) (nodes t) ok
 
   decided : (g m : ℕ) → Decides (callsBy t g m) (bodySets t g m)

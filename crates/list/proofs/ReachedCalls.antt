@@ -1,48 +1,33 @@
 -- the functions that main reaches are main and those called in C of its body
-use Prim.Native.Nat.{ℕ, zero, suc, _≤_, _<_}
+use Prim.Native.Nat.{ℕ, _≤_, _<_}
 use mathlib.Core.Path.{_≡_, refl, subst, sym, _∙_}
 use mathlib.Core.Bool.{true, _&&_}
 use mathlib.Core.Logic.{_⊎_, inl, inr, ⊎-elim}
 use native.Mathlib.Omega.{arith}
-use native.Mathlib.Decide.{ℕ-discrete}
 use lib.Dec.{eqb}
 use borrow.Author.Tests.{eqb-true, eq-eqb}
 use Rattle.table.specs.Syntax.{Expr}
-use Rattle.table.specs.Well.{CallIn}
+use Rattle.table.specs.Well.{Fn, CallIn}
 use Rattle.table.specs.Reach.{Reached, main, called}
-use Rattle.table.specs.Pick.{mixed, Range}
-use Rattle.list.specs.Sets.{Calls}
-use Rattle.list.specs.Conflict.{C}
+use Rattle.table.specs.Pick.{Range}
 use Rattle.list.specs.CallSets.{callee-at, sets}
 use Rattle.list.specs.Arbiters.{Test, anyUpTo, callsOf, reachedIn}
-use Rattle.list.proofs.ListedCalls.{Calling, C-all, sets-all}
-use Rattle.list.proofs.CallSetFacts.{C-over, calls-in, body-calls}
+use Rattle.list.proofs.ListedCalls.{Calling, sets-all, sets-reached}
+use Rattle.list.proofs.CallSetFacts.{calls-in, body-calls}
 use Rattle.list.specs.PaperList.{Decides}
 use Rattle.list.proofs.ArbiterFacts.{or-decides, and-both, both-and, any-out, any-in, eqb-decides, sets-decides}
 
-module _ (F : ℕ) (body at : ℕ → Expr) (there : (f : ℕ) → Reached F body f → Range F f)
-    (below : (f c g : ℕ) → 1 ≤ f → f ≤ F → CallIn c g (body f) → (1 ≤ g) × (g < f))
-    (callees : (f c g : ℕ) → 1 ≤ f → f ≤ F → CallIn c g (body f) → callee-at at c ≡ g) where
+module _ (F : ℕ) (body at : ℕ → Expr) (there : (f : ℕ) → Reached F body f → Fn F body f)
+    (below : (f c g : ℕ) → Fn F body f → CallIn c g (body f) → (1 ≤ g) × (g < f))
+    (callees : (f c g : ℕ) → Fn F body f → CallIn c g (body f) → callee-at at c ≡ g) where
   -- main, or the callee of a call in C of main's body
   abbrev Called : ℕ → Type 0
   Called f = (f ≡ F) ⊎ ((c : ℕ) × sets body at F F c × (callee-at at c ≡ f))
 
-  -- the calls of functions that are reached
-  abbrev Inside : Calls
-  Inside m = Reached F body (callee-at at m)
-
-  -- all calls in C of a body that is reached are of such functions
-  in-set : (t g m : ℕ) → Reached F body g → sets body at t g m → Inside m
-  in-set zero g m r h = absurd h
-  in-set (suc t) g m r h = go (ℕ-discrete g (suc t)) (in-set t) h
-    where
-      go : (d : Dec (g ≡ suc t)) → ((g m : ℕ) → Reached F body g → sets body at t g m → Inside m)
-          → mixed d (C (callee-at at) (sets body at t) (body g) m) (sets body at t g m) → Inside m
-      go (yes e) before x =
-          C-all Inside (callee-at at) (λ k. Inside) (λ k n q. q) (body g)
-          (λ c k i. let o = there g r in subst (Reached F body) (sym (callees g c k (o .0) (o .1) i)) (called g c k r i)) m
-          (C-over (callee-at at) (sets body at t) (λ k. Inside) m (body g) (λ c k i y. before k m (called g c k r i) y) x)
-      go (no e) before x = before g m r x
+  -- all calls in C of main's body are of such functions
+  in-set : (m : ℕ) → sets body at F F m → Reached F body (callee-at at m)
+  in-set = sets-reached (λ m. Reached F body (callee-at at m)) F body at
+      (λ f r c g i. subst (Reached F body) (sym (callees f c g (there f r) i)) (called f c g r i)) F (omega arith) F main
 
   -- C of main's body holds that of each body that is reached
   in-main : (f : ℕ) → Reached F body f → ((m : ℕ) → sets body at F f m → sets body at F F m) × Called f
@@ -50,24 +35,24 @@ module _ (F : ℕ) (body at : ℕ → Expr) (there : (f : ℕ) → Reached F bod
   in-main f (called h c g r i) =
       let o = there h r in
       let up = in-main h r .0 in (
-        λ m y. up m (body-calls F body at m below h (o .0) (o .1) (calls-in (callee-at at) (sets body at F) c g m (inr y) (body h) i)),
+        λ m y. up m (body-calls F body at m below h o (calls-in (callee-at at) (sets body at F) c g m (inr y) (body h) i)),
         inr (
           c,
-          up c (body-calls F body at c below h (o .0) (o .1) (calls-in (callee-at at) (sets body at F) c g c (inl refl) (body h) i)),
-          callees h c g (o .0) (o .1) i,
+          up c (body-calls F body at c below h o (calls-in (callee-at at) (sets body at F) c g c (inl refl) (body h) i)),
+          callees h c g o i,
         ),
       )
 
   reached-called : (f : ℕ) → (Called f → Reached F body f) × (Reached F body f → Called f)
   reached-called f = (
     λ h. ⊎-elim (λ e. subst (Reached F body) (sym e) main)
-        (λ x. subst (Reached F body) (x .2) (in-set F F (x .0) main (x .1))) h,
+        (λ x. subst (Reached F body) (x .2) (in-set (x .0) (x .1))) h,
     λ r. in-main f r .1,
   )
 
   -- the decided functions are exactly those reached
   module _ (N : ℕ) (calleeᵇ : ℕ → ℕ) (same : (n : ℕ) → calleeᵇ n ≡ callee-at at n)
-      (calls : (f : ℕ) → 1 ≤ f → f ≤ F → Calling (Range N) (body f)) where
+      (calls : (f : ℕ) → Range F f → Calling (Range N) (body f)) where
     pub reached-decides : (f : ℕ) → Decides (reachedIn N calleeᵇ body F f) (Reached F body f)
     unfolding reachedIn
     reached-decides f =

@@ -1,10 +1,9 @@
--- the arbiter lists of nine small designs, as tag bytes: each tells wrong readings of section 4.2 apart, and its table is accepted
+-- the arbiter lists of six small designs, as tag bytes: each tells wrong readings of section 4.2 apart, and its table is accepted
 use mathlib.Core.Path.{_≡_, refl}
 use mathlib.Core.List.{[], _∷_}
 use Rattle.table.specs.Check.{accepted, checkOf}
 use Rattle.table.proofs.CheckedDesigns.{check-open}
-use Rattle.list.specs.SmallDesigns.{branches, condition, selfArguments, definientia, uncalled, farther, spare, selfCall}
-use Rattle.list.specs.SmallDesigns.{callArguments}
+use Rattle.list.specs.SmallDesigns.{branches, condition, selfArguments, definientia, selfCall, callArguments}
 use Rattle.list.specs.Tags.{tagsOf}
 use Rattle.list.proofs.Designs.{list-open}
 
@@ -44,34 +43,6 @@ definientia-list = refl
 pub definientia-accepted : checkOf definientia ≡ accepted 2 8
 unfolding check-open
 definientia-accepted = refl
-
--- g(x) = beside(f(x), f(x)), which nobody calls: empty, since only the bodies count that main reaches
-pub uncalled-list : tagsOf uncalled ≡ 0b0000_0000 ∷ []
-unfolding list-open
-uncalled-list = refl
-
-pub uncalled-accepted : checkOf uncalled ≡ accepted 3 7
-unfolding check-open
-uncalled-accepted = refl
-
--- main calls h, which calls g(x) = beside(f(x), f(x)): {3, 5}, since g is reached, though not called in main's body
-pub farther-list : tagsOf farther ≡ 0b0001_0100 ∷ 0b0000_0000 ∷ []
-unfolding list-open
-farther-list = refl
-
-pub farther-accepted : checkOf farther ≡ accepted 4 10
-unfolding check-open
-farther-accepted = refl
-
--- h(x) = beside(g(x), g(x)), which nobody calls, and main(x) = g(x) with g(x) = f(x): empty; 2, the call of f, is in a body that is
--- reached and was in conflict in that of h alone
-pub spare-list : tagsOf spare ≡ 0b0000_0000 ∷ 0b0000_0000 ∷ []
-unfolding list-open
-spare-list = refl
-
-pub spare-accepted : checkOf spare ≡ accepted 4 10
-unfolding check-open
-spare-accepted = refl
 
 -- beside(g(x), g(x)) with a self call in g: {8, 10}; 3, the self call, is in neither set, since a self call is not counted as a call
 pub selfCall-list : tagsOf selfCall ≡ 0b1000_0000 ∷ 0b0000_0010 ∷ []

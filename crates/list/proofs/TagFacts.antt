@@ -8,21 +8,16 @@ use native.Mathlib.Nat.{div-div-eq-div-mul, div-one, pow-suc, mul-comm, add-suc,
 use lib.Dec.{T, eqb, leb, le→leb}
 use lib.Arith.{lt→nleb}
 use lib.ListN.{length, getD}
-use Rattle.table.proofs.LaidOut.{call-here, laid}
 use Rattle.table.specs.Pick.{pick, Range}
 use Rattle.table.proofs.Tests.{T-true, true-T}
 use Rattle.list.specs.Arbiters.{Test}
-use Rattle.table.proofs.CallPlaces.{call-node}
-use Rattle.list.specs.CallSets.{callee}
-use Rattle.list.proofs.ListedCalls.{Calling, listed-all}
 use Rattle.table.specs.Bytes.{functions, nodes, word}
 use Rattle.table.specs.Find.{one, lowest}
 use Rattle.table.specs.Check.{accepted, checkOf}
-use Rattle.table.specs.Expressions.{exprAt, bodyOf}
 use Rattle.table.proofs.FindLaws.{pair, same, passes-all, passes-lowest}
 use Rattle.table.proofs.Passed.{goes-on}
 use Rattle.list.proofs.BitLaws.{tagged-bit}
-use Rattle.list.proofs.Callees.{callee-word, reached-in, listed-exactly}
+use Rattle.list.proofs.Callees.{calls-there, call-below, reached-in, listed-stands}
 use Rattle.list.specs.Tags.{Holding, tagged, isCall, calleeOf, listed, bitsFrom, bytesFrom, tagLength, tagsOf, nonePast, tagFits}
 use Rattle.list.specs.Tags.{tagsRefusal, after, checkWith}
 
@@ -93,22 +88,15 @@ module _ (t : List ℕ) (F N : ℕ) (check : checkOf t ≡ accepted F N) where
   -- what is listed is a call of the table
   pub listed-call : (n : ℕ) → listed t n ≡ true → Range (nodes t) n × (isCall t n ≡ true)
   unfolding calleeOf
-  listed-call n e = listed-all (λ c. Range (nodes t) c × (isCall t c ≡ true)) (functions t) (bodyOf t) (exprAt t) here
-      (reached-in t F N check) n
-      (listed-exactly t F N check n .0 e)
+  listed-call n e =
+      let x = listed-stands t F N check n e in
+      let o = reached-in t F N check (x .0) (x .2) in
+      let b = call-below t F N check (x .0) n (x .1) o (x .3) in
+      (calls-there t F N check (x .0) o n (x .1) (x .3), is-call (isCall t n) (word t n) (x .1) (b .0) (b .1))
     where
-      called : (b : Bool) (w g : ℕ) → pick b w 0 ≡ g → 1 ≤ g → b ≡ true
-      called true w g p h = refl
-      called false w g p h = absurd (omega arith)
-
-      here : (f : ℕ) → 1 ≤ f → f ≤ functions t → Calling (λ c. Range (nodes t) c × (isCall t c ≡ true)) (bodyOf t f)
-      here f a b c g i =
-          let r = laid t F N check .inside f c (a, b) (call-node c g (bodyOf t f) i) in
-          let q = call-here (laid t F N check) f c g (a, b) i in (
-            (r .1, r .2),
-            called (isCall t c) (word t c) g (callee-word t c ∙ ap callee (q .1))
-                (laid t F N check .well .below f c g (a, b) i .0),
-          )
+      is-call : (b : Bool) (w g : ℕ) → pick b w 0 ≡ g → 1 ≤ g → b ≡ true
+      is-call true w g p h = refl
+      is-call false w g p h = absurd (omega arith)
 
   tag-in : (n : ℕ) → n ≤ nodes t → n ≤ 8 * tagLength t
   unfolding tagLength

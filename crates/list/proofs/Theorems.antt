@@ -6,21 +6,35 @@ use mathlib.Core.Path.{_≡_, sym}
 use lib.ListN.{length}
 use Rattle.table.specs.Pick.{Range}
 use Rattle.table.specs.Bytes.{functions, nodes}
+use Rattle.table.specs.Naming.{owner}
 use Rattle.table.specs.Check.{checkOf, accepted}
+use Rattle.table.specs.Expressions.{bodyOf}
+use Rattle.table.specs.Reach.{Reached}
 use Rattle.table.specs.Decoded.{decodedInto}
 use Rattle.table.proofs.SurveyLaws.{taken-by, taken-small}
 use Rattle.table.proofs.DecodedLaws.{decoded-read}
 use Rattle.list.proofs.TagVerdicts.{held-read}
-use Rattle.list.specs.Tags.{Holding, bitsSet, checkWith, heldBy, isCall, listed, tagged, tagsOf, tagsRefusal}
+use Rattle.list.specs.Tags.{Holding, bitsSet, checkWith, heldBy, isCall, reached, listed, tagged, tagsOf, tagsRefusal}
 use Rattle.list.specs.Records.{recordsOf}
-use Rattle.list.specs.PaperList.{PaperList}
+use Rattle.list.specs.PaperList.{Decides, PaperList}
 use Rattle.list.proofs.PaperList as Paper
+use Rattle.list.proofs.Callees as Callees
 use Rattle.list.proofs.TagFacts as TagFacts
 use Rattle.list.proofs.Totals as Totals
 
 -- the list is the A of section 4.2, by its PC and by the one solution of its equations for C, body by body
 pub paper-list : (t : List ℕ) (F N : ℕ) → checkOf t ≡ accepted F N → PaperList t
 paper-list = Paper.paper-list
+
+-- the functions whose bodies count are those that main reaches: it is decided by C of main's body, and defined without it ..
+pub reached-exactly : (t : List ℕ) (F N : ℕ) → checkOf t ≡ accepted F N → (f : ℕ)
+    → Decides (reached t f) (Reached (functions t) (bodyOf t) f)
+reached-exactly = Callees.reached-exactly
+
+-- .. and a listed call stands in such a body
+pub listed-reached : (t : List ℕ) (F N : ℕ) → checkOf t ≡ accepted F N → (n : ℕ) → listed t n ≡ true
+    → Reached (functions t) (bodyOf t) (owner t n)
+listed-reached = Callees.listed-reached
 
 -- what is listed is a call of another function
 pub listed-call : (t : List ℕ) (F N : ℕ) → checkOf t ≡ accepted F N → (n : ℕ) → listed t n ≡ true

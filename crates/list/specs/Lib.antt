@@ -8,3 +8,4 @@ pub mod PaperList
 pub mod Records
 pub mod Working
 pub mod SmallDesigns
+pub mod ReachDesigns

@@ -1,5 +1,5 @@
 -- Parallel Conflict Analysis as the paper writes it (section 4.2), equation by equation, read as document 01 reads it ("The arbiter list")
-use Prim.Native.Nat.{ℕ, zero, suc, _≤_}
+use Prim.Native.Nat.{ℕ, zero, suc}
 use mathlib.Core.Path.{_≡_}
 use mathlib.Core.List.{List}
 use Rattle.table.specs.Syntax.{Expr, Exprs, const, param, prim, call, self, cond, bind, bound, none, some}

@@ -1,4 +1,4 @@
--- nine small designs that tell wrong readings of the arbiter list apart, as tables; nodes are numbered in the order written
+-- six small designs that tell wrong readings of the arbiter list apart, as tables; nodes are numbered in the order written
 use Prim.Native.Nat.{ℕ}
 use mathlib.Core.List.{List, _++_}
 use Rattle.table.specs.Designs.{header, function, node}
@@ -32,32 +32,6 @@ definientia =
     header 2 8 ++ function 1 1 ++ function 1 2
     ++ node 2 0 0 0 0
     ++ node 6 0 0 3 0 ++ node 4 0 1 4 5 ++ node 2 0 0 0 0 ++ node 4 0 1 6 7 ++ node 2 0 0 0 0 ++ node 4 0 1 8 0 ++ node 7 0 3 0 0
-
--- f(x) = x; g(x) = beside(f(x), f(x)); main(x) = x: nodes 1; 2; 3, 4; 5, 6; 7
-abbrev pub uncalled : List ℕ
-uncalled =
-    header 3 7 ++ function 1 1 ++ function 1 2 ++ function 1 7
-    ++ node 2 0 0 0 0
-    ++ node 3 10 0 3 0 ++ node 4 0 1 4 5 ++ node 2 0 0 0 0 ++ node 4 0 1 6 0 ++ node 2 0 0 0 0
-    ++ node 2 0 0 0 0
-
--- f(x) = x; g(x) = beside(f(x), f(x)); h(x) = g(x); main(x) = h(x): nodes 1; 2; 3, 4; 5, 6; 7, 8; 9, 10
-abbrev pub farther : List ℕ
-farther =
-    header 4 10 ++ function 1 1 ++ function 1 2 ++ function 1 7 ++ function 1 9
-    ++ node 2 0 0 0 0
-    ++ node 3 10 0 3 0 ++ node 4 0 1 4 5 ++ node 2 0 0 0 0 ++ node 4 0 1 6 0 ++ node 2 0 0 0 0
-    ++ node 4 0 2 8 0 ++ node 2 0 0 0 0
-    ++ node 4 0 3 10 0 ++ node 2 0 0 0 0
-
--- f(x) = x; g(x) = f(x); h(x) = beside(g(x), g(x)); main(x) = g(x): nodes 1; 2, 3; 4; 5, 6; 7, 8; 9, 10
-abbrev pub spare : List ℕ
-spare =
-    header 4 10 ++ function 1 1 ++ function 1 2 ++ function 1 4 ++ function 1 9
-    ++ node 2 0 0 0 0
-    ++ node 4 0 1 3 0 ++ node 2 0 0 0 0
-    ++ node 3 10 0 5 0 ++ node 4 0 2 6 7 ++ node 2 0 0 0 0 ++ node 4 0 2 8 0 ++ node 2 0 0 0 0
-    ++ node 4 0 2 10 0 ++ node 2 0 0 0 0
 
 -- g(x) = if x then g(halve(x)) else x; main(x) = beside(g(x), g(x)): nodes 1; 2; 3 the self call, 4, 5; 6; 7; 8, 9; 10, 11
 abbrev pub selfCall : List ℕ

@@ -141,7 +141,7 @@ module _ (t : List ℕ) (F N : ℕ) (check : checkOf t ≡ accepted F N) where
     plays-kept l k [] = k
     plays-kept l k (a ∷ asked) = plays-kept (more (stepOf t) l a) (more-kept l k a) asked
 
-    table-kept : (asked : List (Ask (List ℕ))) → KeptFrom (played (stepOf t) s₀ asked)
+    pub table-kept : (asked : List (Ask (List ℕ))) → KeptFrom (played (stepOf t) s₀ asked)
     table-kept asked = kept-alike (arithmetic t) lay (view s₀) (plays (stepOf t) (begin s₀) asked) (played (stepOf t) s₀ asked)
         (plays-alike (stepOf t) s₀ asked)
         (plays-kept (begin s₀) (start-kept (arithmetic t) lay args (main-few args number)) asked)

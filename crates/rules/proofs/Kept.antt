@@ -216,7 +216,7 @@ module _ (units : Arithmetic) {F N : ℕ} {body at : ℕ → Expr} {home : ℕ �
       callees f c g q i = ap callee (call-here laid f c g q i .1)
 
       bodies : (g m : ℕ) → Fn F body g → C (callee-at at) (sets body at F) (body g) m → sets body at F g m
-      bodies g m q = body-calls F body at m (λ f c h a b. laid .well .below f c h (a, b)) g (q .0) (q .1)
+      bodies g m q = body-calls F body at m (laid .well .below) g q
 
   module _ (tags : ℕ → Bool) (holds : (n : ℕ) → Listed body at F n → tags n ≡ true) (s₀ : View) where
     not-23 : (b : Bool) → b ≡ true → _≡_ {A = ℕ} 23 (pick b 22 23) → ⊥

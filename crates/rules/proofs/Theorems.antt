@@ -9,11 +9,13 @@ use Rattle.rules.specs.Circuit.{started, startOf}
 use Rattle.rules.specs.Demand.{ThirdDemand, ReadingUnique}
 use Rattle.rules.specs.Companions.{UnderAnyTags, OwnStart, OwnList, ReadingFixed, ReadingWord, FitsFromStart, InAnyState, AfterSteps}
 use Rattle.rules.specs.Companions.{FirstDemand}
+use Rattle.rules.specs.SpareTags.{AlikeInReach, OutOfReach, SpareTags}
 use Rattle.rules.specs.First.{FirstSteps}
 use Rattle.rules.specs.Widths.{NarrowFirst, FunctionBelow, ReadingBelow, AnswerBelow, StepNarrow, StatesBelow}
 use Rattle.rules.proofs.Demands as Demands
 use Rattle.rules.proofs.OwnList as OwnLists
 use Rattle.rules.proofs.EveryState as EveryState
+use Rattle.rules.proofs.SpareTags as SpareTags
 use Rattle.rules.proofs.RunFacts as RunFacts
 use Rattle.rules.proofs.FirstDemand as FirstDemand
 use Rattle.rules.proofs.Fits as FitsProof
@@ -69,6 +71,15 @@ states-below = StatesBelow.states-below
 pub under-any-tags : (t tags args : List ℕ) (s : State512) → startOf t tags args ≡ started s → (asked : List (Ask (List ℕ)))
     → UnderAnyTags t args s asked
 under-any-tags = Demands.under-any-tags
+
+-- bodies that main doesn't reach (document 02, Q-5): from a start on they have no step ..
+pub out-of-reach : (t tags args : List ℕ) (s : State512) → startOf t tags args ≡ started s → (asked : List (Ask (List ℕ)))
+    → OutOfReach t s asked
+out-of-reach = SpareTags.out-of-reach
+
+-- .. and their tags change neither a start nor any step after it
+pub spare-tags : (t tags tags′ args : List ℕ) → AlikeInReach t tags tags′ → SpareTags t tags tags′ args
+spare-tags = SpareTags.spare-tags
 
 pub fits : FitsFromStart
 fits = FitsProof.fits-from-start

@@ -11,5 +11,6 @@ pub mod Reading
 pub mod Met
 pub mod Demand
 pub mod Companions
+pub mod SpareTags
 pub mod Widths
 pub mod WidthDesigns

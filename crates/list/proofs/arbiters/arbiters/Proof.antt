@@ -1,10 +1,7 @@
 -- `arbiters::arbiters` meets its contract
 use borrow.Author.Needs.{needs}
-use Prim.Native.Nat.{ℕ}
-use mathlib.Core.Path.{_≡_, _∙_}
-use mathlib.Core.List.{List}
+use mathlib.Core.Path.{_∙_}
 use native.Mathlib.Omega.{arith}
-use Rattle.table.specs.Bytes.{functions}
 use Rattle.list.proofs.ListLaws.{memo-none, main-there, found-list}
 use Rattle.list.proofs.arbiters.arbiters.Statement.{statement}
 use Rattle.list.proofs.arbiters.arbiters.Tie as tie

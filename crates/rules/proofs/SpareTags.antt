@@ -1,0 +1,152 @@
+-- from a start on, a body that main doesn't reach has no step, so no tag in it is asked for
+use Prim.Native.Nat.{ℕ}
+use mathlib.Core.Bool.{Bool, true, false}
+use mathlib.Core.Path.{_≡_, refl, subst, sym, ap, _∙_}
+use mathlib.Core.Logic.{⊎-elim}
+use mathlib.Core.List.{List, [], _∷_, _++_}
+use native.Mathlib.Omega.{arith}
+use lib.Dec.{eqb, ltb}
+use lib.ListN.{length}
+use borrow.Author.Tests.{eqb-false, ltb-false}
+use Rattle.table.specs.Syntax.{Expr, const, param, prim, call, self, cond, bind, bound, id}
+use Rattle.table.specs.Pick.{pick, Range}
+use Rattle.table.specs.Bytes.{functions, nodes, params}
+use Rattle.table.specs.Naming.{owner}
+use Rattle.table.specs.Check.{Verdict, accepted, stage}
+use Rattle.table.specs.Expressions.{exprAt, bodyOf}
+use Rattle.table.specs.Well.{Fn, Laid}
+use Rattle.table.specs.Reach.{Reached}
+use Rattle.table.proofs.SyntaxLaws.{node-id, sub-node, every-node}
+use Rattle.list.specs.Tags.{tagged, after, checkWith}
+use Rattle.list.proofs.Callees.{listed-reached}
+use Rattle.rules.specs.Arithmetic.{Arithmetic, arithmetic}
+use Rattle.rules.specs.State.{State512, View, view}
+use Rattle.rules.specs.Step.{Act, stuck, blocked, does, by-status, act, done, over, Stepped, refusal, outcome, circuitStep}
+use Rattle.rules.specs.Play.{Ask, asks, before, played}
+use Rattle.rules.specs.Circuit.{started, checkStart, startAfter, opening, startOf, circuitOf, stepAfter, stepOf, playsOf, playOf}
+use Rattle.rules.specs.SpareTags.{AlikeInReach, OutOfReach, SpareTags}
+use Rattle.rules.proofs.Shape.{Still, open-moves, busy-moves}
+use Rattle.rules.proofs.ActCases.{by-state}
+use Rattle.rules.proofs.Invariant.{active?, Sound}
+use Rattle.rules.proofs.ActiveReached.{active-reached}
+use Rattle.rules.proofs.Acting.{stepping}
+use Rattle.rules.proofs.Logs.{played-state}
+use Rattle.rules.proofs.Demands.{start-passes, table-kept, lay}
+
+-- a node that is idle or done has no step
+still-stuck : (units : Arithmetic) (body : ℕ → Expr) (h : ℕ) (s : View) (u : Expr) → Still s (id u) → act units body h s u ≡ stuck
+still-stuck units body h s u = go u
+  where
+    rests : (n : ℕ) → Still s n → (o b : Act) → by-status (s .status n) o b ≡ stuck
+    rests n z o b = by-state (λ y. y ≡ stuck) (s .status n) o b (λ e. absurd (open-moves s n e z)) (λ e. absurd (busy-moves s n e z)) refl
+
+    go : (u : Expr) → Still s (id u) → act units body h s u ≡ stuck
+    go (const n v) z = rests n z _ _
+    go (param n i) z = rests n z _ _
+    go (prim n op es) z = rests n z _ _
+    go (call n g es) z = rests n z _ _
+    go (self n es) z = rests n z _ _
+    go (cond n a b c) z = rests n z _ _
+    go (bind n ds b) z = rests n z _ _
+    go (bound n d) z = rests n z _ _
+
+module _ (units : Arithmetic) {F N : ℕ} {body at : ℕ → Expr} {home : ℕ → ℕ} (laid : Laid F N body at home) (s : State512) where
+  -- of the tags a step asks for its node's alone, and only where the node is blocked
+  step-tags : (tags tags′ : ℕ → Bool) (n : ℕ)
+      → (Range N n → act units body (home n) (view s) (at n) ≡ blocked → tags n ≡ tags′ n)
+      → circuitStep units F N body at home tags s n ≡ circuitStep units F N body at home tags′ s n
+  unfolding circuitStep
+  step-tags tags tags′ n same =
+      under (eqb n 0) _ (λ e. under (ltb N n) _ (λ e′.
+      ap (λ x. pick (over 3 N (s .status)) (refusal s 24 0) (pick (over N F (s .occupant)) (refusal s 24 0)
+      (pick (done (view s) (id (body F))) (refusal s 20 n) x)))
+      (at-node (act units body (home n) (view s) (at n)) (same (omega (arith, eqb-false n 0 e), ltb-false N n e′)))))
+    where
+      under : (b : Bool) {y z : Stepped} (x : Stepped) → (b ≡ false → y ≡ z) → pick b x y ≡ pick b x z
+      under true x f = refl
+      under false x f = f refl
+
+      at-node : (x : Act) → (x ≡ blocked → tags n ≡ tags′ n)
+          → outcome units F N body at home tags s n x ≡ outcome units F N body at home tags′ s n x
+      at-node stuck f = refl
+      at-node blocked f = ap (λ b. refusal s (pick b 22 23) n) (f refl)
+      at-node (does m) f = refl
+
+  module _ (sound : Sound F body (view s)) (n : ℕ) (r : Range N n) where
+    -- a node out of reach has no step ..
+    out-stuck : (Reached F body (home n) → ⊥) → act units body (home n) (view s) (at n) ≡ stuck
+    out-stuck out = ⊎-elim (λ a. absurd (out (active-reached F body (view s) sound (home n) fn a)))
+        (λ a. still-stuck units body (home n) (view s) (at n)
+        (every-node (Still (view s)) (id (at n)) (body (home n)) (sound .rest (home n) fn a)
+        (sub-node (at n) (id (at n)) (body (home n)) (laid .placed n r) (node-id (at n)))))
+        (active? F (view s) (home n))
+      where
+        fn : Fn F body (home n)
+        fn = laid .home-there n r
+
+    -- .. so one that is blocked is in reach
+    blocked-reached : act units body (home n) (view s) (at n) ≡ blocked → Reached F body (home n)
+    blocked-reached e =
+        let moving : Still (view s) (id (at n)) → ⊥ = λ z. apart (sym (still-stuck units body (home n) (view s) (at n) z) ∙ e) in
+        active-reached F body (view s) sound (home n) (laid .home-there n r)
+        (stepping sound (home n) (laid .home-there n r) (at n) (laid .placed n r) moving .0)
+      where
+        apart : stuck ≡ blocked → ⊥
+        apart z = let w : _≡_ {A = ℕ} 0 1 = cc in omega arith
+
+module _ (t tags args : List ℕ) (s : State512) (e : startOf t tags args ≡ started s) where
+  -- after any steps from a start
+  pub out-of-reach : (asked : List (Ask (List ℕ))) → OutOfReach t s asked
+  unfolding playsOf stepOf circuitOf
+  out-of-reach asked =
+      let p = start-passes t tags args s e in
+      let l = lay t (functions t) (nodes t) (p .check) in
+      subst (λ r. OutOfReach t r asked) (sym (p .state))
+      (after-steps l (table-kept t (functions t) (nodes t) (p .check) args (p .count) asked .good .sound))
+    where
+      after-steps : Laid (functions t) (nodes t) (bodyOf t) (exprAt t) (owner t)
+          → Sound (functions t) (bodyOf t) (view (played (stepOf t) (opening t args) asked .state)) → OutOfReach t (opening t args) asked
+      after-steps l sound = record {
+        rests = λ n r out. out-stuck (arithmetic t) l st sound n r out;
+        steps = λ tags tags′ a n. ap (λ c. stepAfter c st (circuitOf t tags st n)) (a .check) ∙ ap (stepAfter (checkWith t tags′) st)
+            (step-tags (arithmetic t) l st (tagged tags) (tagged tags′) n
+            (λ r b. a .tag n r (blocked-reached (arithmetic t) l st sound n r b)));
+      }
+        where
+          st : State512
+          st = played (stepOf t) (opening t args) asked .state
+
+  -- a list of steps under two tag lists that are alike in reach
+  module _ (tags₁ tags₂ : List ℕ) (alike : AlikeInReach t tags₁ tags₂) where
+    same-from : (asked : List (Ask (List ℕ))) (ns : List ℕ)
+        → played (stepOf t) (played (stepOf t) s asked .state) (asks tags₁ ns)
+        ≡ played (stepOf t) (played (stepOf t) s asked .state) (asks tags₂ ns)
+    unfolding playsOf
+    same-from asked [] = refl
+    same-from asked (n ∷ ns) =
+        ap (before n (stepOf t tags₁ st n))
+        (subst (λ z. played (stepOf t) z (asks tags₁ ns) ≡ played (stepOf t) z (asks tags₂ ns)) (played-state (stepOf t) s asked (a ∷ []))
+        (same-from (asked ++ a ∷ []) ns))
+        ∙ ap (λ r. before n r (played (stepOf t) (r .state) (asks tags₂ ns))) (out-of-reach asked .steps tags₁ tags₂ alike n)
+      where
+        st : State512
+        st = played (stepOf t) s asked .state
+
+        a : Ask (List ℕ)
+        a = record { tags = tags₁; node = n }
+
+    same-play : (ns : List ℕ) → playOf t tags₁ s ns ≡ playOf t tags₂ s ns
+    unfolding playOf
+    same-play ns = same-from [] ns
+
+-- the start looks at the check's verdict alone
+pub spare-tags : (t tags tags′ args : List ℕ) → AlikeInReach t tags tags′ → SpareTags t tags tags′ args
+unfolding startOf checkStart
+spare-tags t tags tags′ args a = record {
+  start = ap (λ c. startAfter (after c argued) (opening t args)) (a .check);
+  play = λ s e. same-play t tags args s e tags tags′ a;
+  holding = λ s e h n r l. sym (a .tag n r (listed-reached t (functions t) (nodes t) (start-passes t tags args s e .check) n l)) ∙ h n r l;
+}
+  where
+    argued : Unit {0} → Verdict
+    argued _ = stage 11 (eqb (length args) (params t (functions t))) 0 λ _. accepted (functions t) (nodes t)
