@@ -1,9 +1,9 @@
 -- the arbiter lists of designs with functions that main doesn't reach, as tag bytes; their tables are accepted
 use mathlib.Core.Path.{_≡_, refl}
 use mathlib.Core.List.{[], _∷_}
-use Rattle.table.specs.Check.{accepted, checkOf}
+use Rattle.table.specs.Check.{accepted, refused, checkOf}
 use Rattle.table.proofs.CheckedDesigns.{check-open}
-use Rattle.list.specs.ReachDesigns.{uncalled, twoLevels, spareCaller, spareRival, spareTwin, selfAlone}
+use Rattle.list.specs.ReachDesigns.{uncalled, twoLevels, spareCaller, spareRival, spareTwin, selfAlone, uncalledWrong}
 use Rattle.list.specs.Tags.{tagsOf}
 use Rattle.list.proofs.Designs.{list-open}
 
@@ -61,3 +61,8 @@ selfAlone-list = refl
 pub selfAlone-accepted : checkOf selfAlone ≡ accepted 3 12
 unfolding check-open
 selfAlone-accepted = refl
+
+-- a body out of reach is checked like any other
+pub uncalledWrong-refused : checkOf uncalledWrong ≡ refused 8 4
+unfolding check-open
+uncalledWrong-refused = refl

@@ -53,3 +53,11 @@ selfAlone =
     ++ node 2 0 0 0 0
     ++ node 3 10 0 3 0 ++ node 4 0 1 4 5 ++ node 2 0 0 0 0 ++ node 4 0 1 6 0 ++ node 2 0 0 0 0
     ++ node 5 0 0 8 0 ++ node 2 0 0 0 9 ++ node 4 0 3 10 12 ++ node 3 6 0 11 0 ++ node 2 0 0 0 0 ++ node 2 0 0 0 0
+
+-- uncalled with a second parameter read in g, which has one: node 4
+abbrev pub uncalledWrong : List ℕ
+uncalledWrong =
+    header 3 7 ++ function 1 1 ++ function 1 2 ++ function 1 7
+    ++ node 2 0 0 0 0
+    ++ node 3 10 0 3 0 ++ node 4 0 1 4 5 ++ node 2 1 0 0 0 ++ node 4 0 1 6 0 ++ node 2 0 0 0 0
+    ++ node 2 0 0 0 0

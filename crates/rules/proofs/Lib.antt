@@ -5,6 +5,7 @@ pub mod OddStates
 pub mod OperationCases
 pub mod WidthCases
 pub mod FirstCases
+pub mod ReachCases
 -- from bytes to the abstract circuit: the demand over tables, the own list, any state, the runs, 32-bit values
 pub mod Demands
 pub mod OwnList
