@@ -10,7 +10,7 @@ use borrow.Author.Tests.{ne-eqb}
 use Rattle.table.specs.Pick.{pick, Range}
 use Rattle.table.specs.Syntax.{Expr, Exprs, const, param, prim, call, self, cond, bind, bound, none, some, id, Sub}
 use Rattle.table.specs.Well.{CallIn, Laid}
-use Rattle.table.specs.Reach.{Reached, main, called}
+use Rattle.table.specs.Reach.{Reached, main, called, InReach}
 use Rattle.list.specs.CallSets.{callee, callee-at, Listed}
 use Rattle.list.specs.PaperList.{Decides}
 use Rattle.list.proofs.ListedCalls.{Calling, listed-all}
@@ -119,7 +119,7 @@ module _ (t : List ℕ) (F N : ℕ) (check : checkOf t ≡ accepted F N) where
       listed-all (λ c. (f : ℕ) × (g : ℕ) × Reached (functions t) (bodyOf t) f × CallIn c g (bodyOf t f)) (functions t) (bodyOf t) (exprAt t)
       (λ f r c g i. (f, g, r, i)) n (listed-exactly n .0 e)
 
-  pub listed-reached : (n : ℕ) → listed t n ≡ true → Reached (functions t) (bodyOf t) (owner t n)
+  pub listed-reached : (n : ℕ) → listed t n ≡ true → InReach t n
   listed-reached n e =
       let x = listed-stands n e in
       let f = x .0 in

@@ -260,7 +260,7 @@ module _ (t : List ℕ) (f n : ℕ) (at : Within t f n) where
     pub is : Is t (exprAt t n) (callsAt* t (siblings t false (first t n))) (conflictsAt* t (siblings t false (first t n)))
 
   child : (first t n ≡ 0 → ⊥) → Within t f (first t n)
-  child z = record { taken = at .taken; node = first-node t lk n i z; own = owner-first t lk n i z ∙ at .own; reaches = at .reaches }
+  child z = record { taken = at .taken; node = first-node t lk n i z; own = owner-first t lk n i z ∙ at .own; in-reach = at .in-reach }
 
   pub choosing : kind t n ≡ 5 → Choosing
   choosing p = go v
@@ -313,7 +313,7 @@ module _ (t : List ℕ) (f n : ℕ) (at : Within t f n) where
       → ((m : ℕ) → parallelAt t (kidsAt t defs n) m ≡ true → x m ≡ true) → Beside t n defs
   beside-by defs s x is p q = record {
     calls = λ m e. calls-called t (at .taken) n i m (is .calls m ∙ p m e);
-    conflicts = λ m e. node-listed t (at .taken) n i (ap (reached t) (at .own) ∙ at .reaches) m (is .conflicts m ∙ q m e);
+    conflicts = λ m e. node-listed t (at .taken) n i (ap (reached t) (at .own) ∙ at .in-reach) m (is .conflicts m ∙ q m e);
   }
 
   pub beside-apart : 3 ≤ kind t n → kind t n ≤ 4 → Beside t n false
@@ -337,7 +337,7 @@ module _ (t : List ℕ) (f n : ℕ) (at : Within t f n) where
 
   pub next-there : (next t n ≡ 0 → ⊥) → Within t f (next t n) × (n < next t n)
   next-there z = (
-    record { taken = at .taken; node = next-node t lk n i z; own = owner-next t lk n i z ∙ at .own; reaches = at .reaches },
+    record { taken = at .taken; node = next-node t lk n i z; own = owner-next t lk n i z ∙ at .own; in-reach = at .in-reach },
     link t lk n i .next-on z .0,
   )
 
@@ -368,7 +368,7 @@ module _ (t : List ℕ) (f n : ℕ) (at : Within t f n) where
 pub root-there : (t : List ℕ) → Taken t → (g : ℕ) → IsFunction t g → reached t g ≡ true → Within t g (root t g)
 root-there t ok g i h =
     let lk = passed t (functions t) (nodes t) ok .0 .linking in
-    record { taken = ok; node = lk .roots g i; own = owner-root t lk g i; reaches = h }
+    record { taken = ok; node = lk .roots g i; own = owner-root t lk g i; in-reach = h }
 
 pub body-root : (t : List ℕ) (g : ℕ) → bodyOf t g ≡ exprAt t (root t g)
 unfolding bodyOf

@@ -117,7 +117,7 @@ module _ (t : List ℕ) (f n : ℕ) (at : Within t f n) where
   callee-reached k w e q u y =
       let g = entering t f n at (call-kind k e q) (λ z. y (u ∙ z)) in
       call-reached t (functions t) (nodes t) (at .taken) n w (at .node) (g .target ∙ sym u) (callee-there k w e q u y .0 .0)
-      (ap (reached t) (at .own) ∙ at .reaches)
+      (ap (reached t) (at .own) ∙ at .in-reach)
 
   -- a call of another function
   pub at-entry : (k w v : ℕ) (set set′ set″ c c′ r r′ r″ : List ℕ) → KindTo t n k 4 → (k ≡ 3 → ⊥) → w ≡ word t n → (w ≡ f → ⊥)

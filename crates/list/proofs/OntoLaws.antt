@@ -27,7 +27,7 @@ module _ (t : List ℕ) (s x : Test) (mask : ℕ) (set set′ c c′ f f′ : Li
     grown = o .walk .grown;
     added = o .walk .added;
     functions = λ h k. o .joins h k ∙ ap (λ p. p || bitAt (o .own) h) (zero-bit h) ∙ o .walk .functions h k;
-    enters = o .walk .enters;
+    walked = o .walk .walked;
     finds = o .walk .finds;
     met = o .walk .met;
   }

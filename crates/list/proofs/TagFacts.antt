@@ -1,25 +1,28 @@
 -- the tag bytes of the arbiter list mark exactly the list, hold it, and are taken
 use Prim.Native.Nat.{ℕ, zero, suc, _+_, _-_, _*_, _/_, _%_, _^_, _≤_, _<_}
-use mathlib.Core.Bool.{Bool, true, false, _&&_, _||_, not}
-use mathlib.Core.Path.{_≡_, refl, sym, ap, _∙_}
+use mathlib.Core.Bool.{Bool, true, false, _&&_, _||_, not, true≢false}
+use mathlib.Core.Path.{_≡_, refl, subst, sym, ap, _∙_}
+use mathlib.Core.Logic.{_↔_}
 use mathlib.Core.List.{List}
 use native.Mathlib.Omega.{arith}
+use native.Mathlib.Decide.{decLe}
 use native.Mathlib.Nat.{div-div-eq-div-mul, div-one, pow-suc, mul-comm, add-suc, suc-add}
-use lib.Dec.{T, eqb, leb, le→leb}
+use lib.Dec.{T, eqb, leb, le→leb, eqb→eq}
 use lib.Arith.{lt→nleb}
-use lib.ListN.{length, getD}
+use lib.ListN.{length, getD, List·getD-eq-default}
 use Rattle.table.specs.Pick.{pick, Range}
 use Rattle.table.proofs.Tests.{T-true, true-T}
 use Rattle.list.specs.Arbiters.{Test}
 use Rattle.table.specs.Bytes.{functions, nodes, word}
 use Rattle.table.specs.Find.{one, lowest}
 use Rattle.table.specs.Check.{accepted, checkOf}
-use Rattle.table.proofs.FindLaws.{pair, same, passes-all, passes-lowest}
-use Rattle.table.proofs.Passed.{goes-on}
-use Rattle.list.proofs.BitLaws.{tagged-bit}
+use Rattle.table.proofs.FindLaws.{both, pair, same, passes-all, passes-lowest, all-passes, lowest-passes}
+use Rattle.table.proofs.Passed.{passes, goes-on}
+use Rattle.list.proofs.BitLaws.{tagged-bit, zero-bit}
 use Rattle.list.proofs.Callees.{calls-there, call-below, reached-in, listed-stands}
 use Rattle.list.specs.Tags.{Holding, tagged, isCall, calleeOf, listed, bitsFrom, bytesFrom, tagLength, tagsOf, nonePast, tagFits}
-use Rattle.list.specs.Tags.{tagsRefusal, after, checkWith}
+use Rattle.list.specs.Tags.{tagsRefusal, after, checkWith, InOrder}
+use Rattle.list.specs.Working.{bitAt}
 
 pub half-of : (b : Bool) (y : ℕ) → (one b + 2 * y) / 2 ≡ y
 half-of true y = omega arith
@@ -84,6 +87,15 @@ tagged-is s k m a b =
     whole : (m : ℕ) → 1 ≤ m → 1 + 8 * ((m - 1) / 8) + (m - 1) % 8 ≡ m
     whole m a = omega arith
 
+unset : (b : Bool) → T (not b) → b ≡ false
+unset true h = absurd h
+unset false h = refl
+
+-- past the end of a list nothing is tagged
+past-end : (tags : List ℕ) (n : ℕ) → 8 * length tags < n → tagged tags n ≡ false
+past-end tags n l = tagged-bit tags n (omega arith)
+    ∙ ap (λ x. bitAt x ((n - 1) % 8)) (List·getD-eq-default tags 0 (omega (arith, l))) ∙ zero-bit ((n - 1) % 8)
+
 module _ (t : List ℕ) (F N : ℕ) (check : checkOf t ≡ accepted F N) where
   -- what is listed is a call of the table
   pub listed-call : (n : ℕ) → listed t n ≡ true → Range (nodes t) n × (isCall t n ≡ true)
@@ -117,27 +129,61 @@ module _ (t : List ℕ) (F N : ℕ) (check : checkOf t ≡ accepted F N) where
   unfolding tagsOf
   tags-length = bytes-length (λ n. leb n (nodes t) && listed t n) (tagLength t) 1
 
-  -- and are taken
-  none-past : (i : ℕ) → 1 ≤ i → i ≤ 8 * length (tagsOf t) - nodes t → T (not (tagged (tagsOf t) (nodes t + i)))
-  none-past i a b = rw (masked (nodes t + i) (omega arith) (omega (arith, tags-length)))
-      (neither (leb (nodes t + i) (nodes t)) (listed t (nodes t + i)) (lt→nleb (nodes t + i) (nodes t) (omega arith)))
-    where
-      neither : (b x : Bool) → T (not b) → T (not (b && x))
-      neither true x h = absurd h
-      neither false x h = tt
+  -- 10 takes the tags that are in order, and no others
+  module _ (tags : List ℕ) where
+    abbrev ordered : Bool
+    ordered = eqb (length tags) (tagLength t) && nonePast t tags
 
-  fits : (n : ℕ) → 1 ≤ n → n ≤ nodes t → T (tagFits t (tagsOf t) n)
-  unfolding tagFits
-  fits n a b = go (tagged (tagsOf t) n) (isCall t n) (λ e. listed-call n (sym (tags-mark n a b) ∙ e) .1)
+    order-goes : InOrder t tags → checkWith t tags ≡ accepted (functions t) (nodes t)
+    unfolding checkWith after tagsRefusal nonePast tagFits
+    order-goes o = ap (λ c. after c (λ _. tagsRefusal t tags)) check ∙ goes-on 10 ordered (lowest (tagFits t tags) (nodes t)) _
+        (pair (eqb (length tags) (tagLength t)) (nonePast t tags) (same (length tags) (tagLength t) (o .size))
+        (passes-all (λ i. not (tagged tags (nodes t + i))) (8 * length tags - nodes t)
+        (λ i a b. subst (λ x. T (not x)) (sym (o .past (nodes t + i) (omega arith))) tt)))
+        (passes-lowest (tagFits t tags) (nodes t) (λ n a b. fits (tagged tags n) (isCall t n) (o .calls n (a, b))))
+      where
+        fits : (b c : Bool) → (b ≡ true → c ≡ true) → T (not b || c)
+        fits true c f = true-T c (f refl)
+        fits false c f = tt
+
+    goes-order : (F′ N′ : ℕ) → checkWith t tags ≡ accepted F′ N′ → InOrder t tags
+    unfolding checkWith after tagsRefusal nonePast tagFits
+    goes-order F′ N′ e = record {
+      size = eqb→eq (length tags) (tagLength t) (parts .0);
+      past = λ n l. past n l (decLe n (8 * length tags));
+      calls = λ n r g. fits (tagged tags n) (isCall t n) (lowest-passes (tagFits t tags) (nodes t) (goes .1) n (r .0) (r .1)) g;
+    }
+      where
+        goes : T ordered × (lowest (tagFits t tags) (nodes t) ≡ 0) × (accepted (functions t) (nodes t) ≡ accepted F′ N′)
+        goes = passes 10 ordered (lowest (tagFits t tags) (nodes t)) _ F′ N′ (sym (ap (λ c. after c (λ _. tagsRefusal t tags)) check) ∙ e)
+
+        parts : T (eqb (length tags) (tagLength t)) × T (nonePast t tags)
+        parts = both (eqb (length tags) (tagLength t)) (nonePast t tags) (goes .0)
+
+        past : (n : ℕ) → nodes t < n → Dec (n ≤ 8 * length tags) → tagged tags n ≡ false
+        past n l (no d) = past-end tags n (omega (arith, d))
+        past n l (yes d) = unset (tagged tags n) (subst (λ m. T (not (tagged tags m))) (omega (arith, l))
+            (all-passes (λ i. not (tagged tags (nodes t + i))) (8 * length tags - nodes t) (parts .1) (n - nodes t)
+            (omega (arith, l)) (omega (arith, d))))
+
+        fits : (b c : Bool) → T (not b || c) → b ≡ true → c ≡ true
+        fits true c h g = T-true c h
+        fits false c h g = absurd (true≢false (sym g))
+
+    pub order-taken : (checkWith t tags ≡ accepted (functions t) (nodes t)) ↔ InOrder t tags
+    order-taken = (goes-order (functions t) (nodes t), order-goes)
+
+  -- the table's own tags are in order
+  own-order : InOrder t (tagsOf t)
+  own-order = record {
+    size = tags-length;
+    past = λ n l. past n l (decLe n (8 * tagLength t));
+    calls = λ n r e. listed-call n (sym (tags-mark n (r .0) (r .1)) ∙ e) .1;
+  }
     where
-      go : (b c : Bool) → (b ≡ true → c ≡ true) → T (not b || c)
-      go true c f = true-T c (f refl)
-      go false c f = tt
+      past : (n : ℕ) → nodes t < n → Dec (n ≤ 8 * tagLength t) → tagged (tagsOf t) n ≡ false
+      past n l (yes d) = masked n (omega (arith, l)) d ∙ ap (λ b. b && listed t n) (unset (leb n (nodes t)) (lt→nleb n (nodes t) l))
+      past n l (no d) = past-end (tagsOf t) n (omega (arith, d, tags-length))
 
   pub tags-taken : checkWith t (tagsOf t) ≡ accepted (functions t) (nodes t)
-  unfolding checkWith after tagsRefusal nonePast
-  tags-taken = ap (λ c. after c (λ _. tagsRefusal t (tagsOf t))) check ∙ goes-on 10
-      (eqb (length (tagsOf t)) (tagLength t) && nonePast t (tagsOf t)) (lowest (tagFits t (tagsOf t)) (nodes t)) _
-      (pair (eqb (length (tagsOf t)) (tagLength t)) (nonePast t (tagsOf t)) (same (length (tagsOf t)) (tagLength t) tags-length)
-      (passes-all (λ i. not (tagged (tagsOf t) (nodes t + i))) (8 * length (tagsOf t) - nodes t) none-past))
-      (passes-lowest (tagFits t (tagsOf t)) (nodes t) fits)
+  tags-taken = order-taken (tagsOf t) .1 own-order

@@ -2,19 +2,19 @@
 use Prim.Native.Nat.{ℕ, _%_, _^_, _≤_}
 use mathlib.Core.Bool.{true}
 use mathlib.Core.List.{List}
+use mathlib.Core.Logic.{_↔_}
 use mathlib.Core.Path.{_≡_, sym}
 use lib.ListN.{length}
 use Rattle.table.specs.Pick.{Range}
 use Rattle.table.specs.Bytes.{functions, nodes}
-use Rattle.table.specs.Naming.{owner}
 use Rattle.table.specs.Check.{checkOf, accepted}
 use Rattle.table.specs.Expressions.{bodyOf}
-use Rattle.table.specs.Reach.{Reached}
+use Rattle.table.specs.Reach.{Reached, InReach}
 use Rattle.table.specs.Decoded.{decodedInto}
 use Rattle.table.proofs.SurveyLaws.{taken-by, taken-small}
 use Rattle.table.proofs.DecodedLaws.{decoded-read}
 use Rattle.list.proofs.TagVerdicts.{held-read}
-use Rattle.list.specs.Tags.{Holding, bitsSet, checkWith, heldBy, isCall, reached, listed, tagged, tagsOf, tagsRefusal}
+use Rattle.list.specs.Tags.{Holding, InOrder, bitsSet, checkWith, heldBy, isCall, reached, listed, tagged, tagsOf, tagsRefusal}
 use Rattle.list.specs.Records.{recordsOf}
 use Rattle.list.specs.PaperList.{Decides, PaperList}
 use Rattle.list.proofs.PaperList as Paper
@@ -22,18 +22,17 @@ use Rattle.list.proofs.Callees as Callees
 use Rattle.list.proofs.TagFacts as TagFacts
 use Rattle.list.proofs.Totals as Totals
 
--- the list is the A of section 4.2, by its PC and by the one solution of its equations for C, body by body
+-- the list is the A of section 4.2, of the functions that main reaches: by its PC and by the one solution of its equations for C
 pub paper-list : (t : List ℕ) (F N : ℕ) → checkOf t ≡ accepted F N → PaperList t
 paper-list = Paper.paper-list
 
--- the functions whose bodies count are those that main reaches: it is decided by C of main's body, and defined without it ..
+-- `reached` decides, by C of main's body, which functions main reaches; they are defined without any set (table, specs/Reach) ..
 pub reached-exactly : (t : List ℕ) (F N : ℕ) → checkOf t ≡ accepted F N → (f : ℕ)
     → Decides (reached t f) (Reached (functions t) (bodyOf t) f)
 reached-exactly = Callees.reached-exactly
 
 -- .. and a listed call stands in such a body
-pub listed-reached : (t : List ℕ) (F N : ℕ) → checkOf t ≡ accepted F N → (n : ℕ) → listed t n ≡ true
-    → Reached (functions t) (bodyOf t) (owner t n)
+pub listed-reached : (t : List ℕ) (F N : ℕ) → checkOf t ≡ accepted F N → (n : ℕ) → listed t n ≡ true → InReach t n
 listed-reached = Callees.listed-reached
 
 -- what is listed is a call of another function
@@ -51,6 +50,11 @@ tags-hold = TagFacts.tags-hold
 -- and are taken as tags
 pub tags-taken : (t : List ℕ) (F N : ℕ) → checkOf t ≡ accepted F N → checkWith t (tagsOf t) ≡ accepted (functions t) (nodes t)
 tags-taken = TagFacts.tags-taken
+
+-- 10 takes every tag list that is in order, a tag on a call that main doesn't reach included, and no other
+pub order-taken : (t : List ℕ) (F N : ℕ) → checkOf t ≡ accepted F N → (tags : List ℕ)
+    → (checkWith t tags ≡ accepted (functions t) (nodes t)) ↔ InOrder t tags
+order-taken = TagFacts.order-taken
 
 -- as many bits are set as there are records, and that is what `total` answers
 pub total-records : (t : List ℕ) (F N : ℕ) → checkOf t ≡ accepted F N → bitsSet (tagsOf t) ≡ length (recordsOf t)

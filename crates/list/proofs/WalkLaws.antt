@@ -63,7 +63,7 @@ module _ (t : List ℕ) where
     grown = grown-none called rows;
     added = adds-none s set l (λ m b. p m);
     functions = λ h c. zero-bit h ∙ sym (called-none t s h p);
-    enters = λ h c e. absurd (true≢false (sym e ∙ called-none t s h p));
+    walked = λ h c e. absurd (true≢false (sym e ∙ called-none t s h p));
     finds = λ m b e. absurd (true≢false (sym e ∙ q m));
     met = λ m b e. absurd (true≢false (sym e ∙ p m));
   }
@@ -76,7 +76,7 @@ module _ (t : List ℕ) where
     grown = w .grown;
     added = adds-same s s′ set set′ (w .added) (λ m b. p m);
     functions = λ h k. w .functions h k ∙ called-same t s s′ h (λ m a b. sym (p m));
-    enters = λ h k e. w .enters h k (called-same t s s′ h (λ m a b. sym (p m)) ∙ e);
+    walked = λ h k e. w .walked h k (called-same t s s′ h (λ m a b. sym (p m)) ∙ e);
     finds = λ m b e. w .finds m b (sym (q m) ∙ e);
     met = λ m b e. w .met m b (sym (p m) ∙ e);
   }
@@ -89,7 +89,7 @@ module _ (t : List ℕ) where
     grown = grown-two c c′ c″ r r′ r″ (v .grown) (w .grown);
     added = adds-two s s′ (joined s s′) set set′ set″ (v .added) (w .added) (λ m b. joined-is s s′ m);
     functions = λ h k. or-bit a b h ∙ ap₂ (λ p q. p || q) (v .functions h k) (w .functions h k) ∙ sym (called-two t s s′ h);
-    enters = λ h k e. ⊎-elim (λ p. w .grown .seen h (v .enters h k p)) (λ p. w .enters h k p)
+    walked = λ h k e. ⊎-elim (λ p. w .grown .seen h (v .walked h k p)) (λ p. w .walked h k p)
         (or-out (calledIn t s h) (calledIn t s′ h) (sym (called-two t s s′ h) ∙ e));
     finds = λ m i e. ⊎-elim (λ p. w .grown .stays m i (v .finds m i p)) (λ p. w .finds m i p) (or-out (x m) (x′ m) (sym
         (joined-is x x′ m) ∙ e));
@@ -109,7 +109,7 @@ module _ (t : List ℕ) where
       grown = w .grown;
       added = adds-none (callsAt* t es) set l none;
       functions = w .functions;
-      enters = w .enters;
+      walked = w .walked;
       finds = λ m b e. ⊎-elim (λ p. absurd (true≢false (sym p ∙ apart m b))) (λ p. w .finds m b p)
           (or-out (parallelAt t es m) (conflictsAt* t es m) (sym (joined-is (parallelAt t es) (conflictsAt* t es) m) ∙ e));
       met = w .met;
@@ -149,7 +149,7 @@ module _ (t : List ℕ) where
       };
       added = adds-same (packed own) (callsAt* t es) set set′ added (λ m b. sym (members m b));
       functions = w .functions;
-      enters = w .enters;
+      walked = w .walked;
       finds = λ m b e. ⊎-elim
           (λ p. met .bits m b ∙ or-right (packed r′ m) (packed own m && sharedOf own r′ once twice m) (meets m b ∙ p))
           (λ p. more m b (w .finds m b p))
@@ -201,7 +201,7 @@ module _ (t : List ℕ) where
         ∙ ap₂ (λ p q. p || q) (k .masks g h j seen q) (pow-bit g h ∙ turn g h ∙ ap (eqb h) (sym e))
         ∙ or-swap (calledIn t (callsBy t g) h) (eqb h (calleeOf t n)) ∙ ap (λ p. p || calledIn t (callsBy t g) h) (sym (called-one t n h i))
         ∙ sym (called-two t (eqb n) (callsBy t g) h);
-    enters = λ h q p. ⊎-elim (λ z. subst (Seen c′) (sym (eqb-true h g (ap (eqb h) (sym e) ∙ sym (called-one t n h i) ∙ z))) seen)
+    walked = λ h q p. ⊎-elim (λ z. subst (Seen c′) (sym (eqb-true h g (ap (eqb h) (sym e) ∙ sym (called-one t n h i) ∙ z))) seen)
         (λ z. k .closed g h j seen q z)
         (or-out (calledIn t (eqb n) h) (calledIn t (callsBy t g) h) (sym (called-two t (eqb n) (callsBy t g) h) ∙ p));
     finds = λ m b q. absurd (true≢false (sym q ∙ none-there m));
@@ -334,7 +334,7 @@ module _ (t : List ℕ) where
 
       closed : (h k : ℕ) → IsFunction t h → (getD c″ h 0 ≡ 0 → ⊥) → Callee k → calledIn t (callsBy t h) k ≡ true → Dec (h ≡ g)
           → getD c″ k 0 ≡ 0 → ⊥
-      closed h k j s r e (yes d) = now k (w .enters k r (called-same t (callsAt t (bodyOf t g)) (callsBy t g) k
+      closed h k j s r e (yes d) = now k (w .walked k r (called-same t (callsAt t (bodyOf t g)) (callsBy t g) k
           (λ m a b. sym (body-set t ok g m i)) ∙ subst (λ z. calledIn t (callsBy t z) k ≡ true) d e)) (ℕ-discrete k g)
       closed h k j s r e (no d) = now k (w .memo .closed h k j (old h s d) r e) (ℕ-discrete k g)
 

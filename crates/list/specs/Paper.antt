@@ -1,4 +1,5 @@
--- Parallel Conflict Analysis as the paper writes it (section 4.2), equation by equation, read as document 01 reads it ("The arbiter list")
+-- Parallel Conflict Analysis as the paper writes it (section 4.2), equation by equation, read as document 01 reads it ("The arbiter list"),
+-- and of a program as document 02, Q-5, has it
 use Prim.Native.Nat.{ℕ, zero, suc}
 use mathlib.Core.Path.{_≡_}
 use mathlib.Core.List.{List}
@@ -53,7 +54,7 @@ module _ (body at : ℕ → Expr) (F : ℕ) (B : ℕ → Calls) where
   abbrev pub PaperC : Type 0
   PaperC = (f : ℕ) → Range F f → B f ≐ C (callee-at at) B (body f)
 
-  -- A⟦p⟧ is the union of the A⟦e_f⟧: the functions f count that main reaches by calls, main among them
+  -- A⟦p⟧ is the union of the A⟦e_f⟧, p being the functions f that main reaches by calls, main among them; the paper takes all of a program
   abbrev pub programA : Calls
   programA α = (f : ℕ) × Reached F body f × paperA (callee-at at) B (body f) α
 

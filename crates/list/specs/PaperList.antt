@@ -14,9 +14,9 @@ use Rattle.list.specs.Tags.{listed}
 abbrev pub Decides : Bool → Type 0 → Type 0
 Decides b P = (b ≡ true → P) × (P → b ≡ true)
 
--- the list of an accepted table is the paper's: shown by `paper-list` (proofs/Theorems)
+-- the list of an accepted table is the paper's, of the functions that main reaches: shown by `paper-list` (proofs/Theorems)
 pub record PaperList (t : List ℕ) : Type 1 where
-  -- a node is listed exactly if it is in A⟦p⟧, p being the table's program
+  -- a node is listed exactly if it is in A⟦p⟧, p being the table's functions that main reaches
   pub exactly : (n : ℕ) → Decides (listed t n) (PaperListed t n)
   -- the sets that A⟦p⟧ is made of are the paper's C of the bodies: they obey its equations
   pub bodies : PaperC (bodyOf t) (exprAt t) (functions t) (bodySets t)

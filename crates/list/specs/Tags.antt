@@ -1,5 +1,5 @@
 -- tag lists (document 01, "The arbiter list"): the bits of a tag list, a table's arbiter list and its tag bytes, refusal 10
-use Prim.Native.Nat.{ℕ, zero, suc, _+_, _-_, _*_, _/_, _%_, _^_}
+use Prim.Native.Nat.{ℕ, zero, suc, _+_, _-_, _*_, _/_, _%_, _^_, _<_}
 use mathlib.Core.Bool.{Bool, _&&_, _||_, not, true, false}
 use mathlib.Core.List.{List, [], _∷_}
 use lib.Dec.{eqb, leb}
@@ -85,6 +85,13 @@ after (refused number place) rest = refused number place
 -- the table, then its tags
 unfoldable pub checkWith : List ℕ → List ℕ → Verdict
 checkWith t tags = after (checkOf t) λ _. tagsRefusal t tags
+
+-- tags in order: as many bytes as the nodes ask for, no tag past N, and each at a call that is no self call, reached or not; 10 takes them
+-- and no others (Theorems, order-taken)
+pub record InOrder (t tags : List ℕ) : Type 0 where
+  pub size : length tags ≡ tagLength t
+  pub past : (n : ℕ) → nodes t < n → tagged tags n ≡ false
+  pub calls : (n : ℕ) → Range (nodes t) n → tagged tags n ≡ true → isCall t n ≡ true
 
 -- a tag list that is lent to be filled: 10 looks at its length alone
 unfoldable pub fillVerdict : List ℕ → ℕ → Verdict

@@ -152,7 +152,7 @@ pub record Walk (t : List ℕ) (s x : Test) (mask : ℕ) (set set′ called call
   pub grown : Grown called called′ rows rows′
   pub added : Adds s set set′
   pub functions : (h : ℕ) → Callee h → bitAt mask h ≡ calledIn t s h
-  pub enters : (h : ℕ) → Callee h → calledIn t s h ≡ true → Seen called′ h
+  pub walked : (h : ℕ) → Callee h → calledIn t s h ≡ true → Seen called′ h
   pub finds : (m : ℕ) → Bit m → x m ≡ true → packed rows′ m ≡ true
   pub met : (m : ℕ) → Bit m → s m ≡ true → Met t rows′ m
 
@@ -170,7 +170,7 @@ pub record Within (t : List ℕ) (f n : ℕ) : Type 0 where
   pub taken : Taken t
   pub node : IsNode t n
   pub own : owner t n ≡ f
-  pub reaches : reached t f ≡ true
+  pub in-reach : reached t f ≡ true
 
 -- a node of kind k, which is 3 to top
 pub record KindTo (t : List ℕ) (n k top : ℕ) : Type 0 where

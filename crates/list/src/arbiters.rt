@@ -1,7 +1,6 @@
 // The arbiter list of an accepted table as a packed set: main's body is walked, and each body that it reaches, once.
 use crate::bits::Rows;
 use crate::walk;
-use table::Function;
 use table::decoded;
 use table::decoded::Cells;
 ghost use mathlib.Core.Path.{_≡_};

@@ -1,4 +1,4 @@
--- designs with functions that main doesn't reach, over the bytes of their tables: a tag on a call of such a body is taken, and changes nothing
+-- designs with functions that main doesn't reach, over the bytes of their tables: a tag in such a body is taken, and changes nothing
 use Prim.Native.Nat.{ℕ}
 use mathlib.Core.Path.{_≡_, refl}
 use mathlib.Core.List.{List, [], _∷_, _++_}
@@ -14,19 +14,19 @@ same-start : startOf uncalled (0b0001_0100 ∷ []) (9 ∷ []) ≡ startOf uncall
 unfolding circuit-open
 same-start = refl
 
-abbrev rounds : List ℕ → List Reply
-rounds tags = says uncalled tags (9 ∷ []) (1 ∷ 2 ∷ 3 ∷ 5 ∷ 7 ∷ [])
+abbrev round : List ℕ → List Reply
+round tags = says uncalled tags (9 ∷ []) (1 ∷ 2 ∷ 3 ∷ 5 ∷ 7 ∷ [])
 
 abbrev out-then-nine : List Reply
 out-then-nine = denied 21 1 ∷ denied 21 2 ∷ denied 21 3 ∷ denied 21 5 ∷ answered 9 ∷ []
 
-own-tags : rounds (tagsOf uncalled) ≡ out-then-nine
+own-tags : round (tagsOf uncalled) ≡ out-then-nine
 unfolding circuit-open
 own-tags = refl
 
-tags-beside : rounds (0b0001_0100 ∷ []) ≡ out-then-nine
+spare-tags : round (0b0001_0100 ∷ []) ≡ out-then-nine
 unfolding circuit-open
-tags-beside = refl
+spare-tags = refl
 
 -- a tag at no call is refused out of reach too
 wrong-tag : startOf uncalled (0b0000_1000 ∷ []) (9 ∷ []) ≡ turned 10 4

@@ -12,19 +12,20 @@ use Rattle.table.specs.Syntax.{Expr, const, param, prim, call, self, cond, bind
 use Rattle.table.specs.Pick.{pick, Range}
 use Rattle.table.specs.Bytes.{functions, nodes, params}
 use Rattle.table.specs.Naming.{owner}
-use Rattle.table.specs.Check.{Verdict, accepted, stage}
+use Rattle.table.specs.Check.{Verdict, accepted, stage, checkOf}
 use Rattle.table.specs.Expressions.{exprAt, bodyOf}
 use Rattle.table.specs.Well.{Fn, Laid}
 use Rattle.table.specs.Reach.{Reached}
 use Rattle.table.proofs.SyntaxLaws.{node-id, sub-node, every-node}
 use Rattle.list.specs.Tags.{tagged, after, checkWith}
-use Rattle.list.proofs.Callees.{listed-reached}
+use Rattle.list.proofs.Theorems.{listed-reached, order-taken}
 use Rattle.rules.specs.Arithmetic.{Arithmetic, arithmetic}
 use Rattle.rules.specs.State.{State512, View, view}
 use Rattle.rules.specs.Step.{Act, stuck, blocked, does, by-status, act, done, over, Stepped, refusal, outcome, circuitStep}
-use Rattle.rules.specs.Play.{Ask, asks, before, played}
-use Rattle.rules.specs.Circuit.{started, checkStart, startAfter, opening, startOf, circuitOf, stepAfter, stepOf, playsOf, playOf}
-use Rattle.rules.specs.SpareTags.{AlikeInReach, OutOfReach, SpareTags}
+use Rattle.rules.specs.Play.{Ask, played}
+use Rattle.rules.specs.Circuit.{started, checkStart, startAfter, opening, startOf, circuitOf, stepAfter, stepOf, playsOf}
+use Rattle.rules.specs.SpareTags.{AlikeInReach, AskedAlike, SpareBodies, SpareTags}
+use Rattle.rules.proofs.SameSteps.{asked-alike}
 use Rattle.rules.proofs.Shape.{Still, open-moves, busy-moves}
 use Rattle.rules.proofs.ActCases.{by-state}
 use Rattle.rules.proofs.Invariant.{active?, Sound}
@@ -94,58 +95,64 @@ module _ (units : Arithmetic) {F N : ℕ} {body at : ℕ → Expr} {home : ℕ �
         apart : stuck ≡ blocked → ⊥
         apart z = let w : _≡_ {A = ℕ} 0 1 = cc in omega arith
 
+-- the check takes both
+checks-alike : (t tags tags′ : List ℕ) (F N : ℕ) → checkOf t ≡ accepted F N → AlikeInReach t tags tags′
+    → checkWith t tags ≡ checkWith t tags′
+checks-alike t tags tags′ F N e a = order-taken t F N e tags .1 (a .order) ∙ sym (order-taken t F N e tags′ .1 (a .order′))
+
+-- after any steps from a start
 module _ (t tags args : List ℕ) (s : State512) (e : startOf t tags args ≡ started s) where
-  -- after any steps from a start
-  pub out-of-reach : (asked : List (Ask (List ℕ))) → OutOfReach t s asked
-  unfolding playsOf stepOf circuitOf
-  out-of-reach asked =
+  check : checkOf t ≡ accepted (functions t) (nodes t)
+  check = start-passes t tags args s e .check
+
+  abbrev l : Laid (functions t) (nodes t) (bodyOf t) (exprAt t) (owner t)
+  l = lay t (functions t) (nodes t) check
+
+  abbrev state : List (Ask (List ℕ)) → State512
+  state asked = played (stepOf t) s asked .state
+
+  sound : (asked : List (Ask (List ℕ))) → Sound (functions t) (bodyOf t) (view (state asked))
+  sound asked =
       let p = start-passes t tags args s e in
-      let l = lay t (functions t) (nodes t) (p .check) in
-      subst (λ r. OutOfReach t r asked) (sym (p .state))
-      (after-steps l (table-kept t (functions t) (nodes t) (p .check) args (p .count) asked .good .sound))
-    where
-      after-steps : Laid (functions t) (nodes t) (bodyOf t) (exprAt t) (owner t)
-          → Sound (functions t) (bodyOf t) (view (played (stepOf t) (opening t args) asked .state)) → OutOfReach t (opening t args) asked
-      after-steps l sound = record {
-        rests = λ n r out. out-stuck (arithmetic t) l st sound n r out;
-        steps = λ tags tags′ a n. ap (λ c. stepAfter c st (circuitOf t tags st n)) (a .check) ∙ ap (stepAfter (checkWith t tags′) st)
-            (step-tags (arithmetic t) l st (tagged tags) (tagged tags′) n
-            (λ r b. a .tag n r (blocked-reached (arithmetic t) l st sound n r b)));
-      }
-        where
-          st : State512
-          st = played (stepOf t) (opening t args) asked .state
+      subst (λ r. Sound (functions t) (bodyOf t) (view (played (stepOf t) r asked .state))) (sym (p .state))
+      (table-kept t (functions t) (nodes t) (p .check) args (p .count) asked .good .sound)
 
-  -- a list of steps under two tag lists that are alike in reach
   module _ (tags₁ tags₂ : List ℕ) (alike : AlikeInReach t tags₁ tags₂) where
-    same-from : (asked : List (Ask (List ℕ))) (ns : List ℕ)
-        → played (stepOf t) (played (stepOf t) s asked .state) (asks tags₁ ns)
-        ≡ played (stepOf t) (played (stepOf t) s asked .state) (asks tags₂ ns)
-    unfolding playsOf
-    same-from asked [] = refl
-    same-from asked (n ∷ ns) =
-        ap (before n (stepOf t tags₁ st n))
-        (subst (λ z. played (stepOf t) z (asks tags₁ ns) ≡ played (stepOf t) z (asks tags₂ ns)) (played-state (stepOf t) s asked (a ∷ []))
-        (same-from (asked ++ a ∷ []) ns))
-        ∙ ap (λ r. before n r (played (stepOf t) (r .state) (asks tags₂ ns))) (out-of-reach asked .steps tags₁ tags₂ alike n)
-      where
-        st : State512
-        st = played (stepOf t) s asked .state
+    checks : checkWith t tags₁ ≡ checkWith t tags₂
+    checks = checks-alike t tags₁ tags₂ (functions t) (nodes t) check alike
 
-        a : Ask (List ℕ)
-        a = record { tags = tags₁; node = n }
+    abbrev After : State512 → Type 0
+    After x = (asked : List (Ask (List ℕ))) × (state asked ≡ x)
 
-    same-play : (ns : List ℕ) → playOf t tags₁ s ns ≡ playOf t tags₂ s ns
-    unfolding playOf
-    same-play ns = same-from [] ns
+    same-step : (x : State512) → After x → (n : ℕ) → stepOf t tags₁ x n ≡ stepOf t tags₂ x n
+    unfolding stepOf circuitOf
+    same-step x a n =
+        ap (λ c. stepAfter c x (circuitOf t tags₁ x n)) checks ∙ ap (stepAfter (checkWith t tags₂) x)
+        (step-tags (arithmetic t) l x (tagged tags₁) (tagged tags₂) n
+        (λ r b. alike .tag n r (blocked-reached (arithmetic t) l x
+        (subst (λ y. Sound (functions t) (bodyOf t) (view y)) (a .1) (sound (a .0))) n r b)))
+
+    one-more : (x : State512) → After x → (n : ℕ) → After (stepOf t tags₁ x n .state)
+    one-more x a n =
+        let b : Ask (List ℕ) = record { tags = tags₁; node = n } in
+        (a .0 ++ b ∷ [], played-state (stepOf t) s (a .0) (b ∷ []) ∙ ap (λ y. stepOf t tags₁ y n .state) (a .1))
+
+    same-asked : (asked : List (Ask (List ℕ))) → AskedAlike t tags₁ tags₂ (state asked)
+    same-asked asked = asked-alike t tags₁ tags₂ checks After same-step one-more (state asked) (asked, refl)
+
+  pub spare-bodies : (asked : List (Ask (List ℕ))) → SpareBodies t s asked
+  unfolding playsOf
+  spare-bodies asked = record {
+    still = λ n r out. out-stuck (arithmetic t) l (state asked) (sound asked) n r out;
+    alike = λ tags tags′ a. same-asked tags tags′ a asked;
+  }
 
 -- the start looks at the check's verdict alone
-pub spare-tags : (t tags tags′ args : List ℕ) → AlikeInReach t tags tags′ → SpareTags t tags tags′ args
+pub spare-tags : (t tags tags′ args : List ℕ) (F N : ℕ) → checkOf t ≡ accepted F N → AlikeInReach t tags tags′ → SpareTags t tags tags′ args
 unfolding startOf checkStart
-spare-tags t tags tags′ args a = record {
-  start = ap (λ c. startAfter (after c argued) (opening t args)) (a .check);
-  play = λ s e. same-play t tags args s e tags tags′ a;
-  holding = λ s e h n r l. sym (a .tag n r (listed-reached t (functions t) (nodes t) (start-passes t tags args s e .check) n l)) ∙ h n r l;
+spare-tags t tags tags′ args F N e a = record {
+  start = ap (λ c. startAfter (after c argued) (opening t args)) (checks-alike t tags tags′ F N e a);
+  holding = λ h n r l. sym (a .tag n r (listed-reached t F N e n l)) ∙ h n r l;
 }
   where
     argued : Unit {0} → Verdict

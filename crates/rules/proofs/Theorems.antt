@@ -9,7 +9,7 @@ use Rattle.rules.specs.Circuit.{started, startOf}
 use Rattle.rules.specs.Demand.{ThirdDemand, ReadingUnique}
 use Rattle.rules.specs.Companions.{UnderAnyTags, OwnStart, OwnList, ReadingFixed, ReadingWord, FitsFromStart, InAnyState, AfterSteps}
 use Rattle.rules.specs.Companions.{FirstDemand}
-use Rattle.rules.specs.SpareTags.{AlikeInReach, OutOfReach, SpareTags}
+use Rattle.rules.specs.SpareTags.{AlikeInReach, SpareBodies, SpareTags}
 use Rattle.rules.specs.First.{FirstSteps}
 use Rattle.rules.specs.Widths.{NarrowFirst, FunctionBelow, ReadingBelow, AnswerBelow, StepNarrow, StatesBelow}
 use Rattle.rules.proofs.Demands as Demands
@@ -72,13 +72,13 @@ pub under-any-tags : (t tags args : List ℕ) (s : State512) → startOf t tags 
     → UnderAnyTags t args s asked
 under-any-tags = Demands.under-any-tags
 
--- bodies that main doesn't reach (document 02, Q-5): from a start on they have no step ..
-pub out-of-reach : (t tags args : List ℕ) (s : State512) → startOf t tags args ≡ started s → (asked : List (Ask (List ℕ)))
-    → OutOfReach t s asked
-out-of-reach = SpareTags.out-of-reach
+-- bodies that main doesn't reach (document 02, Q-5): from a start on they have no step, and their tags change nothing that is asked ..
+pub spare-bodies : (t tags args : List ℕ) (s : State512) → startOf t tags args ≡ started s → (asked : List (Ask (List ℕ)))
+    → SpareBodies t s asked
+spare-bodies = SpareTags.spare-bodies
 
--- .. and their tags change neither a start nor any step after it
-pub spare-tags : (t tags tags′ args : List ℕ) → AlikeInReach t tags tags′ → SpareTags t tags tags′ args
+-- .. nor do they change the start
+pub spare-tags : (t tags tags′ args : List ℕ) (F N : ℕ) → checkOf t ≡ accepted F N → AlikeInReach t tags tags′ → SpareTags t tags tags′ args
 spare-tags = SpareTags.spare-tags
 
 pub fits : FitsFromStart

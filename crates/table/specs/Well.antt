@@ -26,7 +26,7 @@ abbrev mutual
   Apart* none = Unit {0}
   Apart* (some e es) = Apart e × Apart* es × Apart₂ (λ m. Node m e) (λ m. Node* m es)
 
--- c is a call of f that stands in e
+-- c is a call of f, no self call, that stands in e
 abbrev mutual
   pub CallIn : ℕ → ℕ → Expr → Type 0
   CallIn c f (const n v) = ⊥

@@ -122,7 +122,7 @@ module _ (t : ℕ) where
         (
           r .walk .added .size,
           (
-            record { taken = w .taken; node = l .0; own = l .1; reaches = w .reaches },
+            record { taken = w .taken; node = l .0; own = l .1; in-reach = w .in-reach },
             (p .1 .1 .1 .1 .0, r .walk .memo),
           ),
         ),
