@@ -14,6 +14,7 @@ pub mod RunFacts
 pub mod TakenSteps
 pub mod Fits
 pub mod EveryState
+pub mod OutOfReach
 pub mod SameSteps
 pub mod SpareTags
 -- widths: reduced operands, the values that a reading meets, and those that a circuit holds

@@ -15,7 +15,7 @@ use Rattle.table.specs.Naming.{owner}
 use Rattle.table.specs.Check.{Verdict, accepted, stage, checkOf}
 use Rattle.table.specs.Expressions.{exprAt, bodyOf}
 use Rattle.table.specs.Well.{Fn, Laid}
-use Rattle.table.specs.Reach.{Reached}
+use Rattle.table.specs.Reach.{Reached, InReach}
 use Rattle.table.proofs.SyntaxLaws.{node-id, sub-node, every-node}
 use Rattle.list.specs.Tags.{tagged, after, checkWith}
 use Rattle.list.proofs.Theorems.{listed-reached, order-taken}
@@ -26,6 +26,9 @@ use Rattle.rules.specs.Play.{Ask, played}
 use Rattle.rules.specs.Circuit.{started, checkStart, startAfter, opening, startOf, circuitOf, stepAfter, stepOf, playsOf}
 use Rattle.rules.specs.SpareTags.{AlikeInReach, AskedAlike, SpareBodies, SpareTags}
 use Rattle.rules.proofs.SameSteps.{asked-alike}
+use Rattle.rules.proofs.OutOfReach.{KeepsBody, steps-keep}
+use Rattle.rules.proofs.Frame.{Same}
+use Rattle.rules.proofs.Kept.{Kept}
 use Rattle.rules.proofs.Shape.{Still, open-moves, busy-moves}
 use Rattle.rules.proofs.ActCases.{by-state}
 use Rattle.rules.proofs.Invariant.{active?, Sound}
@@ -102,7 +105,7 @@ checks-alike t tags tags′ F N e a = order-taken t F N e tags .1 (a .order) ∙
 
 -- after any steps from a start
 module _ (t tags args : List ℕ) (s : State512) (e : startOf t tags args ≡ started s) where
-  check : checkOf t ≡ accepted (functions t) (nodes t)
+  abbrev check : checkOf t ≡ accepted (functions t) (nodes t)
   check = start-passes t tags args s e .check
 
   abbrev l : Laid (functions t) (nodes t) (bodyOf t) (exprAt t) (owner t)
@@ -111,11 +114,22 @@ module _ (t tags args : List ℕ) (s : State512) (e : startOf t tags args ≡ st
   abbrev state : List (Ask (List ℕ)) → State512
   state asked = played (stepOf t) s asked .state
 
-  sound : (asked : List (Ask (List ℕ))) → Sound (functions t) (bodyOf t) (view (state asked))
-  sound asked =
+  kept : (asked : List (Ask (List ℕ))) → Kept (arithmetic t) l (view s) (played (stepOf t) s asked)
+  kept asked =
       let p = start-passes t tags args s e in
-      subst (λ r. Sound (functions t) (bodyOf t) (view (played (stepOf t) r asked .state))) (sym (p .state))
-      (table-kept t (functions t) (nodes t) (p .check) args (p .count) asked .good .sound)
+      subst (λ r. Kept (arithmetic t) l (view r) (played (stepOf t) r asked)) (sym (p .state))
+      (table-kept t (functions t) (nodes t) (p .check) args (p .count) asked)
+
+  sound : (asked : List (Ask (List ℕ))) → Sound (functions t) (bodyOf t) (view (state asked))
+  sound asked = kept asked .good .sound
+
+  -- every entry out of reach is as it was
+  keeps-body : (asked : List (Ask (List ℕ))) (f : ℕ) → Fn (functions t) (bodyOf t) f → (Reached (functions t) (bodyOf t) f → ⊥)
+      → KeepsBody (bodyOf t) (view s) (view (state asked)) f
+  keeps-body asked f r out = steps-keep (l .well) f r out (view s) (view (state asked)) _ (sound []) (kept asked .steps)
+
+  keeps-node : (asked : List (Ask (List ℕ))) (n : ℕ) → Range (nodes t) n × (InReach t n → ⊥) → Same (view s) (view (state asked)) n
+  keeps-node asked n x = keeps-body asked (owner t n) (l .home-there n (x .0)) (x .1) .0 n (l .owned (owner t n) n (x .0) refl)
 
   module _ (tags₁ tags₂ : List ℕ) (alike : AlikeInReach t tags₁ tags₂) where
     checks : checkWith t tags₁ ≡ checkWith t tags₂
@@ -144,6 +158,13 @@ module _ (t tags args : List ℕ) (s : State512) (e : startOf t tags args ≡ st
   unfolding playsOf
   spare-bodies asked = record {
     still = λ n r out. out-stuck (arithmetic t) l (state asked) (sound asked) n r out;
+    kept = record {
+      status = λ n x. sym (keeps-node asked n x .0);
+      second = λ n x. sym (keeps-node asked n x .1);
+      value = λ n x. sym (keeps-node asked n x .2);
+      register = λ f i x. sym (keeps-body asked f (x .0) (x .1) .1 .1 i);
+      occupant = λ f x. sym (keeps-body asked f (x .0) (x .1) .1 .0);
+    };
     alike = λ tags tags′ a. same-asked tags tags′ a asked;
   }
 

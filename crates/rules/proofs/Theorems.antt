@@ -72,7 +72,8 @@ pub under-any-tags : (t tags args : List ℕ) (s : State512) → startOf t tags 
     → UnderAnyTags t args s asked
 under-any-tags = Demands.under-any-tags
 
--- bodies that main doesn't reach (document 02, Q-5): from a start on they have no step, and their tags change nothing that is asked ..
+-- bodies that main doesn't reach (document 02, Q-5): from a start on they have no step and keep all entries, and their tags change nothing
+-- that is asked ..
 pub spare-bodies : (t tags args : List ℕ) (s : State512) → startOf t tags args ≡ started s → (asked : List (Ask (List ℕ)))
     → SpareBodies t s asked
 spare-bodies = SpareTags.spare-bodies

@@ -3,15 +3,17 @@ use Prim.Native.Nat.{ℕ}
 use mathlib.Core.Path.{_≡_}
 use mathlib.Core.List.{List}
 use Rattle.table.specs.Pick.{Range}
-use Rattle.table.specs.Bytes.{nodes}
-use Rattle.table.specs.Reach.{InReach}
+use Rattle.table.specs.Bytes.{functions, nodes}
+use Rattle.table.specs.Expressions.{bodyOf}
+use Rattle.table.specs.Reach.{Reached, InReach}
 use Rattle.list.specs.Tags.{tagged, InOrder, Holding}
-use Rattle.rules.specs.State.{State512}
+use Rattle.rules.specs.State.{State512, view}
 use Rattle.rules.specs.Step.{stuck}
 use Rattle.rules.specs.Play.{Ask}
 use Rattle.rules.specs.Circuit.{startOf, stepOf, playsOf, playOf, actOf}
 use Rattle.rules.specs.Runs.{runOf}
 use Rattle.rules.specs.First.{queryOf, driveOf}
+use Rattle.rules.specs.Companions.{Agree}
 
 -- two tag lists in order, with the same tags wherever main reaches; elsewhere each may have any calls tagged
 pub record AlikeInReach (t tags tags′ : List ℕ) : Type 0 where
@@ -31,6 +33,9 @@ pub record AskedAlike (t tags tags′ : List ℕ) (s : State512) : Type 0 where
 pub record SpareBodies (t : List ℕ) (s : State512) (asked : List (Ask (List ℕ))) : Type 0 where
   -- a node that main doesn't reach has no step
   pub still : (n : ℕ) → Range (nodes t) n → (InReach t n → ⊥) → actOf t (playsOf t s asked .state) n ≡ stuck
+  -- and all entries of such nodes and functions are as the start left them
+  pub kept : Agree (λ n. Range (nodes t) n × (InReach t n → ⊥))
+      (λ f. Range (functions t) f × (Reached (functions t) (bodyOf t) f → ⊥)) (view s) (view (playsOf t s asked .state))
   -- tags at such nodes change nothing
   pub alike : (tags tags′ : List ℕ) → AlikeInReach t tags tags′ → AskedAlike t tags tags′ (playsOf t s asked .state)
 
