@@ -74,6 +74,17 @@ start-passes t tags args s e =
       state = a .1;
     }
 
+-- what a query and the runs look at once the check is passed: 24
+abbrev pub ranges : (t : List ℕ) → State512 → Unit {0} → Verdict
+ranges t s _ =
+    stage 24 (not (over 3 (nodes t) (s .status))) 0 λ _.
+    stage 24 (not (over (nodes t) (functions t) (s .occupant))) 0 λ _.
+    accepted (functions t) (nodes t)
+
+pub standing-by : (t tags : List ℕ) (s : State512) (c : Verdict) → checkWith t tags ≡ c → standing t tags s ≡ after c (ranges t s)
+unfolding standing
+standing-by t tags s c e = ap (λ c. after c (ranges t s)) e
+
 -- the circuit's proof over a table
 module _ (t : List ℕ) (F N : ℕ) (check : checkOf t ≡ accepted F N) where
   abbrev pub lay : Laid (functions t) (nodes t) (bodyOf t) (exprAt t) (owner t)
@@ -101,18 +112,12 @@ module _ (t : List ℕ) (F N : ℕ) (check : checkOf t ≡ accepted F N) where
       → standing t tags s ≡ accepted (functions t) (nodes t)
   unfolding standing after
   stands-well tags F N e s g =
-      ap (λ c. after c rest) e
+      standing-by t tags s (accepted F N) e
       ∙ goes-on 24 (not (over 3 (nodes t) (s .status))) 0 _ (not-over (over 3 (nodes t) (s .status))
       (over-none 3 (nodes t) (s .status) (status-bound lay (view s) (g .sound)))) refl
       ∙ goes-on 24 (not (over (nodes t) (functions t) (s .occupant))) 0 _ (not-over (over (nodes t) (functions t) (s .occupant))
       (over-none (nodes t) (functions t) (s .occupant) (occupant-bound lay (view s) (g .sound)))) refl
     where
-      rest : Unit {0} → Verdict
-      rest _ =
-          stage 24 (not (over 3 (nodes t) (s .status))) 0 λ _.
-          stage 24 (not (over (nodes t) (functions t) (s .occupant))) 0 λ _.
-          accepted (functions t) (nodes t)
-
       not-over : (b : Bool) → b ≡ false → T (not b)
       not-over true e = absurd (true≢false e)
       not-over false e = tt

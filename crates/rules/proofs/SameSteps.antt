@@ -1,23 +1,23 @@
 -- two tag lists under which every step is the same in the states of P, which steps don't leave: plays, runs and the query are the same too
 use Prim.Native.Nat.{ℕ, zero, suc}
 use mathlib.Core.Bool.{not}
-use mathlib.Core.Path.{_≡_, refl, ap, _∙_}
+use mathlib.Core.Path.{_≡_, refl, sym, ap, _∙_}
 use mathlib.Core.List.{List, [], _∷_}
 use lib.Dec.{eqb}
 use Rattle.table.specs.Pick.{pick}
 use Rattle.table.specs.Syntax.{id}
 use Rattle.table.specs.Bytes.{functions, nodes}
-use Rattle.table.specs.Check.{Verdict, accepted, stage}
 use Rattle.table.specs.Expressions.{bodyOf}
-use Rattle.list.specs.Tags.{after, checkWith}
+use Rattle.list.specs.Tags.{checkWith}
 use Rattle.rules.specs.State.{State512, view}
-use Rattle.rules.specs.Step.{done, over}
+use Rattle.rules.specs.Step.{done}
 use Rattle.rules.specs.Play.{asks, before, played}
 use Rattle.rules.specs.Circuit.{stepOf, playOf}
 use Rattle.rules.specs.Runs.{standing, mainValue, gave, atRest, spent, Driven, andThen, runFrom, runAfter, runOf}
 use Rattle.rules.specs.First.{isTaken, firstOf, onward, queryAfter, queryOf, stays, oneMore, unlessOver, driveFrom, driveAfter}
 use Rattle.rules.specs.First.{driveOf}
 use Rattle.rules.specs.SpareTags.{AskedAlike}
+use Rattle.rules.proofs.Demands.{standing-by}
 use Rattle.rules.proofs.LowestLaws.{lowest-same}
 
 module _ (t tags tags′ : List ℕ) (check : checkWith t tags ≡ checkWith t tags′) (P : State512 → Type 0)
@@ -29,14 +29,7 @@ module _ (t tags tags′ : List ℕ) (check : checkWith t tags ≡ checkWith t t
       (λ n r. ap (λ x. not (isTaken (x .answer))) (same s p n))
 
   standing-same : (s : State512) → standing t tags s ≡ standing t tags′ s
-  unfolding standing
-  standing-same s = ap (λ c. after c ranged) check
-    where
-      ranged : Unit {0} → Verdict
-      ranged _ =
-          stage 24 (not (over 3 (nodes t) (s .status))) 0 λ _.
-          stage 24 (not (over (nodes t) (functions t) (s .occupant))) 0 λ _.
-          accepted (functions t) (nodes t)
+  standing-same s = standing-by t tags s (checkWith t tags′) check ∙ sym (standing-by t tags′ s (checkWith t tags′) refl)
 
   -- lists of steps
   play-from : (ns : List ℕ) (s : State512) → P s → played (stepOf t) s (asks tags ns) ≡ played (stepOf t) s (asks tags′ ns)
