@@ -2,7 +2,7 @@
 
 use compare_circuit::lent::Lent;
 use design::circuit;
-use design::generator::accepted_of;
+use design::generator::{accepted_of, accepted_spare_of};
 use design::list::tags_of;
 use design::random::Random;
 use design::reading::read;
@@ -19,8 +19,17 @@ pub const JOB_SIZES: [usize; 3] = [16, 128, 512];
 const JOBS: usize = 12;
 
 pub fn tables(size: usize) -> Vec<Vec<u8>> {
+    made(size, accepted_of)
+}
+
+/// Tables that all have functions out of main's reach, about a third of them.
+pub fn spare_tables(size: usize) -> Vec<Vec<u8>> {
+    made(size, accepted_spare_of)
+}
+
+fn made(size: usize, make: impl Fn(&mut Random, usize) -> Vec<u8>) -> Vec<Vec<u8>> {
     let mut random = Random::new(size as u64);
-    let tables: Vec<Vec<u8>> = (0..TABLES).map(|_| accepted_of(&mut random, size)).collect();
+    let tables: Vec<Vec<u8>> = (0..TABLES).map(|_| make(&mut random, size)).collect();
     let has_widths = |table: &&Vec<u8>| is_narrow(&Tree::read(table).expect("an accepted table"));
     mostly_narrow(tables.iter().filter(has_widths).count(), TABLES);
     tables

@@ -2,11 +2,12 @@
 
 use std::hint::black_box;
 
-use crate::designs::{tables, TABLE_SIZES};
+use crate::designs::{spare_tables, tables, TABLE_SIZES};
 use crate::measure::{medians, Section};
 use crate::ratios::Ratios;
 use design::list::fill_tags;
 use design::towers::{deep_beside, deep_calls, tower_beside, tower_of_arguments};
+use numbers::MOST_NODES;
 
 /// Against the bit sets; the words are another way, shown beside it.
 const BOUND: f64 = 1.15;
@@ -27,6 +28,9 @@ pub fn section(ratios: &mut Ratios) {
         let ratio = row(&section, &size.to_string(), &tables(size));
         ratios.add(&format!("list, {size} nodes"), ratio, BOUND);
     }
+    let label = format!("spare, {MOST_NODES} nodes");
+    let ratio = row(&section, &label, &spare_tables(MOST_NODES));
+    ratios.add(&format!("list, {label}"), ratio, BOUND);
     let ends = [
         ("tower, beside", tower_beside()),
         ("tower, arguments", tower_of_arguments()),

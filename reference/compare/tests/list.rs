@@ -11,6 +11,7 @@ use design::features::features;
 use design::generator::{accepted, accepted_of, accepted_sharing};
 use design::list::{check_tags, records, tag_bytes, tag_length, total};
 use design::random::Random;
+use design::reach_cases::CASES;
 use design::states::{damaged_tags, tags};
 use design::towers::{any_comb, any_deep, any_tower, deep_beside, deep_calls, tower_beside, tower_of_arguments};
 use design::{Kind, Node, Table, Tree};
@@ -22,6 +23,19 @@ const SEEDS: [u64; 4] = [201, 202, 203, 204];
 
 /// One table in so many is looked at for what occurs in it, which takes time.
 const LOOKED_AT: usize = 8;
+
+/// What has to occur more often than all the rest, at least in one table of so many.
+const FREQUENT: [(&str, usize); 9] = [
+    ("list", 5),
+    ("let in a let", 5),
+    ("call in an argument of a self call", 5),
+    ("function nobody calls", 5),
+    ("function out of reach", 4),
+    ("list over all bodies differs", 10),
+    ("out of reach shares a callee with a reached body", 10),
+    ("called only from out of reach", 10),
+    ("reached through two levels", 5),
+];
 
 /// Bytes around a lent list that nobody may touch.
 const GUARD: usize = 16;
@@ -180,13 +194,13 @@ fn random_tables() -> Outcome {
     println!("{:?}\n{:#?}", seen.tags, seen.features);
     ensure(seen.tables >= 50_000 && seen.refused >= 8_000, || format!("{} and {}", seen.tables, seen.refused))?;
     ensure(3 * seen.listed >= seen.tables, || format!("{} lists of {}", seen.listed, seen.tables))?;
-    ensure(seen.features.len() == 39, || format!("{:?}", seen.features))?;
+    ensure(seen.features.len() == 45, || format!("{:?}", seen.features))?;
     for (feature, count) in &seen.features {
         ensure(40 * LOOKED_AT * count >= seen.tables, || format!("rare: {feature}, {count}"))?;
     }
-    for feature in ["list", "let in a let", "call in an argument of a self call", "function nobody calls"] {
+    for (feature, one_in) in FREQUENT {
         let count = seen.features[feature];
-        ensure(5 * LOOKED_AT * count >= seen.tables, || format!("not frequent: {feature}, {count}"))?;
+        ensure(one_in * LOOKED_AT * count >= seen.tables, || format!("not frequent: {feature}, {count}"))?;
     }
     ensure(seen.tags.len() == 5, || format!("{:?}", seen.tags))?;
     for (answer, count) in &seen.tags {
@@ -299,12 +313,20 @@ fn named_designs() -> Outcome {
         ("fun f() = 1  fun main() = let a = f(), b = f() in f()", &[0b1100]),
         ("fun f() = 1  fun main() = if f() then f() else f()", &[0]),
         ("fun f() = 1  fun main(x, y) = main(f(), f())", &[0b1100]),
-        ("fun f() = 1  fun g() = add(f(), f())  fun main() = 1", &[0b1100]),
+        ("fun f() = 1  fun g() = add(f(), f())  fun main() = 1", &[0]),
     ] {
         let bytes = assemble(text).map_err(|error| format!("{error:?}"))?;
         agree(&mut seen, &mut random, &bytes)?;
         let (_, _, found) = fill(&mut random, &bytes, wanted.len())?;
         ensure(found == wanted, || format!("{text}: {found:?}"))?;
+    }
+    for case in CASES {
+        let bytes = case.bytes();
+        agree(&mut seen, &mut random, &bytes)?;
+        let tree = unrefused(Tree::read(&bytes), &bytes)?;
+        let wanted = tag_bytes(&tree, &case.list.iter().copied().map(Node).collect());
+        let (_, _, found) = fill(&mut random, &bytes, wanted.len())?;
+        ensure(found == wanted, || format!("{}: {found:?}", case.text))?;
     }
     for bytes in examples::tables()? {
         agree_on_any(&mut seen, &mut random, &bytes)?;

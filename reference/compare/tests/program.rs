@@ -10,9 +10,11 @@ use design::damage::damaged;
 use design::difference::{ensure, shown, Outcome};
 use design::examples;
 use design::generator::{accepted, accepted_of, accepted_sharing};
-use design::list::program;
+use design::list::{differs_over_all, program};
 use design::random::Random;
+use design::reach_cases::CASES;
 use design::towers::{any_comb, any_deep, any_tower, deep_beside, tower_beside};
+use design::Tree;
 use running::{binary, folder, printed};
 
 const PROGRAM: &str = "arbiters";
@@ -55,7 +57,7 @@ fn examples() -> Outcome {
 #[test]
 fn random_tables() -> Outcome {
     let mut random = Random::new(301);
-    let (mut listed, mut refused) = (0, 0);
+    let (mut listed, mut refused, mut spare) = (0, 0, 0);
     for round in 0..600 {
         let bytes = match round % 20 {
             0..=7 => accepted_sharing(&mut random),
@@ -68,8 +70,26 @@ fn random_tables() -> Outcome {
         agree(&bytes)?;
         listed += usize::from(program(&bytes).contains("arbiter"));
         refused += usize::from(program(&bytes).contains("refused"));
+        spare += usize::from(Tree::read(&bytes).is_ok_and(|tree| differs_over_all(&tree)));
     }
-    ensure(listed >= 150 && refused >= 100, || format!("{listed} with a list, {refused} refused"))
+    println!("{listed} with a list, {refused} refused, {spare} with another list over all bodies");
+    ensure(listed >= 150 && refused >= 100, || format!("{listed} with a list, {refused} refused"))?;
+    ensure(spare >= 25, || format!("{spare} with another list over all bodies"))
+}
+
+/// Main's reach by hand.
+#[test]
+fn named_designs() -> Outcome {
+    for case in CASES {
+        let bytes = case.bytes();
+        agree(&bytes)?;
+        let text = String::from_utf8_lossy(&printed(PROGRAM, &bytes, usize::MAX)?).into_owned();
+        let nodes = text.lines().filter(|line| line.starts_with("arbiter"));
+        let mut nodes: Vec<u16> = nodes.filter_map(|line| line.rsplit(' ').next()?.parse().ok()).collect();
+        nodes.sort();
+        ensure(nodes == case.list, || format!("{}: {text}", case.text))?;
+    }
+    Ok(())
 }
 
 #[test]

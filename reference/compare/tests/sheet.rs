@@ -7,7 +7,7 @@ use compare::sheet_fill;
 use design::asm::assemble;
 use design::difference::{ensure, shown, unrefused, Outcome};
 use design::examples;
-use design::list::records;
+use design::list::{differs_over_all, records};
 use design::listings::{longest, SheetTables};
 use design::random::Random;
 use design::sheet::sheet;
@@ -31,6 +31,8 @@ struct Seen {
     refusals: Refusals,
     /// Tables with a list and with a call off it that is no self call.
     off_the_list: usize,
+    /// Tables of which the list over all bodies is another.
+    spare: usize,
 }
 
 /// Lends a text with this content and guards; compares the answer and each byte.
@@ -61,6 +63,7 @@ fn fill(seen: &mut Seen, bytes: &[u8], before: Vec<u8>) -> Outcome {
             seen.kinds.note(&list);
             let calls = tree.nodes().filter(|node| tree.other_callee(*node).is_some()).count();
             seen.off_the_list += usize::from(!list.is_empty() && calls > list.len());
+            seen.spare += usize::from(differs_over_all(&tree));
             let text = &found[GUARD..GUARD + (said - FILLED) as usize];
             pages::in_order(text, &list).map_err(|difference| format!("{difference}: {}", shown(bytes)))
         }
@@ -82,8 +85,9 @@ fn all_kinds_of_tables() -> Outcome {
     SheetTables::new(402).take(TABLES).try_for_each(|bytes| agree(&mut seen, &mut random, &bytes))?;
     seen.kinds.often(60)?;
     seen.refusals.often(10_000, 100)?;
-    println!("{} with a call off the list", seen.off_the_list);
-    ensure(seen.off_the_list >= 2_500, || format!("{} with a call off the list", seen.off_the_list))
+    println!("{} with a call off the list, {} with another list over all bodies", seen.off_the_list, seen.spare);
+    ensure(seen.off_the_list >= 2_500, || format!("{} with a call off the list", seen.off_the_list))?;
+    ensure(seen.spare >= 300, || format!("{} with another list over all bodies", seen.spare))
 }
 
 /// The longest lists, whatever was in the text before.

@@ -8,7 +8,7 @@ use std::process::Command;
 
 use design::difference::{ensure, shown, Outcome};
 use design::examples;
-use design::list::records;
+use design::list::{differs_over_all, records};
 use design::listings::{longest, SheetTables};
 use design::random::Random;
 use design::sheet::program;
@@ -31,6 +31,8 @@ const LISTED: usize = 400;
 struct Seen {
     kinds: SheetKinds,
     refused: usize,
+    /// Tables of which the list over all bodies is another.
+    spare: usize,
 }
 
 fn agree_in_pieces(seen: &mut Seen, input: &[u8], piece: usize) -> Outcome {
@@ -44,6 +46,7 @@ fn agree_in_pieces(seen: &mut Seen, input: &[u8], piece: usize) -> Outcome {
         Ok(tree) => {
             let list = records(&tree);
             seen.kinds.note(&list);
+            seen.spare += usize::from(differs_over_all(&tree));
             pages::in_order(&found, &list).map_err(|difference| format!("{difference}: {}", with()))
         }
         Err(_) if seen.refused < LISTED => {
@@ -76,10 +79,12 @@ fn all_kinds_of_tables() -> Outcome {
         ensure(other.refused >= LISTED, || format!("{} refused", other.refused))?;
         seen.kinds.add(other.kinds);
         seen.refused += other.refused;
+        seen.spare += other.spare;
     }
-    println!("{} refused", seen.refused);
+    println!("{} refused, {} with another list over all bodies", seen.refused, seen.spare);
     seen.kinds.often(40)?;
-    ensure(seen.refused >= 2_000, || format!("{} refused", seen.refused))
+    ensure(seen.refused >= 2_000, || format!("{} refused", seen.refused))?;
+    ensure(seen.spare >= 250, || format!("{} with another list over all bodies", seen.spare))
 }
 
 #[test]

@@ -30,6 +30,8 @@ pub fn some_table(random: &mut Random) -> Vec<u8> {
         0 => return accepted(random),
         1 => return accepted_sharing(random),
         2..=6 => random.within(41, 120),
+        // Main reaches most of a design, so that few but the smallest are through after some steps.
+        7..=14 => random.within(1, 8),
         _ => random.within(1, 40),
     };
     match random.once_in(2) {

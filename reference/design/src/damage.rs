@@ -1,12 +1,16 @@
 //! Random tables that are mostly refused: accepted ones with something changed, and bytes from nowhere.
 
+use std::collections::BTreeSet;
+
 use numbers::{BOUND, CALL, CONSTANT, IF, LET, PARAMETER, PRIMITIVE};
 
 use crate::check::owners;
-use crate::generator::{accepted, with_strays};
+use crate::generator::{accepted, accepted_spare, with_strays};
+use crate::places::{count_at, node_at, put, root_at, set, swap, width_at, Places};
 use crate::random::Random;
-use crate::table::{Function, Node, Table};
+use crate::table::{Node, Table};
 use crate::table::{EXTRA, FIRST, KIND, NEXT, WORD};
+use crate::tree::Tree;
 
 /// A table with one or several faults; by chance it may still be an accepted one.
 pub fn damaged(random: &mut Random) -> Vec<u8> {
@@ -15,8 +19,9 @@ pub fn damaged(random: &mut Random) -> Vec<u8> {
         1 => return noise(random),
         2..=4 => {
             let mut bytes = with_strays(random);
+            let places = Places::all(&bytes);
             if random.once_in(3) {
-                wide(random, &mut bytes);
+                wide(random, &mut bytes, &places);
             }
             return bytes;
         }
@@ -24,18 +29,10 @@ pub fn damaged(random: &mut Random) -> Vec<u8> {
         _ => {}
     }
     let mut bytes = accepted(random);
-    if random.once_in(8) {
-        wide(random, &mut bytes);
-    }
+    let places = Places::all(&bytes);
     let faults = if random.once_in(4) { random.within(2, 5) } else { 1 };
-    for _ in 0..faults {
-        // Length and header come last: the other faults have to find their records.
-        match random.below(8) {
-            0..=1 => links(random, &mut bytes),
-            2..=3 => fields(random, &mut bytes),
-            _ => sense(random, &mut bytes),
-        }
-    }
+    damage(random, &mut bytes, &places, faults);
+    // Length and header come last: the other faults have to find their records.
     match random.below(14) {
         0..=1 => length(random, &mut bytes),
         2..=3 => header(random, &mut bytes),
@@ -44,11 +41,37 @@ pub fn damaged(random: &mut Random) -> Vec<u8> {
     bytes
 }
 
+/// A table with spare functions and faults in their records and bodies alone, and the nodes that main didn't reach
+/// before; by chance it may still be an accepted one.
+pub fn damaged_spare(random: &mut Random) -> (Vec<u8>, BTreeSet<Node>) {
+    let mut bytes = accepted_spare(random);
+    let tree = Tree::read(&bytes).expect("an accepted table");
+    let places = Places::spare(&tree);
+    let faults = if random.once_in(4) { random.within(2, 3) } else { 1 };
+    damage(random, &mut bytes, &places, faults);
+    (bytes, places.nodes.into_iter().collect())
+}
+
+/// Makes so many faults in these places of an accepted table, and now and then a constant that is too wide.
+fn damage(random: &mut Random, bytes: &mut [u8], places: &Places, faults: usize) {
+    if random.once_in(8) {
+        wide(random, bytes, places);
+    }
+    for _ in 0..faults {
+        match random.below(8) {
+            0..=1 => links(random, bytes, places),
+            2..=3 => fields(random, bytes, places),
+            _ => sense(random, bytes, places),
+        }
+    }
+}
+
 /// A table in order but for one function or more that is too narrow for a constant; one without constants stays.
 pub fn too_wide(random: &mut Random) -> Vec<u8> {
     let mut bytes = accepted(random);
+    let places = Places::all(&bytes);
     for _ in 0..random.within(1, 2) {
-        wide(random, &mut bytes);
+        wide(random, &mut bytes, &places);
     }
     bytes
 }
@@ -107,10 +130,10 @@ fn header(random: &mut Random, bytes: &mut [u8]) {
 }
 
 /// Roots, firsts and nexts.
-fn links(random: &mut Random, bytes: &mut [u8]) {
+fn links(random: &mut Random, bytes: &mut [u8], places: &Places) {
     let nodes = Table::new(bytes).node_count();
-    let (node, other) = (any_node(random, bytes), any_node(random, bytes));
-    let (function, sibling) = (any_function(random, bytes), any_function(random, bytes));
+    let (node, other) = (places.node(random), places.node(random));
+    let (function, sibling) = (places.function(random), places.function(random));
     let field = random.pick(&[FIRST, NEXT]);
     let lower = Node(random.within(1, usize::from(node.0)) as u16);
     let far = random.number() as u16;
@@ -124,7 +147,7 @@ fn links(random: &mut Random, bytes: &mut [u8]) {
         3 => {
             // An earlier fault may have left no such root.
             let root = Table::new(bytes).root(function);
-            if Table::new(bytes).has_node(root.0) {
+            if places.nodes.contains(&root) {
                 set(bytes, root, NEXT, &value.to_le_bytes());
             }
         }
@@ -143,9 +166,9 @@ fn links(random: &mut Random, bytes: &mut [u8]) {
 }
 
 /// Counts, widths, kinds, operations and fields that have to be zero.
-fn fields(random: &mut Random, bytes: &mut [u8]) {
-    let node = any_node(random, bytes);
-    let function = any_function(random, bytes);
+fn fields(random: &mut Random, bytes: &mut [u8], places: &Places) {
+    let node = places.node(random);
+    let function = places.function(random);
     let small = random.within(1, 255) as u8;
     match random.below(8) {
         0 => {
@@ -158,7 +181,7 @@ fn fields(random: &mut Random, bytes: &mut [u8]) {
             set(bytes, node, KIND, &[kind]);
         }
         3 => {
-            let node = node_of_kind(random, bytes, PRIMITIVE);
+            let node = places.node_of_kind(random, bytes, PRIMITIVE);
             let operation = random.pick(&[11, 12, 255, small]);
             set(bytes, node, EXTRA, &[operation]);
         }
@@ -172,7 +195,7 @@ fn fields(random: &mut Random, bytes: &mut [u8]) {
             bytes[at] = small;
         }
         _ => {
-            let at = random.within(4, bytes.len() - 1);
+            let at = places.byte(random, bytes);
             bytes[at] ^= 1 << random.below(8);
         }
     }
@@ -180,8 +203,8 @@ fn fields(random: &mut Random, bytes: &mut [u8]) {
 
 /// A constant that its function is too narrow for, at the limit itself or above. Links are in order; a function of all
 /// bits is made narrower, and so now and then is another.
-fn wide(random: &mut Random, bytes: &mut [u8]) {
-    let node = node_of_kind(random, bytes, CONSTANT);
+fn wide(random: &mut Random, bytes: &mut [u8], places: &Places) {
+    let node = places.node_of_kind(random, bytes, CONSTANT);
     let table = Table::new(bytes);
     if table.kind(node) != CONSTANT {
         return;
@@ -200,30 +223,31 @@ fn wide(random: &mut Random, bytes: &mut [u8]) {
 }
 
 /// Faults in a table whose links and fields are in order.
-fn sense(random: &mut Random, bytes: &mut [u8]) {
-    match random.below(8) {
-        0..=2 => callee(random, bytes),
+fn sense(random: &mut Random, bytes: &mut [u8], places: &Places) {
+    match random.below(9) {
+        0..=2 => callee(random, bytes, places),
         3 => {
-            let node = node_of_kind(random, bytes, PRIMITIVE);
+            let node = places.node_of_kind(random, bytes, PRIMITIVE);
             let operation = random.below(11) as u8;
             set(bytes, node, EXTRA, &[operation]);
         }
-        4 => another_kind(random, bytes),
+        4 => another_kind(random, bytes, places),
         5 => {
-            let function = any_function(random, bytes);
+            let function = places.function(random);
             bytes[count_at(function)] = random.below(9) as u8;
         }
         6 => {
-            let node = node_of_kind(random, bytes, PARAMETER);
+            let node = places.node_of_kind(random, bytes, PARAMETER);
             let index = random.pick(&[0, 1, 2, 3, 7, 8, 9, 255]);
             set(bytes, node, EXTRA, &[index]);
         }
-        _ => bound(random, bytes),
+        7 => own_call(random, bytes, places),
+        _ => bound(random, bytes, places),
     }
 }
 
-fn callee(random: &mut Random, bytes: &mut [u8]) {
-    let node = node_of_kind(random, bytes, CALL);
+fn callee(random: &mut Random, bytes: &mut [u8], places: &Places) {
+    let node = places.node_of_kind(random, bytes, CALL);
     let functions = u32::from(Table::new(bytes).function_count());
     let old = Table::new(bytes).word(node);
     let other = random.within(1, functions as usize) as u32;
@@ -232,9 +256,22 @@ fn callee(random: &mut Random, bytes: &mut [u8]) {
     set(bytes, node, WORD, &new.to_le_bytes());
 }
 
+/// A call of its own function in the place of a node with as many children; in tail position it is no fault.
+fn own_call(random: &mut Random, bytes: &mut [u8], places: &Places) {
+    let table = Table::new(bytes);
+    let owners = owners(&table);
+    let parameters = |node: Node| owners.get(&node).map(|owner| usize::from(table.parameter_count(*owner)));
+    let fits = |node: Node| parameters(node) == Some(table.children(node).len());
+    if let Some(node) = places.fitting_node(random, fits) {
+        let own = u32::from(owners[&node].0);
+        set(bytes, node, KIND, &[CALL, 0]);
+        set(bytes, node, WORD, &own.to_le_bytes());
+    }
+}
+
 /// Another kind with fields that fit it, so that the number of children or the scope is what is wrong.
-fn another_kind(random: &mut Random, bytes: &mut [u8]) {
-    let node = any_node(random, bytes);
+fn another_kind(random: &mut Random, bytes: &mut [u8], places: &Places) {
+    let node = places.node(random);
     let table = Table::new(bytes);
     let (functions, nodes) = (table.function_count(), table.node_count());
     let leaf = table.first(node).0 == 0;
@@ -258,64 +295,14 @@ fn another_kind(random: &mut Random, bytes: &mut [u8]) {
     set(bytes, node, WORD, &(word as u32).to_le_bytes());
 }
 
-fn bound(random: &mut Random, bytes: &mut [u8]) {
-    let node = node_of_kind(random, bytes, BOUND);
+fn bound(random: &mut Random, bytes: &mut [u8], places: &Places) {
+    let node = places.node_of_kind(random, bytes, BOUND);
     let old = Table::new(bytes).word(node);
     let own = u32::from(node.0);
-    let any = u32::from(any_node(random, bytes).0);
-    let definiens = u32::from(Table::new(bytes).first(node_of_kind(random, bytes, LET)).0);
+    let any = random.within(1, Table::new(bytes).node_count().into()) as u32;
+    let definiens = u32::from(Table::new(bytes).first(places.node_of_kind(random, bytes, LET)).0);
     let high = 1 << random.within(10, 31);
     let new =
         random.pick(&[0, own, old.wrapping_add(1), old.wrapping_sub(1), old | high, any, any, definiens, definiens]);
     set(bytes, node, WORD, &new.to_le_bytes());
-}
-
-fn any_node(random: &mut Random, bytes: &[u8]) -> Node {
-    Node(random.within(1, usize::from(Table::new(bytes).node_count())) as u16)
-}
-
-fn any_function(random: &mut Random, bytes: &[u8]) -> Function {
-    Function(random.within(1, usize::from(Table::new(bytes).function_count())) as u16)
-}
-
-/// A node of this kind, or any where there is none.
-fn node_of_kind(random: &mut Random, bytes: &[u8], kind: u8) -> Node {
-    let table = Table::new(bytes);
-    let fitting: Vec<Node> = table.nodes().filter(|node| table.kind(*node) == kind).collect();
-    match fitting.is_empty() {
-        true => any_node(random, bytes),
-        false => random.pick(&fitting),
-    }
-}
-
-fn count_at(function: Function) -> usize {
-    4 * usize::from(function.0)
-}
-
-fn width_at(function: Function) -> usize {
-    count_at(function) + 1
-}
-
-fn root_at(function: Function) -> usize {
-    count_at(function) + 2
-}
-
-fn node_at(bytes: &[u8], node: Node, field: usize) -> usize {
-    4 + 4 * usize::from(Table::new(bytes).function_count()) + 10 * (usize::from(node.0) - 1) + field
-}
-
-fn set(bytes: &mut [u8], node: Node, field: usize, new: &[u8]) {
-    let at = node_at(bytes, node, field);
-    put(bytes, at, new);
-}
-
-fn put(bytes: &mut [u8], at: usize, new: &[u8]) {
-    bytes[at..at + new.len()].copy_from_slice(new);
-}
-
-/// Swaps two links.
-fn swap(bytes: &mut [u8], one: usize, two: usize) {
-    for i in 0..2 {
-        bytes.swap(one + i, two + i);
-    }
 }

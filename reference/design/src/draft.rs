@@ -74,6 +74,18 @@ impl Draft {
         bytes
     }
 
+    /// Numbers that go function by function, each node before what is below it.
+    pub fn in_order(&self) -> Vec<u16> {
+        let mut numbers = vec![0; self.items.len()];
+        let mut left: Vec<usize> = self.functions.iter().map(|head| head.root).rev().collect();
+        for number in 1..=self.items.len() as u16 {
+            let node = left.pop().expect("every node is below a root");
+            numbers[node] = number;
+            left.extend(self.items[node].children.iter().rev());
+        }
+        numbers
+    }
+
     /// The next sibling of each node.
     pub fn nexts(&self) -> Vec<Option<usize>> {
         let mut nexts = vec![None; self.items.len()];

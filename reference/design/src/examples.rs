@@ -6,7 +6,7 @@ use std::path::PathBuf;
 use crate::difference::ensure;
 
 /// How many tables there have to be at least.
-const FEWEST: usize = 11;
+const FEWEST: usize = 12;
 
 pub fn folder() -> PathBuf {
     PathBuf::from(env!("CARGO_MANIFEST_DIR")).join("../../examples")

@@ -2,7 +2,8 @@
 
 use numbers::{BESIDE, MOST_WIDTH};
 
-use crate::list::arbiter_list;
+use crate::list::{arbiter_list, list_over_all, Calls};
+use crate::reach::reached;
 use crate::table::{narrow, Function, Node};
 use crate::tree::{Kind, Tree};
 
@@ -58,9 +59,8 @@ pub fn features(tree: &Tree) -> Vec<String> {
     note("beside of one", any(&|node| tree.kind(node) == Kind::Primitive(BESIDE) && tree.children(node).len() == 1));
     note("bound", any(&|node| matches!(tree.kind(node), Kind::Bound(_))));
     note("if", any(&|node| tree.kind(node) == Kind::If));
-    let nobody = tree
-        .functions()
-        .any(|function| function != tree.main() && !any(&|node| tree.other_callee(node) == Some(function)));
+    let is_called = |function: Function| any(&|node| tree.other_callee(node) == Some(function));
+    let nobody = tree.functions().any(|function| function != tree.main() && !is_called(function));
     note("function nobody calls", nobody);
     note("deep chain", tree.functions().any(|function| depth(tree, tree.root(function)) > 30));
     note("numbers out of preorder", !in_preorder(tree));
@@ -84,5 +84,34 @@ pub fn features(tree: &Tree) -> Vec<String> {
     let sites = |node: Node| tree.nodes().filter(|other| tree.other_callee(*other) == tree.other_callee(node)).count();
     note("lone site on the list", list.iter().any(|node| sites(*node) == 1));
     note("call off the list beside a list", !list.is_empty() && any(&|node| other_call(node) && !list.contains(&node)));
+    for (name, there) in of_reach(tree, &list) {
+        note(name, there);
+    }
     found
+}
+
+/// What has to do with main's reach.
+fn of_reach(tree: &Tree, list: &Calls) -> [(&'static str, bool); 6] {
+    let reached = reached(tree);
+    let is_spare = |function: Function| !reached.contains(&function);
+    let calls = |caller: Function, callee: Function| {
+        tree.nodes_of(caller).iter().any(|node| tree.other_callee(*node) == Some(callee))
+    };
+    // Whether a function is called from a body that main reaches, and from one that it doesn't.
+    let from_reached = |callee: Function| tree.functions().any(|other| !is_spare(other) && calls(other, callee));
+    let from_spare = |callee: Function| tree.functions().any(|other| is_spare(other) && calls(other, callee));
+    let any = |wanted: &dyn Fn(Function) -> bool| tree.functions().any(wanted);
+    let is_far = |function: Function| function != tree.main() && !calls(tree.main(), function);
+    let over_all = list_over_all(tree);
+    [
+        ("function out of reach", any(&is_spare)),
+        ("list over all bodies differs", over_all != *list),
+        (
+            "reached call in conflict out of reach alone",
+            over_all.difference(list).any(|call| !is_spare(tree.owner(*call))),
+        ),
+        ("out of reach shares a callee with a reached body", any(&|callee| from_reached(callee) && from_spare(callee))),
+        ("called only from out of reach", any(&|callee| from_spare(callee) && !from_reached(callee))),
+        ("reached through two levels", list.iter().any(|call| is_far(tree.owner(*call)))),
+    ]
 }

@@ -2,12 +2,13 @@
 
 use numbers::{MOST_FUNCTIONS, MOST_NODES};
 
-use crate::draft::{Draft, Head};
+use crate::draft::Draft;
 use crate::maker::{Callees, Maker, Stray, Taste};
+use crate::plan::{Plan, Reach};
 use crate::random::Random;
 use crate::widths::widths;
 
-/// An accepted table of any size; small ones are frequent.
+/// An accepted table of any size; small ones are frequent. About a third of them have spare functions.
 pub fn accepted(random: &mut Random) -> Vec<u8> {
     let nodes = size(random);
     accepted_of(random, nodes)
@@ -15,8 +16,8 @@ pub fn accepted(random: &mut Random) -> Vec<u8> {
 
 /// An accepted table of just this many nodes.
 pub fn accepted_of(random: &mut Random, nodes: usize) -> Vec<u8> {
-    let taste = taste(random);
-    table(random, nodes, taste)
+    let (taste, reach) = (taste(random), reach(random));
+    table(random, nodes, taste, reach)
 }
 
 /// An accepted table with many calls of few functions, so that arms mostly share some.
@@ -27,18 +28,28 @@ pub fn accepted_sharing(random: &mut Random) -> Vec<u8> {
 
 /// The same of just this many nodes.
 pub fn accepted_sharing_of(random: &mut Random, nodes: usize) -> Vec<u8> {
-    let calls = random.within(6, 12);
-    let callees = random.pick(&[Callees::Lowest, Callees::Nearest, Callees::Any]);
-    let taste = Taste { calls, callees, ..taste(random) };
-    table(random, nodes, taste)
+    let (taste, reach) = (sharing(random), reach(random));
+    table(random, nodes, taste, reach)
+}
+
+/// An accepted table with spare functions, in half of the cases with many calls of few functions.
+pub fn accepted_spare(random: &mut Random) -> Vec<u8> {
+    let nodes = size(random).max(2);
+    accepted_spare_of(random, nodes)
+}
+
+/// The same of just this many nodes, two or more.
+pub fn accepted_spare_of(random: &mut Random, nodes: usize) -> Vec<u8> {
+    let taste = random.pick(&[taste, sharing])(random);
+    table(random, nodes, taste, Reach::NotAll)
 }
 
 /// A table with one kind of rule kept loosely, for refusals 7 to 9; it may by chance be an accepted one.
 pub fn with_strays(random: &mut Random) -> Vec<u8> {
     let nodes = size(random);
     let stray = random.pick(&[Stray::SelfCalls, Stray::Counts, Stray::Scope]);
-    let taste = Taste { stray, ..taste(random) };
-    table(random, nodes, taste)
+    let (taste, reach) = (Taste { stray, ..taste(random) }, reach(random));
+    table(random, nodes, taste, reach)
 }
 
 fn size(random: &mut Random) -> usize {
@@ -47,6 +58,13 @@ fn size(random: &mut Random) -> usize {
         12..=17 => random.within(20, 160),
         18 => random.within(100, MOST_NODES),
         _ => random.within(MOST_NODES - 3, MOST_NODES),
+    }
+}
+
+fn reach(random: &mut Random) -> Reach {
+    match random.once_in(3) {
+        true => Reach::NotAll,
+        false => Reach::All,
     }
 }
 
@@ -62,32 +80,43 @@ fn taste(random: &mut Random) -> Taste {
     }
 }
 
-fn table(random: &mut Random, nodes: usize, taste: Taste) -> Vec<u8> {
+fn sharing(random: &mut Random) -> Taste {
+    let calls = random.within(6, 12);
+    let callees = random.pick(&[Callees::Lowest, Callees::Nearest, Callees::Any]);
+    Taste { calls, callees, ..taste(random) }
+}
+
+fn table(random: &mut Random, nodes: usize, taste: Taste, reach: Reach) -> Vec<u8> {
     let most = nodes.min(MOST_FUNCTIONS);
+    // One function alone can't be spare.
+    let fewest = if reach == Reach::NotAll { most.min(2) } else { 1 };
     let functions = match random.below(8) {
         0 => most,
-        1 => random.within(1, most),
+        1 => random.within(fewest, most),
         // Bodies of some nodes each: one of a node or two has no arms.
-        _ => random.within(1, most.min(2 + nodes / 6)),
+        _ => random.within(fewest, most.min(2 + nodes / 6)),
     };
     // Where parameters are few, small parts have room for calls, and arms come to share functions.
     let few = random.once_in(2);
     let parameters: Vec<u8> = (0..functions).map(|_| parameter_count(random, few)).collect();
-    let sizes = random.split(nodes, functions, taste.deep);
+    let sizes = match reach {
+        // A small main beside what it doesn't reach, which answers soon.
+        Reach::NotAll if functions > 1 && random.once_in(2) => {
+            let main = random.within(1, 4).min(nodes + 1 - functions);
+            [random.split(nodes - main, functions - 1, taste.deep), vec![main]].concat()
+        }
+        _ => random.split(nodes, functions, taste.deep),
+    };
+    let plan = Plan::new(random, sizes, reach);
     let widths = widths(random, functions);
-    let mut maker = Maker::new(random, taste, &parameters, &widths);
-    for ((size, parameters), width) in sizes.into_iter().zip(&parameters).zip(&widths) {
-        let root = maker.body(size);
-        maker.draft.functions.push(Head { parameters: *parameters, width: *width, root });
-    }
-    let draft = maker.draft;
+    let draft = Maker::new(random, taste, &plan, parameters, &widths).design();
     numbered(random, &draft)
 }
 
-/// The table of a draft, numbered as it was built or in any other order.
+/// The table of a draft, numbered function by function or in any other order.
 pub(crate) fn numbered(random: &mut Random, draft: &Draft) -> Vec<u8> {
     match random.once_in(3) {
-        true => draft.bytes(),
+        true => draft.bytes_with(&draft.in_order()),
         false => shuffled(random, draft),
     }
 }

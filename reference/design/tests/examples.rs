@@ -12,7 +12,7 @@ use design::{check, Node, Refusal, Table, Tree};
 
 const OUT_OF_TAIL: Result<(), Refusal> = Err(Refusal { number: 9, place: Node(2) });
 
-const EXPECTED: [(&str, Result<(), Refusal>, &str); 11] = [
+const EXPECTED: [(&str, Result<(), Refusal>, &str); 12] = [
     ("twice", Ok(()), "design 2 4\ntotal 0\n"),
     ("beside", Ok(()), "design 2 6\narbiter 1 2 3\narbiter 1 2 5\ntotal 2\n"),
     ("main_beside", Ok(()), "design 3 8\narbiter 1 2 2\narbiter 2 3 5\narbiter 2 3 7\ntotal 3\n"),
@@ -24,6 +24,8 @@ const EXPECTED: [(&str, Result<(), Refusal>, &str); 11] = [
     ("no_argument", Ok(()), "design 2 2\ntotal 0\n"),
     ("pages", Ok(()), PAGES),
     ("valve", Ok(()), "design 4 30\ntotal 0\n"),
+    // The calls 3 and 5 are in a body that main doesn't reach.
+    ("spare", Ok(()), "design 3 11\narbiter 1 3 8\narbiter 1 3 10\ntotal 2\n"),
 ];
 
 const PAGES: &str = "\

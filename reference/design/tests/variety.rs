@@ -18,7 +18,7 @@ fn all_that_the_rules_speak_of_occurs() {
         }
     }
     println!("{seen:#?}");
-    assert_eq!(seen.len(), 39);
+    assert_eq!(seen.len(), 45);
     let rare: Vec<_> = seen.iter().filter(|(_, count)| **count < 100).collect();
     assert!(rare.is_empty(), "{rare:?}");
 }

@@ -8,7 +8,7 @@ use numbers::{MOST_FUNCTIONS, MOST_NODES, MOST_WIDTH};
 
 use crate::rules::{rule, whole};
 use crate::scope::{all_see, Order};
-use crate::{beyond, first, half, next, refusal, word, Parts};
+use crate::{beyond, first, half, next, refusal, word, Functions, Parts};
 
 /// 0 for an accepted table, else the refusal's number times 65536 plus its place.
 pub fn check(table: &[u8]) -> u32 {
@@ -17,11 +17,16 @@ pub fn check(table: &[u8]) -> u32 {
 
 /// The same, and what was learnt of an accepted table on the way.
 pub(crate) fn survey(table: &[u8], survey: &mut Survey) -> u32 {
+    survey_calls::<false>(table, survey, &mut [])
+}
+
+/// The same and, where it is asked for, what each body calls, maybe its own function. There is a place for `CALLERS`.
+pub(crate) fn survey_calls<const ASKED: bool>(table: &[u8], survey: &mut Survey, called: &mut [Functions]) -> u32 {
     let parts = match framed(table) {
         Ok(parts) => parts,
         Err(refused) => return refused,
     };
-    match survey.look(&parts) {
+    match survey.look::<ASKED>(&parts, called) {
         Some(false) => 0,
         Some(true) => fault(&parts, survey),
         None => links(&parts),
@@ -89,6 +94,8 @@ pub(crate) struct Above {
 }
 
 const OWNER: u32 = 0x3f;
+/// Functions that these bits tell apart, so that no bound has to be looked at.
+pub(crate) const CALLERS: usize = OWNER as usize + 1;
 /// In tail position anyway, if it comes after this one, and if it is the last sibling.
 const TAIL: u32 = 1 << 6;
 const TAIL_AFTER: u32 = 1 << 7;
@@ -167,9 +174,10 @@ impl Survey {
     /// Whether one of the refusals 5 to 9 or 25 applies, or none where 4 does. A name is a root, a first or a next; they
     /// come before the node that they name, and every node is named once if each is named and the names come to the sum
     /// of all nodes.
-    fn look(&mut self, parts: &Parts) -> Option<bool> {
+    fn look<const ASKED: bool>(&mut self, parts: &Parts, called: &mut [Functions]) -> Option<bool> {
         let nodes = parts.nodes();
         let above = self.above.get_mut(..=nodes)?;
+        let called = if ASKED { called.get_mut(..CALLERS)? } else { called };
         let mut parameters = [0; 256];
         let mut wide = [0; MOST_FUNCTIONS + 1];
         let (mut names, mut bad) = (0, 0);
@@ -207,6 +215,9 @@ impl Survey {
                 place: below.wrapping_sub(arguments * ONE) | u32::from(owner),
                 around: own.around & 0xffff_0000 | node as u32,
             };
+            if ASKED {
+                called[usize::from(owner)] |= Functions::from(kind == CALL) << (word.wrapping_sub(1) % Functions::BITS);
+            }
             // Only in tail position the own function may be called.
             let callees = u32::from(owner) - u32::from(!in_tail);
             bad |= whole & (rule.zero | rule.room & wide[usize::from(owner)])

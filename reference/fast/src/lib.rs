@@ -7,6 +7,7 @@ mod net;
 mod nodes;
 mod packed;
 mod plain;
+mod reach;
 mod rules;
 mod run;
 mod scope;
@@ -32,6 +33,9 @@ use numbers::{ADD, AND, DOUBLE, EQUAL, HALVE, LESS, LOW_BIT, OR, SUBTRACT, XOR};
 pub(crate) const fn refusal(number: u32, place: u32) -> u32 {
     number << 16 | place
 }
+
+/// Functions, f at bit f - 1.
+pub(crate) type Functions = u32;
 
 /// The two parts of a table whose length fits its F and N.
 #[derive(Clone, Copy)]

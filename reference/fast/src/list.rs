@@ -1,17 +1,15 @@
 //! The arbiter list from sets of functions alone, which fit a word: from the leaves up, what each part may call and
 //! what the parts held against each other share; then, from the roots down, which callees have to be listed in each
 //! part. A call is listed if its callee is among those of its own part, or has to be listed wherever its function is
-//! called.
+//! called. Calls in bodies that main doesn't reach are taken for none.
 
 use std::hint::select_unpredictable as select;
 
 use numbers::{CALL, LET, MOST_FUNCTIONS, MOST_NODES, PRIMITIVE};
 
-use crate::check::{survey, Survey};
-use crate::{first, next, Parts};
-
-/// Functions, f at bit f - 1.
-type Functions = u32;
+use crate::check::Survey;
+use crate::reach::{for_each, Reach};
+use crate::{first, next, Functions, Parts};
 
 /// Of a node and the siblings after it, and of the same without the last: what they may call, and what two of them may.
 #[derive(Clone, Copy, Default)]
@@ -32,21 +30,21 @@ struct Want {
 
 /// Fills the tags of the arbiter list; bits past N become 0. Returns what the check returns; a refusal keeps the tags.
 pub fn list(table: &[u8], tags: &mut [u8; 64]) -> u32 {
-    let mut known = Survey::empty();
-    let refused = survey(table, &mut known);
+    let (mut known, mut reach) = (Survey::empty(), Reach::unknown());
+    let refused = reach.survey(table, &mut known);
     if refused != 0 {
         return refused;
     }
-    let listed = listed(&Parts::of(table), &known);
+    let listed = listed(&Parts::of(table), &known, &reach);
     for (bytes, word) in tags.chunks_exact_mut(8).zip(listed) {
         bytes.copy_from_slice(&word.to_le_bytes());
     }
     0
 }
 
-fn listed(parts: &Parts, known: &Survey) -> [u64; MOST_NODES / 64] {
-    let calls = Calls::of(parts, known);
-    let bodies = calls.bodies();
+fn listed(parts: &Parts, known: &Survey, reach: &Reach) -> [u64; MOST_NODES / 64] {
+    let calls = Calls::of(parts, known, reach.reached);
+    let bodies = bodies(reach);
     let mut rows = [Row::default(); MOST_NODES + 1];
     for (record, node) in parts.records.iter().zip(1..MOST_NODES + 1).rev() {
         let after = rows[next(record)];
@@ -72,7 +70,7 @@ fn listed(parts: &Parts, known: &Survey) -> [u64; MOST_NODES / 64] {
         wants[node].sure = sure;
         needs[usize::from(calls.callees[node])] |= sure;
     }
-    calls.hand_on(&mut needs);
+    hand_on(reach, &mut needs);
     let mut listed = [0; MOST_NODES / 64];
     for node in &calls.nodes[..calls.count] {
         let node = usize::from(*node);
@@ -83,56 +81,44 @@ fn listed(parts: &Parts, known: &Survey) -> [u64; MOST_NODES / 64] {
     listed
 }
 
-/// The calls that are no self calls.
+/// The calls in bodies that main reaches, but for self calls.
 struct Calls {
     nodes: [u16; MOST_NODES],
     count: usize,
     /// By node, 0 for none.
     callees: [u8; MOST_NODES + 1],
-    /// What a function's body calls itself.
-    direct: [Functions; MOST_FUNCTIONS + 1],
 }
 
 impl Calls {
-    fn of(parts: &Parts, known: &Survey) -> Calls {
-        let mut direct = [0; MOST_FUNCTIONS + 1];
+    fn of(parts: &Parts, known: &Survey, reached: Functions) -> Calls {
         let (mut nodes, mut count) = ([0; MOST_NODES], 0);
         let mut callees = [0; MOST_NODES + 1];
         for (record, node) in parts.records.iter().zip(1..MOST_NODES + 1) {
             let owner = known.above[node].owner();
-            let is_other = (record[0] == CALL) & (record[2] != owner);
-            let callee = select(is_other, record[2], 0);
-            callees[node] = callee;
+            let is_reached = u64::from(reached) << 1 >> owner & 1 == 1;
+            let is_other = (record[0] == CALL) & (record[2] != owner) & is_reached;
+            callees[node] = select(is_other, record[2], 0);
             nodes[count % MOST_NODES] = node as u16;
             count += usize::from(is_other);
-            // The bit below the lowest function's falls off.
-            direct[usize::from(owner)] |= (1u64 << callee >> 1) as Functions;
         }
-        Calls { nodes, count, callees, direct }
-    }
-
-    /// Each function and what its body may call, bodies of callees included; none for 0.
-    fn bodies(&self) -> [Functions; MOST_FUNCTIONS + 1] {
-        let mut bodies = [0; MOST_FUNCTIONS + 1];
-        // A callee comes before its callers.
-        for function in 1..=MOST_FUNCTIONS {
-            bodies[function] = 1 << (function - 1);
-            for_each(self.direct[function], |callee| bodies[function] |= bodies[callee]);
-        }
-        bodies
-    }
-
-    /// What has to be listed in a function has to be in those it calls.
-    fn hand_on(&self, needs: &mut [Functions; MOST_FUNCTIONS + 1]) {
-        for function in (1..=MOST_FUNCTIONS).rev() {
-            for_each(self.direct[function], |callee| needs[callee] |= needs[function]);
-        }
+        Calls { nodes, count, callees }
     }
 }
 
-fn for_each(mut functions: Functions, mut each: impl FnMut(usize)) {
-    while functions != 0 {
-        each(functions.trailing_zeros() as usize + 1);
-        functions &= functions - 1;
+/// Each reached function and what its body may call, bodies of callees included; none for 0.
+fn bodies(reach: &Reach) -> [Functions; MOST_FUNCTIONS + 1] {
+    let mut bodies = [0; MOST_FUNCTIONS + 1];
+    // A callee comes before its callers.
+    for_each(reach.reached, |function| {
+        bodies[function] = 1 << (function - 1);
+        for_each(reach.called[function], |callee| bodies[function] |= bodies[callee]);
+    });
+    bodies
+}
+
+/// What has to be listed in a function has to be in those it calls.
+fn hand_on(reach: &Reach, needs: &mut [Functions; MOST_FUNCTIONS + 1]) {
+    for function in (1..=MOST_FUNCTIONS).rev() {
+        for_each(reach.called[function], |callee| needs[callee] |= needs[function]);
     }
 }

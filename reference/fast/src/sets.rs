@@ -1,19 +1,17 @@
-//! The arbiter list as one writes it at first: sets of calls as bits, each body walked once, and the sets of parts that
-//! run side by side held against each other where they meet.
+//! The arbiter list as one writes it at first: sets of calls as bits, each body that main reaches walked once, and the
+//! sets of parts that run side by side held against each other where they meet.
 
 use numbers::{BOUND, CALL, CONSTANT, IF, LET, PARAMETER, PRIMITIVE};
 use numbers::{MOST_FUNCTIONS, MOST_NODES};
 
-use crate::check::{survey, Survey};
-use crate::{first, next, Parts};
+use crate::check::Survey;
+use crate::reach::{for_each, Reach};
+use crate::{first, next, Functions, Parts};
 
 const WORDS: usize = MOST_NODES / 64;
 
 /// Call nodes, node n at bit n - 1.
 type Calls = [u64; WORDS];
-
-/// Functions, f at bit f - 1.
-type Functions = u32;
 
 const NO_CALLS: Calls = [0; WORDS];
 
@@ -30,12 +28,13 @@ static FULL_AT: [Calls; WORDS] = {
 
 /// The same answer and the same tags as `list`.
 pub fn list_by_sets(table: &[u8], tags: &mut [u8; 64]) -> u32 {
-    let refused = survey(table, &mut Survey::empty());
+    let mut reach = Reach::unknown();
+    let refused = reach.survey(table, &mut Survey::empty());
     if refused != 0 {
         return refused;
     }
     let mut walk = Walk::new(Parts::of(table));
-    walk.all_bodies();
+    walk.reached(reach.reached);
     for (bytes, word) in tags.chunks_exact_mut(8).zip(walk.listed) {
         bytes.copy_from_slice(&word.to_le_bytes());
     }
@@ -66,15 +65,15 @@ impl<'a> Walk<'a> {
         }
     }
 
-    /// Walks them in place: a walk returned from here would be copied.
-    pub fn all_bodies(&mut self) {
+    /// Walks all that main reaches in place: a walk returned from here would be copied.
+    pub fn reached(&mut self, reached: Functions) {
         // A callee comes before its callers.
-        for function in 1..=self.parts.functions() {
+        for_each(reached, |function| {
             self.function = function;
             let mut calls = NO_CALLS;
             self.callees[function] = self.node(self.parts.root(function), &mut calls);
             self.bodies[function] = calls;
-        }
+        });
     }
 
     /// Adds the calls that may happen at or below a node; returns their callees. What comes last in a node is walked in

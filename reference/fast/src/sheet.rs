@@ -3,7 +3,8 @@
 
 use numbers::{LINE_CHARACTERS, MOST_NODES, PAGE_LINES, SHEET_BYTES};
 
-use crate::check::{survey, Survey};
+use crate::check::Survey;
+use crate::reach::Reach;
 use crate::sets::Walk;
 use crate::Parts;
 
@@ -41,14 +42,14 @@ static NUMBERS: [[u8; 4]; MOST_NODES + 1] = {
 /// Fills the text with the sheet from the front. Returns 2^32 plus the bytes that took; or 2 * 2^32 plus what the check
 /// returns, the text as it was.
 pub fn sheet(table: &[u8], text: &mut [u8; SHEET_BYTES]) -> u64 {
-    let mut known = Survey::empty();
-    let refused = survey(table, &mut known);
+    let (mut known, mut reach) = (Survey::empty(), Reach::unknown());
+    let refused = reach.survey(table, &mut known);
     if refused != 0 {
         return 2 << 32 | u64::from(refused);
     }
     let parts = Parts::of(table);
     let mut walk = Walk::new(parts);
-    walk.all_bodies();
+    walk.reached(reach.reached);
     let mut pages = Pages { lines: text.as_chunks_mut().0, at: 0, end: 0 };
     pages.turn();
     // Nobody else calls main.

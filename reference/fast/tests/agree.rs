@@ -7,13 +7,14 @@ use design::circuit::{self, Answer};
 use design::damage::{damaged, too_wide};
 use design::difference::{code, shown};
 use design::generator::{accepted, accepted_of, accepted_sharing};
-use design::list::tags_of;
+use design::list::{differs_over_all, tag_bytes, tags_of};
 use design::operation_cases::{large, small, WORDS};
 use design::random::Random;
+use design::reach_cases;
 use design::states::{any_state, damage_state, damaged_tags, tags};
 use design::towers::{any_comb, any_deep, any_tower};
 use design::width_cases::standings;
-use design::{check, operation_counts, Tree};
+use design::{check, operation_counts, Node, Tree};
 use fast::State;
 use states::to_fast;
 
@@ -98,10 +99,20 @@ fn checks_of_far_scopes_agree() {
     assert!((20..380).contains(&refused), "{refused}");
 }
 
+/// Both lists have to come to these tags, and clear all bits after them.
+fn lists_say(bytes: &[u8], wanted: &[u8]) {
+    for list in LISTS {
+        let mut found = [0xff; 64];
+        assert_eq!(list(bytes, &mut found), 0);
+        assert_eq!(found[..wanted.len()], *wanted, "{}", shown(bytes));
+        assert!(found[wanted.len()..].iter().all(|byte| *byte == 0));
+    }
+}
+
 #[test]
 fn the_lists_agree() {
     let mut random = Random::new(12);
-    let mut listed = 0;
+    let (mut listed, mut spare) = (0, 0);
     for round in 0..6000 {
         let bytes = match round % 100 {
             0 => any_tower(&mut random),
@@ -112,18 +123,23 @@ fn the_lists_agree() {
         };
         let wanted = tags_of(&bytes).expect("an accepted table");
         checks_say(&bytes, 0);
-        for list in LISTS {
-            let mut found = [0xff; 64];
-            assert_eq!(list(&bytes, &mut found), 0);
-            assert_eq!(found[..wanted.len()], wanted, "{}", shown(&bytes));
-            assert!(found[wanted.len()..].iter().all(|byte| *byte == 0));
-        }
+        lists_say(&bytes, &wanted);
         listed += usize::from(wanted.iter().any(|byte| *byte != 0));
         let tree = Tree::read(&bytes).expect("an accepted table");
+        spare += usize::from(differs_over_all(&tree));
         let tags = damaged_tags(&mut random, &tree);
         assert_eq!(fast::check_tags(&bytes, &tags), code(design::list::check_tags(&tree, &tags)));
     }
-    assert!(listed > 2500, "{listed}");
+    assert!(listed > 2500 && spare > 600, "{listed} with a list, {spare} with another over all bodies");
+}
+
+#[test]
+fn named_reaches_agree() {
+    for case in reach_cases::CASES {
+        let bytes = case.bytes();
+        let tree = Tree::read(&bytes).expect(case.text);
+        lists_say(&bytes, &tag_bytes(&tree, &case.list.iter().copied().map(Node).collect()));
+    }
 }
 
 /// The two lists against each other, which is quick enough for many tables.

@@ -96,11 +96,11 @@ fn some_table(random: &mut Random) -> Vec<u8> {
         2 => any_comb(random),
         3..=4 => accepted(random),
         5..=6 => accepted_sharing(random),
-        7 => {
+        7..=8 => {
             let nodes = random.within(65, 512);
             accepted_sharing_of(random, nodes)
         }
-        8..=13 => accepted_of(random, nodes),
+        9..=13 => accepted_of(random, nodes),
         _ => accepted_sharing_of(random, nodes.max(12)),
     }
 }
