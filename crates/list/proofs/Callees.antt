@@ -78,14 +78,15 @@ module _ (t : List ℕ) (F N : ℕ) (check : checkOf t ≡ accepted F N) where
   abbrev lay : Laid (functions t) (nodes t) (bodyOf t) (exprAt t) (owner t)
   lay = laid t F N check
 
-  -- calls are nodes of the table, and what main reaches are its functions
+  -- calls are nodes of the table ..
   pub calls-there : (f : ℕ) → Range (functions t) f → Calling (Range (nodes t)) (bodyOf t f)
   calls-there f o c g i = let r = lay .inside f c o (call-node c g (bodyOf t f) i) in (r .1, r .2)
 
-  -- and of a function below the body's own
+  -- .. and of a function below the body's own
   pub call-below : (f c g : ℕ) → Range (functions t) f → CallIn c g (bodyOf t f) → (calleeOf t c ≡ g) × (1 ≤ g) × (g < f)
   call-below f c g o i = let b = lay .well .below f c g o i in (callee-word t c ∙ ap callee (call-here lay f c g o i .1), b .0, b .1)
 
+  -- what main reaches are functions of the table
   pub reached-in : (f : ℕ) → Reached (functions t) (bodyOf t) f → Range (functions t) f
   reached-in = reached-there (functions t) (bodyOf t) (lay .some-function) (lay .well)
 

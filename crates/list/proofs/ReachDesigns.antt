@@ -1,4 +1,5 @@
--- the arbiter lists of designs with functions that main doesn't reach, as tag bytes; their tables are accepted
+-- the arbiter lists of eight designs that tell apart what main reaches, as tag bytes; their tables are accepted, and refused with a fault
+-- out of reach
 use mathlib.Core.Path.{_≡_, refl}
 use Prim.Native.Nat.{ℕ}
 use mathlib.Core.List.{List, [], _∷_}

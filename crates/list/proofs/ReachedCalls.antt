@@ -24,7 +24,7 @@ module _ (F : ℕ) (body at : ℕ → Expr) (there : (f : ℕ) → Reached F bod
   abbrev Called : ℕ → Type 0
   Called f = (f ≡ F) ⊎ ((c : ℕ) × sets body at F F c × (callee-at at c ≡ f))
 
-  -- all calls in C of main's body are of such functions
+  -- every call in C of main's body is of a function that main reaches
   in-set : (m : ℕ) → sets body at F F m → Reached F body (callee-at at m)
   in-set = sets-reached (λ m. Reached F body (callee-at at m)) F body at
       (λ f r c g i. subst (Reached F body) (sym (callees f c g (there f r) i)) (called f c g r i)) F (omega arith) F main

@@ -1,4 +1,4 @@
--- the tag bytes of the arbiter list mark exactly the list, hold it, and are taken
+-- the tag bytes of the arbiter list mark exactly the list, hold it, and are taken; 10 takes tags in order and no others
 use Prim.Native.Nat.{ℕ, zero, suc, _+_, _-_, _*_, _/_, _%_, _^_, _≤_, _<_}
 use mathlib.Core.Bool.{Bool, true, false, _&&_, _||_, not, true≢false}
 use mathlib.Core.Path.{_≡_, refl, subst, sym, ap, _∙_}

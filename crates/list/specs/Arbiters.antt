@@ -1,4 +1,4 @@
--- the arbiter list decided (Sharp and Mycroft, section 4.2): C, PC and A as tests of node numbers
+-- the arbiter list decided (Sharp and Mycroft, section 4.2): C, PC and A as tests of node numbers, what main reaches as one of functions
 use Prim.Native.Nat.{ℕ, zero, suc}
 use mathlib.Core.Bool.{Bool, false, _&&_, _||_}
 use lib.Dec.{eqb}

@@ -1,4 +1,5 @@
--- small designs with functions that main doesn't reach, as tables (document 02, Q-5); nodes are numbered in the order written
+-- eight small designs that tell wrong readings of what main reaches apart (document 02, Q-5), as tables; nodes are numbered in the order
+-- written
 use Prim.Native.Nat.{ℕ}
 use mathlib.Core.List.{List, _++_}
 use Rattle.table.specs.Designs.{header, function, node}

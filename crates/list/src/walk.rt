@@ -1,5 +1,5 @@
 // The walk over expressions: C of section 4.2 as packed sets, and PC wherever expressions are evaluated side by side.
-// Node walk and chain walk call each other, into the bodies of callees too; each body is walked once, and what it came to is kept.
+// Node walk and chain walk call each other, into the bodies of callees too; each body is walked at most once, and what it came to is kept.
 // What is called last gets the functions met so far, `mask`, and the table behind a thin reference: so LLVM makes a loop of such calls.
 use crate::bits;
 use crate::bits::Rows;

@@ -1,4 +1,4 @@
--- a function under way is one that main reaches: the call that occupies it stands in the body of such a function, up to main's
+-- an active function is one that main reaches: the call that occupies it stands in the body of such a function, up to main's
 use Prim.Native.Nat.{ℕ, zero, suc, _+_, _≤_}
 use mathlib.Core.Path.{refl, subst, sym}
 use mathlib.Core.Logic.{inl, inr}

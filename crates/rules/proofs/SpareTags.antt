@@ -168,7 +168,7 @@ module _ (t tags args : List ℕ) (s : State512) (e : startOf t tags args ≡ st
     alike = λ tags tags′ a. same-asked tags tags′ a asked;
   }
 
--- the start looks at the check's verdict alone
+-- of the tags a start sees the check's verdict alone
 pub spare-tags : (t tags tags′ args : List ℕ) (F N : ℕ) → checkOf t ≡ accepted F N → AlikeInReach t tags tags′ → SpareTags t tags tags′ args
 unfolding startOf checkStart
 spare-tags t tags tags′ args F N e a = record {

@@ -78,7 +78,7 @@ pub spare-bodies : (t tags args : List ℕ) (s : State512) → startOf t tags ar
     → SpareBodies t s asked
 spare-bodies = SpareTags.spare-bodies
 
--- .. nor do they change the start
+-- .. nor do they change the start, or whether tags hold the list
 pub spare-tags : (t tags tags′ args : List ℕ) (F N : ℕ) → checkOf t ≡ accepted F N → AlikeInReach t tags tags′ → SpareTags t tags tags′ args
 spare-tags = SpareTags.spare-tags
 

@@ -1,4 +1,4 @@
--- what main reaches is the least that holds main and what is called in its bodies; it is all functions of the table
+-- what main reaches is the least that holds main and what its members' bodies call; each is a function of the table
 use Prim.Native.Nat.{ℕ, _≤_}
 use native.Mathlib.Omega.{arith}
 use Rattle.table.specs.Syntax.{Expr}

@@ -34,7 +34,7 @@ fn all_refuse(bytes: &[u8], refusal: u32) -> Outcome {
     ensure(as_wanted, || format!("{found:x?}, {told_apart:x?}, wanted {}: {}", told(refusal), shown(bytes)))
 }
 
-/// Each refusal that names a node names one that main doesn't reach, and 4 and 5 come for spare function records too.
+/// Each refusal that can name a node names one that main doesn't reach often enough, and 4 and 5 come for spare records.
 #[test]
 fn faults_out_of_reach() -> Outcome {
     let mut random = Random::new(121);
