@@ -75,6 +75,13 @@ module _ {F : ℕ} {body : ℕ → Expr} (s : View) (sound : Sound F body s) (r 
               still-busy s (s .occupant f) (o .4 .0) (body (o .0)) (sound .rest (o .0) (o .1) (⊎-elim e (λ y. y z₀)))
               (call-node (s .occupant f) f (body (o .0)) (o .3))
 
+  pub all-still : (f : ℕ) → Fn F body f → Every (Still s) (body f)
+  all-still f q = go (ℕ-discrete f F)
+    where
+      go : Dec (f ≡ F) → Every (Still s) (body f)
+      go (yes e) = subst (λ g. Every (Still s) (body g)) (sym e) (main-done .1)
+      go (no e) = sound .rest f q (⊎-elim e (λ z. z (asleep (suc F) f (omega arith) q e)))
+
 module _ {units : Arithmetic} {F : ℕ} {body : ℕ → Expr} (well : Well F body) where
   pub step-sound : (s s′ : View) → Sound F body s → Step units F body s s′ → Sound F body s′
   step-sound s s′ d (inner h r u st) = inner-sound (inner-acts well d r st) st

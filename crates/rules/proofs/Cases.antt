@@ -86,11 +86,11 @@ unfolding list-open check-open tagged nonePast tagFits tagsRefusal after checkWi
 circuit-open = tt
 
 -- the arbiter lists as tag bytes: empty; {3, 5}; {2, 5, 7}; empty
-twice-list : tagsOf twice ≡ 0b0000_0000 ∷ []
+pub twice-list : tagsOf twice ≡ 0b0000_0000 ∷ []
 unfolding list-open
 twice-list = refl
 
-pair-list : tagsOf pair ≡ 0b0001_0100 ∷ []
+pub pair-list : tagsOf pair ≡ 0b0001_0100 ∷ []
 unfolding list-open
 pair-list = refl
 
@@ -98,7 +98,7 @@ layered-list : tagsOf layered ≡ 0b0101_0010 ∷ []
 unfolding list-open
 layered-list = refl
 
-fir-list : tagsOf fir ≡ 0 ∷ 0 ∷ 0 ∷ 0 ∷ 0 ∷ []
+pub fir-list : tagsOf fir ≡ 0 ∷ 0 ∷ 0 ∷ 0 ∷ 0 ∷ []
 unfolding list-open
 fir-list = refl
 

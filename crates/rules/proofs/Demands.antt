@@ -97,7 +97,7 @@ module _ (t : List ℕ) (F N : ℕ) (check : checkOf t ≡ accepted F N) where
   step-same tags F N e s n = ap (λ c. stepAfter c s (circuitOf t tags s n)) e
 
   -- a step that isn't refused is the circuit's
-  possible-same : (tags : List ℕ) (s : State512) (n : ℕ) → Possible t tags s n
+  pub possible-same : (tags : List ℕ) (s : State512) (n : ℕ) → Possible t tags s n
       → IsTaken (circuitStep (arithmetic t) (functions t) (nodes t) (bodyOf t) (exprAt t) (owner t) (tagged tags) s n .answer)
   unfolding stepOf stepAfter circuitOf
   possible-same tags s n = go (checkWith t tags)
@@ -106,6 +106,20 @@ module _ (t : List ℕ) (F N : ℕ) (check : checkOf t ≡ accepted F N) where
           → IsTaken (circuitStep (arithmetic t) (functions t) (nodes t) (bodyOf t) (exprAt t) (owner t) (tagged tags) s n .answer)
       go (accepted F N) x = x
       go (refused i p) x = absurd x
+
+  -- and its tags are taken
+  pub possible-tags : (tags : List ℕ) (s : State512) (n : ℕ) → Possible t tags s n → (F N : ℕ) × (checkWith t tags ≡ accepted F N)
+  unfolding stepOf stepAfter
+  possible-tags tags s n = go (checkWith t tags) refl
+    where
+      go : (c : Verdict) → checkWith t tags ≡ c → IsTaken (stepAfter c s (circuitOf t tags s n) .answer)
+          → (F N : ℕ) × (checkWith t tags ≡ accepted F N)
+      go (accepted F N) e x = (F, N, e)
+      go (refused i p) e x = absurd x
+
+  -- tags that hold the list are at every call that the circuit's proof lists
+  pub holding-tags : (tags : List ℕ) → Holding t tags → (n : ℕ) → Listed (bodyOf t) (exprAt t) (functions t) n → tagged tags n ≡ true
+  holding-tags tags holds n x = let e = listed-exactly t F N check n .1 x in holds n (listed-call t F N check n e .0) e
 
   -- a sound state is never refused 24
   stands-well : (tags : List ℕ) (F N : ℕ) → checkWith t tags ≡ accepted F N → (s : State512) → Good (functions t) (bodyOf t) s
@@ -184,11 +198,8 @@ module _ (t : List ℕ) (F N : ℕ) (check : checkOf t ≡ accepted F N) where
       -- where the tags hold the list, a step after any list of steps is not refused 23
       silent : Holding t tags → (l : Log) → KeptFrom l → (n p : ℕ) → denied 23 p ≡ stepOf t tags (l .state) n .answer → ⊥
       silent holds l k n p e =
-          kept-silent (arithmetic t) lay (tagged tags) held (view s₀) l k n p
+          kept-silent (arithmetic t) lay (tagged tags) (holding-tags tags holds) (view s₀) l k n p
           (e ∙ ap (λ r. r .answer) (step-same tags F′ N′ taken (l .state) n))
-        where
-          held : (n : ℕ) → Listed (bodyOf t) (exprAt t) (functions t) n → tagged tags n ≡ true
-          held n x = let e = listed-exactly t F N check n .1 x in holds n (listed-call t F N check n e .0) e
 
       plays-silent : Holding t tags → (l : Log) → KeptFrom l → ((p : ℕ) → In (denied 23 p) (l .answers) → ⊥) → (ns : List ℕ)
           → (p : ℕ) → In (denied 23 p) (plays (stepOf t) l (asks tags ns) .answers) → ⊥

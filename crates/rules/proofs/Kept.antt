@@ -204,7 +204,7 @@ module _ (units : Arithmetic) {F N : ℕ} {body at : ℕ → Expr} {home : ℕ �
         (call-phase laid (view (l .state)) c f r e (l .nodes) (k .phased))
 
   -- a call that waits at an occupied resource is listed
-  waits-listed : (s : View) → Sound F body s → (n : ℕ) → Range N n → Waits s (at n) → Listed body at F n
+  pub waits-listed : (s : View) → Sound F body s → (n : ℕ) → Range N n → Waits s (at n) → Listed body at F n
   waits-listed s sound n r w =
       let e : w .0 ≡ n = sym (ap id (w .3)) ∙ laid .number n r in
       let x = waiting-listed F body s (callee-at at) (sets body at F) (laid .well) sound callees bodies

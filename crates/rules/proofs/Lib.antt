@@ -6,6 +6,7 @@ pub mod OperationCases
 pub mod WidthCases
 pub mod FirstCases
 pub mod ReachCases
+pub mod EitherCases
 -- from bytes to the abstract circuit: the demand over tables, the own list, any state, the runs, 32-bit values
 pub mod Demands
 pub mod OwnList
@@ -17,6 +18,7 @@ pub mod EveryState
 pub mod OutOfReach
 pub mod SameSteps
 pub mod SpareTags
+pub mod EitherOrder
 -- widths: reduced operands, the values that a reading meets, and those that a circuit holds
 pub mod Narrow
 pub mod MetFacts
@@ -65,6 +67,14 @@ pub mod Touches
 pub mod Past
 pub mod StatesSame
 pub mod Commute
+-- two hands: a node that has a step, what its move touches, and two of them
+pub mod Ready
+pub mod SelfReady
+pub mod Definiens
+pub mod Mover
+pub mod MoversApart
+pub mod BothWays
+pub mod RivalsWait
 -- lists of steps: each call's three phases, entries minus leavings, the start, what every list keeps
 pub mod Thirds
 pub mod Occupied

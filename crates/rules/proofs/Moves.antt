@@ -155,6 +155,9 @@ module _ (s : View) where
   pub idle-still : (e : Expr) → Every (Idle s) e → Every (Still s) e
   idle-still e h = both (Idle s) (Idle s) (Still s) idle-still-node e h h
 
+  pub idle-still* : (es : Exprs) → Every* (Idle s) es → Every* (Still s) es
+  idle-still* es h = both* (Idle s) (Idle s) (Still s) idle-still-node es h h
+
 -- the shape after a step inside a body
 module _ (s s′ : View) where
   pub opens-live : (e : Expr) → Every (Idle s) e → Opens s s′ e → Live s′ e

@@ -20,7 +20,7 @@ use Rattle.rules.proofs.Places.{still-busy, idle-busy, idle-busy*, done
 
 module _ (n : ℕ) (es : Exprs) where
   mutual
-    no-self : (e : Expr) → NoSelf e → Sub (self n es) e → ⊥
+    pub no-self : (e : Expr) → NoSelf e → Sub (self n es) e → ⊥
     no-self (const m v) h p = let z : _≡_ {A = ℕ} 0 1 = cc in omega arith
     no-self (param m i) h p = let z : _≡_ {A = ℕ} 0 1 = cc in omega arith
     no-self (prim m op xs) h (inl p) = let z : _≡_ {A = ℕ} 0 1 = cc in omega arith
@@ -37,7 +37,7 @@ module _ (n : ℕ) (es : Exprs) where
     no-self (bind m ds b) h (inr (inr p)) = no-self b (h .1) p
     no-self (bound m d) h p = let z : _≡_ {A = ℕ} 0 1 = cc in omega arith
 
-    no-self* : (xs : Exprs) → NoSelf* xs → Sub* (self n es) xs → ⊥
+    pub no-self* : (xs : Exprs) → NoSelf* xs → Sub* (self n es) xs → ⊥
     no-self* none h p = p
     no-self* (some e xs) h (inl p) = no-self e (h .0) p
     no-self* (some e xs) h (inr p) = no-self* xs (h .1) p

@@ -2,11 +2,10 @@
 use Prim.Native.Nat.{ℕ, _<_}
 use mathlib.Core.Bool.{Bool, true, false}
 use mathlib.Core.Path.{_≡_, refl, subst, sym, ap, _∙_}
-use mathlib.Core.Logic.{inl, inr}
 use native.Mathlib.Omega.{arith}
 use lib.Dec.{eqb}
 use Rattle.table.specs.Pick.{pick, Range}
-use Rattle.table.specs.Syntax.{Expr, const, param, prim, call, self, cond, bind, bound, id, Node}
+use Rattle.table.specs.Syntax.{Expr, id}
 use Rattle.table.specs.Well.{Laid}
 use Rattle.table.proofs.SyntaxLaws.{node-id, sub-node}
 use Rattle.table.proofs.CallPlaces.{sub-call}
@@ -16,29 +15,14 @@ use Rattle.rules.specs.Step.{done, act}
 use Rattle.rules.specs.Play.{calls}
 use Rattle.rules.specs.Sets.{sort, entered, Sets, setsIn, Stays}
 use Rattle.rules.proofs.Occupied.{called}
-use Rattle.rules.proofs.LaidFacts.{root-node}
 use Rattle.rules.proofs.Sorts.{busySort, sortBy, sort-is, rank-open, rank-none, entered-not, inside-sort}
-use Rattle.rules.proofs.SortSame.{Child, Steady, sort-same, entered-same}
+use Rattle.rules.proofs.SortSame.{Child, child-inside, Steady, sort-same, entered-same}
 
 -- up names the parent of a node, 0 for a root
 pub record Upward (F N : ℕ) (body at : ℕ → Expr) (home up : ℕ → ℕ) : Type 0 where
   pub child : (m c : ℕ) → Range N m → Child c (at m) → up c ≡ m
   pub root : (f : ℕ) → Range F f → up (id (body f)) ≡ 0
   pub top : (n : ℕ) → Range N n → up n ≡ 0 → id (body (home n)) ≡ n
-
--- a child is a node of the whole
-pub child-inside : (c : ℕ) (u : Expr) → Child c u → Node c u
-child-inside c (const n v) k = absurd k
-child-inside c (param n i) k = absurd k
-child-inside c (prim n op es) k = inr (root-node c es k)
-child-inside c (call n g es) k = inr (root-node c es k)
-child-inside c (self n es) k = inr (root-node c es k)
-child-inside c (cond n x y z) (inl k) = inr (inl (subst (λ m. Node m x) (sym k) (node-id x)))
-child-inside c (cond n x y z) (inr (inl k)) = inr (inr (inl (subst (λ m. Node m y) (sym k) (node-id y))))
-child-inside c (cond n x y z) (inr (inr k)) = inr (inr (inr (subst (λ m. Node m z) (sym k) (node-id z))))
-child-inside c (bind n ds b) (inl k) = inr (inl (root-node c ds k))
-child-inside c (bind n ds b) (inr k) = inr (inr (subst (λ m. Node m b) (sym k) (node-id b)))
-child-inside c (bound n d) k = absurd k
 
 module _ (units : Arithmetic) {F N : ℕ} {body at : ℕ → Expr} {home : ℕ → ℕ} (laid : Laid F N body at home) where
   -- a node's child has its function

@@ -1,7 +1,7 @@
 -- the sets after any move, from any state of the right size
 use Prim.Native.Nat.{ℕ}
 use mathlib.Core.Bool.{true, false, _&&_, true≢false}
-use mathlib.Core.Path.{_≡_, subst, sym, ap, _∙_}
+use mathlib.Core.Path.{_≡_, refl, subst, sym, ap, _∙_}
 use mathlib.Core.List.{List}
 use native.Mathlib.Omega.{arith}
 use native.Mathlib.Decide.{ℕ-discrete}
@@ -19,7 +19,7 @@ use Rattle.rules.proofs.Performed.{Owns, Does, Fair, Enters, Begins}
 use Rattle.rules.proofs.StepFacts.{moved-does}
 use Rattle.rules.proofs.Sorts.{inside-sort}
 use Rattle.rules.proofs.SortSame.{Child, Alike}
-use Rattle.rules.proofs.Tells.{Tells, TellsAct, act-tells}
+use Rattle.rules.proofs.Tells.{EntersTo, Tells, TellsAct, act-tells}
 use Rattle.rules.proofs.SetsSteady.{Upward, armed-as, waiting-as}
 use Rattle.rules.proofs.SetsOpening.{opening}
 use Rattle.rules.proofs.SetsEnding.{ending}
@@ -75,12 +75,14 @@ module _ (units : Arithmetic) {F N : ℕ} {body at : ℕ → Expr} {home up : �
           go c o (yes i) = subst (Alike s s′) (sym i) (ap (λ k. eqb k 3) (d .status), d .value)
           go c o (no i) = let k = d .new .others c i o in (ap (λ k. eqb k 3) (k .0), k .2)
 
-      module _ (fn : Range F g) (here : act units body (home n) s (at n) ≡ does (enters g vs)) (k : Tells s (at n) (enters g vs)) where
+      module _ (fn : Range F g) (here : act units body (home n) s (at n) ≡ does (enters g vs))
+          (k : EntersTo s (at n) g) where
         goes-in : Goes units laid s s′ g fn (λ m. eqb m n) entered-body n
         goes-in =
-            let e = ap (s′ .status) own ∙ d .status ∙ ap (s .status) (sym own) ∙ k .0 in
-            let i = now-inside s′ (at n) g (k .1) e (ap (s′ .second) own ∙ d .second) in
-            let z = inside-sort s′ body (at n) g (k .1) i
+            let c : calls (at n) g ≡ true = ap (λ u. calls u g) (k .is) ∙ eq-eqb g g refl in
+            let e = ap (s′ .status) own ∙ d .status ∙ ap (s .status) (sym own) ∙ ap (λ u. s .status (id u)) (k .is) ∙ k .waits .0 in
+            let i = now-inside s′ (at n) g c e (ap (s′ .second) own ∙ d .second) in
+            let z = inside-sort s′ body (at n) g c i
             ∙ ap (λ b. pick b 2 0) (ne-eqb (s′ .status (id (body g))) 3 (λ q. omega (arith, d .new .root .0, q))) in
             record {
               before = ap (λ a. eqb (sort a) 2) here;
@@ -88,7 +90,7 @@ module _ (units : Arithmetic) {F N : ℕ} {body at : ℕ → Expr} {home up : �
             }
 
     pub placed-by : (a : Move) → act units body (home n) s (at n) ≡ does a → Fair F N home body n a → Does N home body s s′ n a
-        → Tells s (at n) a → Placed N body at home up x y n a
+        → Tells body (home n) s (at n) a → Placed N body at home up x y n a
     placed-by (begins ns) here f d k = opening units laid kin s s′ n r (λ m. In m ns) (k .1) (d .opens)
         (begun ns d (ap (s .status) (sym own) ∙ k .0)) (λ m e o. (d .others m e o, d .seconds m))
     placed-by (turns j) here f d k = opening units laid kin s s′ n r (λ m. m ≡ j) (λ c e. subst (λ i. Child i (at n)) (sym e) k)
@@ -122,7 +124,7 @@ module _ (units : Arithmetic) {F N : ℕ} {body at : ℕ → Expr} {home up : �
       → Updated N body at home up (setsIn units body at home (view s)) (setsIn units body at home (view (perform N home body s n a))) n a
   sets-updated s sized n r a here =
       let w = moved-does units laid s sized n r a here in
-      let k = subst (TellsAct (view s) (at n)) here (act-tells units body (home n) (view s) (at n)) in
+      let k = subst (TellsAct body (home n) (view s) (at n)) here (act-tells units body (home n) (view s) (at n)) in
       record {
         placed = placed-by (view s) (view (perform N home body s n a)) n r a here (w .0) (w .1) k;
         held = λ m q. held-by (view s) (view (perform N home body s n a)) n r a (w .1) m;

@@ -1,17 +1,19 @@
 -- states that agree on few entries give a node the same sort of step, and the same place inside its callee
 use Prim.Native.Nat.{ℕ, zero, suc}
 use mathlib.Core.Bool.{Bool, true, false, _&&_}
-use mathlib.Core.Path.{_≡_, refl, sym, ap, _∙_}
+use mathlib.Core.Path.{_≡_, refl, subst, sym, ap, _∙_}
 use mathlib.Core.Logic.{_⊎_, inl, inr}
 use native.Mathlib.Decide.{ℕ-discrete}
 use lib.Dec.{eqb}
 use borrow.Author.Tests.{eq-eqb}
 use Rattle.table.specs.Pick.{pick}
-use Rattle.table.specs.Syntax.{Expr, Exprs, const, param, prim, call, self, cond, bind, bound, none, some, id, roots}
+use Rattle.table.specs.Syntax.{Expr, Exprs, const, param, prim, call, self, cond, bind, bound, none, some, id, roots, Node}
+use Rattle.table.proofs.SyntaxLaws.{node-id}
 use Rattle.rules.specs.State.{View, In}
 use Rattle.rules.specs.Step.{done, all-done, branch}
 use Rattle.rules.specs.Play.{calls}
 use Rattle.rules.specs.Sets.{entered}
+use Rattle.rules.proofs.LaidFacts.{root-node}
 use Rattle.rules.proofs.Sorts.{rank, busySort, sortBy, rank-busy, rank-none}
 
 -- c is a child of u
@@ -24,6 +26,20 @@ Child c (self n es) = In c (roots es)
 Child c (cond n x y z) = (c ≡ id x) ⊎ (c ≡ id y) ⊎ (c ≡ id z)
 Child c (bind n ds b) = In c (roots ds) ⊎ (c ≡ id b)
 Child c (bound n d) = ⊥
+
+-- a child is a node of the whole
+pub child-inside : (c : ℕ) (u : Expr) → Child c u → Node c u
+child-inside c (const n v) k = absurd k
+child-inside c (param n i) k = absurd k
+child-inside c (prim n op es) k = inr (root-node c es k)
+child-inside c (call n g es) k = inr (root-node c es k)
+child-inside c (self n es) k = inr (root-node c es k)
+child-inside c (cond n x y z) (inl k) = inr (inl (subst (λ m. Node m x) (sym k) (node-id x)))
+child-inside c (cond n x y z) (inr (inl k)) = inr (inr (inl (subst (λ m. Node m y) (sym k) (node-id y))))
+child-inside c (cond n x y z) (inr (inr k)) = inr (inr (inr (subst (λ m. Node m z) (sym k) (node-id z))))
+child-inside c (bind n ds b) (inl k) = inr (inl (root-node c ds k))
+child-inside c (bind n ds b) (inr k) = inr (inr (subst (λ m. Node m b) (sym k) (node-id b)))
+child-inside c (bound n d) k = absurd k
 
 -- done or not as before, with the same value
 abbrev pub Alike : View → View → ℕ → Type 0

@@ -1,7 +1,7 @@
 -- what a step on lists does, from any sound state
 use Prim.Native.Nat.{ℕ, _≤_}
 use mathlib.Core.Bool.{Bool, true, false, true≢false}
-use mathlib.Core.Path.{_≡_, refl, subst, sym, _∙_}
+use mathlib.Core.Path.{_≡_, refl, subst, sym, ap, _∙_}
 use mathlib.Core.Logic.{_⊎_, inl, inr, ⊎-elim}
 use native.Mathlib.Omega.{arith}
 use borrow.Author.Tests.{eqb-true, eq-eqb}
@@ -12,7 +12,8 @@ use Rattle.table.specs.Pick.{pick, Range}
 use Rattle.rules.proofs.Invariant.{Sound}
 use Rattle.rules.proofs.Progress.{Able, progress}
 use Rattle.rules.proofs.Answers.{step-sound}
-use Rattle.rules.specs.Step.{does, Move, done, act, Reply, taken, answered, denied, refusal, Stepped, perform, circuitStep}
+use Rattle.rules.specs.Step.{Act, stuck, blocked, does, Move, done, act, Reply, taken, answered, denied, refusal, Stepped, outcome}
+use Rattle.rules.specs.Step.{perform, circuitStep}
 use Rattle.rules.proofs.Performed.{Does, Acted, Fair, FairAct, perform-does, perform-sized}
 use Rattle.rules.specs.Play.{IsTaken}
 use Rattle.table.specs.Well.{Fn, Laid}
@@ -68,17 +69,20 @@ module _ (units : Arithmetic) {F N : ℕ} {body at : ℕ → Expr} {home : ℕ �
     abbrev Causes : Type 0
     Causes = Cause units F N body at home tags s n
 
-    -- at a node of a sound state only two causes are left: main's root is done, or the node has no move
+    abbrev by-act : Act → Stepped
+    by-act = outcome units F N body at home tags s n
+
+    -- at a node of a sound state main's root is done, or the refusal is what the node's act says
     sound-cause : Range N n → (c : Causes) → ((done (view s) (id (body F)) ≡ true) × (number c ≡ 20) × (place c ≡ n))
-        ⊎ ((done (view s) (id (body F)) ≡ false) × (Moves (act units body (home n) (view s) (at n)) → ⊥))
+        ⊎ ((done (view s) (id (body F)) ≡ false) × (refusal s (number c) (place c) ≡ by-act (act units body (home n) (view s) (at n))))
     sound-cause r (no-node e) = absurd (e r)
     sound-cause r (bad-status q e) =
         absurd (true≢false (sym e ∙ over-none 3 N (s .status) (status-bound laid (view s) (good .sound))))
     sound-cause r (bad-occupant q e) =
         absurd (true≢false (sym e ∙ over-none N F (s .occupant) (occupant-bound laid (view s) (good .sound))))
     sound-cause r (main-done q e) = inl (e, refl, refl)
-    sound-cause r (no-move q e h) = inr (e, λ m. subst Moves h m)
-    sound-cause r (occupied q e h) = inr (e, λ m. subst Moves h m)
+    sound-cause r (no-move q e h) = inr (e, ap by-act (sym h))
+    sound-cause r (occupied q e h) = inr (e, ap by-act (sym h))
 
     -- 22 and 23 only for a call that waits at an occupied resource
     abbrev Held : Reply → Type 0
@@ -104,6 +108,24 @@ module _ (units : Arithmetic) {F N : ℕ} {body at : ℕ → Expr} {home : ℕ �
         (λ r e m h. told-not (done (view (perform N home body s n m)) (id (body F)))
         (view (perform N home body s n m) .value (id (body F))))
 
+    -- while main's root isn't done, a step at a node is what the node's act says ..
+    pub step-outcome : Range N n → (view s .status (id (body F)) ≡ 3 → ⊥)
+        → step tags s n ≡ outcome units F N body at home tags s n (act units body (home n) (view s) (at n))
+    step-outcome r e = step-cases units F N body at home tags s n (λ r. r ≡ by-act (act units body (home n) (view s) (at n)))
+        (λ c. ⊎-elim (λ x. absurd (e (eqb-true (view s .status (id (body F))) 3 (x .0)))) (λ x. x .1) (sound-cause r c))
+        (λ q f m h. ap by-act (sym h))
+
+    -- .. so a node that moves isn't refused
+    pub step-moves : Range N n → (view s .status (id (body F)) ≡ 3 → ⊥) → Moves (act units body (home n) (view s) (at n))
+        → IsTaken (step tags s n .answer)
+    step-moves r e a = subst (λ x. IsTaken (x .answer)) (sym (step-outcome r e)) (go (act units body (home n) (view s) (at n)) a)
+      where
+        go : (x : Act) → Moves x → IsTaken (by-act x .answer)
+        go (does m) k = told-taken (done (view (perform N home body s n m)) (id (body F)))
+            (view (perform N home body s n m) .value (id (body F)))
+        go stuck k = k
+        go blocked k = k
+
     -- main done: 20 at every node
     pub step-over : Range N n → view s .status (id (body F)) ≡ 3 → step tags s n ≡ refusal s 20 n
     step-over r e =
@@ -113,14 +135,6 @@ module _ (units : Arithmetic) {F N : ℕ} {body at : ℕ → Expr} {home : ℕ �
         let q = x .2 in
         (λ i. refusal s (p i) (q i))) (λ x. absurd (true≢false (sym d ∙ x .0))) (sound-cause r c))
         (λ q f m h. absurd (true≢false (sym d ∙ f)))
-
-    -- a node that moves isn't refused
-    pub step-moves : Range N n → (view s .status (id (body F)) ≡ 3 → ⊥) → Moves (act units body (home n) (view s) (at n))
-        → IsTaken (step tags s n .answer)
-    step-moves r e a = step-cases units F N body at home tags s n (λ r. IsTaken (r .answer))
-        (λ c. ⊎-elim (λ x. e (eqb-true (view s .status (id (body F))) 3 (x .0))) (λ x. x .1 a) (sound-cause r c))
-        (λ q f m h. told-taken (done (view (perform N home body s n m)) (id (body F)))
-        (view (perform N home body s n m) .value (id (body F))))
 
     -- a node that is able to in the abstract circuit
     pub step-able : (h : ℕ) → Fn F body h → (u : Expr) → Sub u (body h) → id u ≡ n → Able body (view s) u

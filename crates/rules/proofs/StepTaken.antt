@@ -1,27 +1,29 @@
--- what a node's act tells of it: its move is fair, a node that is able moves, and one that is blocked waits
+-- what a node's act tells of it: its move is fair, the nodes that are able are those that move, and one that is blocked waits
 use Prim.Native.Nat.{ℕ, zero, suc}
 use mathlib.Core.Bool.{Bool, true, false}
-use mathlib.Core.Path.{_≡_, refl, subst, sym}
+use mathlib.Core.Path.{_≡_, refl, subst, sym, ap, _∙_}
 use mathlib.Core.Logic.{inl, inr, ⊎-elim}
+use mathlib.Core.List.{List}
 use native.Mathlib.Omega.{arith}
 use lib.Dec.{eqb}
-use borrow.Author.Tests.{eq-eqb, eqb-false}
+use borrow.Author.Tests.{eq-eqb, ne-eqb, eqb-true, eqb-false}
 use Rattle.table.specs.Syntax.{Expr, Exprs, const, param, prim, call, self, cond, bind, bound, id, Node, Sub}
 use Rattle.rules.specs.State.{View}
 use Rattle.table.specs.Environment.{values}
-use Rattle.rules.proofs.Shape.{Busy}
+use Rattle.rules.proofs.Shape.{Still, Busy, Live, open-moves, busy-moves}
 use Rattle.rules.specs.Reading.{Chosen}
 use Rattle.table.proofs.SyntaxLaws.{node-id, apart-sub, sub-node}
 use Rattle.rules.proofs.Moves.{Finished*}
 use Rattle.table.proofs.CallPlaces.{sub-call}
 use Rattle.table.specs.Pick.{pick, Range}
 use Rattle.rules.proofs.Progress.{Able}
-use Rattle.rules.specs.Step.{Act, stuck, blocked, does, Move, turns, finishes, restarts, done, all-done, branch, by-status, act}
+use Rattle.rules.specs.Step.{Act, stuck, blocked, does, Move, turns, finishes, enters, restarts, done, all-done, branch}
+use Rattle.rules.specs.Step.{by-status, act}
 use Rattle.rules.proofs.Performed.{Owns, FairAct}
 use Rattle.table.specs.Well.{Fn, Laid}
 use Rattle.rules.specs.Arithmetic.{Arithmetic, keepAll}
 use Rattle.rules.proofs.LaidFacts.{length-kept, root-node, all-done-finished, finished-all-done, callee-fn}
-use Rattle.rules.proofs.ActCases.{by-pick, by-state}
+use Rattle.rules.proofs.ActCases.{by-pick, by-state, live-open}
 
 abbrev pub Moves : Act → Type 0
 Moves stuck = ⊥
@@ -50,6 +52,25 @@ module _ (P : Act → Type 0) where
 
   at-busy : (t : ℕ) (o b : Act) → t ≡ 2 → P b → P (by-status t o b)
   at-busy t o b e h = subst (λ c. P (by-status c o b)) (sym e) h
+
+-- a call in its first phase, its arguments done: it enters a free callee, and waits at an occupied one
+module _ (units : Arithmetic) (body : ℕ → Expr) (h : ℕ) (s : View) (n g : ℕ) (es : Exprs) (waits : Busy s n false)
+    (ready : Finished* s es) where
+  abbrev args : List ℕ
+  args = keepAll units g (values (s .value) es)
+
+  by-seat : (x : Act) → pick (eqb (s .occupant g) 0) (does (enters g args)) blocked ≡ x → act units body h s (call n g es) ≡ x
+  by-seat x e = at-busy Is (s .status n) _ _ (waits .0) (pick-false Is (s .second n) _ _ (waits .1)
+      (pick-true Is (all-done s es) _ _ (finished-all-done s es ready) e))
+    where
+      Is : Act → Type 0
+      Is y = y ≡ x
+
+  pub enter-act : s .occupant g ≡ 0 → act units body h s (call n g es) ≡ does (enters g args)
+  enter-act z = by-seat (does (enters g args)) (ap (λ b. pick b (does (enters g args)) blocked) (eq-eqb (s .occupant g) 0 z))
+
+  pub wait-act : (s .occupant g ≡ 0 → ⊥) → act units body h s (call n g es) ≡ blocked
+  wait-act z = by-seat blocked (ap (λ b. pick b (does (enters g args)) blocked) (ne-eqb (s .occupant g) 0 z))
 
 module _ (units : Arithmetic) {F N : ℕ} {body at : ℕ → Expr} {home : ℕ → ℕ} (laid : Laid F N body at home) where
   module _ (s : View) (h : ℕ) (r : Fn F body h) where
@@ -162,6 +183,55 @@ module _ (units : Arithmetic) {F N : ℕ} {body at : ℕ → Expr} {home : ℕ �
         (pick-true Moves (all-done s ds) _ _ (finished-all-done s ds (x .1)) tt))
     able-moves (bind n ds b) (inr (inr x)) = at-busy Moves (s .status n) _ _ (x .0 .0) (pick-true Moves (s .second n) _ _ (x .0 .1)
         (pick-true Moves (done s (id b)) _ _ (eq-eqb (s .status (id b)) 3 (x .1)) tt))
+
+    -- a node that moves is open or busy
+    not-still : (n t : ℕ) (o b : Act) → s .status n ≡ t → Moves (by-status t o b) → Still s n → ⊥
+    not-still n t o b e = by-state (λ x. Moves x → Still s n → ⊥) t o b (λ i m. open-moves s n (e ∙ i))
+        (λ i m. busy-moves s n (e ∙ i)) absurd
+
+    pub moves-moving : (u : Expr) → Moves (act units body h s u) → Still s (id u) → ⊥
+    moves-moving (const n v) = not-still n (s .status n) _ _ refl
+    moves-moving (param n i) = not-still n (s .status n) _ _ refl
+    moves-moving (bound n d) = not-still n (s .status n) _ _ refl
+    moves-moving (prim n op es) = not-still n (s .status n) _ _ refl
+    moves-moving (call n g es) = not-still n (s .status n) _ _ refl
+    moves-moving (self n es) = not-still n (s .status n) _ _ refl
+    moves-moving (cond n a b c) = not-still n (s .status n) _ _ refl
+    moves-moving (bind n ds b) = not-still n (s .status n) _ _ refl
+
+    -- and has a step in the abstract circuit, where its expression is under way
+    moving : (u : Expr) (t : ℕ) (o b : Act) → (t ≡ 1 → Able body s u) → (t ≡ 2 → Moves b → Able body s u) → Moves (by-status t o b)
+        → Able body s u
+    moving u t o b f g = by-state (λ x. Moves x → Able body s u) t o b (λ e k. f e) g absurd
+
+    tested : (u : Expr) (b : Bool) (x : Act) → (b ≡ true → Moves x → Able body s u) → Moves (pick b x stuck) → Able body s u
+    tested u b x f = by-pick (λ y. Moves y → Able body s u) b x stuck f (λ e. absurd)
+
+    pub moves-able : (u : Expr) → Live s u → Moves (act units body h s u) → Able body s u
+    moves-able (const n v) l = moving (const n v) (s .status n) _ _ (live-open s (const n v) l) (λ e. absurd)
+    moves-able (param n i) l = moving (param n i) (s .status n) _ _ (live-open s (param n i) l) (λ e. absurd)
+    moves-able (bound n d) l = moving (bound n d) (s .status n) _ _ (live-open s (bound n d) l) (λ e. absurd)
+    moves-able (prim n op es) l = moving (prim n op es) (s .status n) _ _ (λ o. inl (live-open s (prim n op es) l o))
+        (λ b. tested (prim n op es) (all-done s es) _ (λ e k. inr (b, all-done-finished s es e)))
+    moves-able (self n es) l = moving (self n es) (s .status n) _ _ (λ o. inl (live-open s (self n es) l o))
+        (λ b. tested (self n es) (all-done s es) _ (λ e k. inr (b, all-done-finished s es e)))
+    moves-able (call n g es) l = moving (call n g es) (s .status n) _ _ (λ o. inl (live-open s (call n g es) l o))
+        (λ b. by-pick (λ x. Moves x → Able body s (call n g es)) (s .second n) _ _
+        (λ w. tested (call n g es) (done s (id (body g))) _ (λ e k. inr (inr ((b, w), eqb-true (s .status (id (body g))) 3 e))))
+        (λ w. tested (call n g es) (all-done s es) _ (λ f. by-pick (λ x. Moves x → Able body s (call n g es)) (eqb (s .occupant g) 0) _ _
+        (λ e k. inr (inl ((b, w), all-done-finished s es f, eqb-true (s .occupant g) 0 e))) (λ e. absurd))))
+    moves-able (cond n x y z) l = moving (cond n x y z) (s .status n) _ _ (λ o. inl (live-open s (cond n x y z) l o))
+        (λ b. by-pick (λ k. Moves k → Able body s (cond n x y z)) (s .second n) _ _
+        (λ w. tested (cond n x y z) (done s (id (branch (s .value (id x)) y z))) _ (λ e k. inr (inr ((b, w), over (s .value (id x)) e))))
+        (λ w. tested (cond n x y z) (done s (id x)) _ (λ e k. inr (inl ((b, w), eqb-true (s .status (id x)) 3 e)))))
+      where
+        over : (v : ℕ) → done s (id (branch v y z)) ≡ true → Chosen (s .status (id y) ≡ 3) (s .status (id z) ≡ 3) v
+        over zero e = eqb-true (s .status (id z)) 3 e
+        over (suc v) e = eqb-true (s .status (id y)) 3 e
+    moves-able (bind n ds b) l = moving (bind n ds b) (s .status n) _ _ (λ o. inl (live-open s (bind n ds b) l o))
+        (λ t. by-pick (λ k. Moves k → Able body s (bind n ds b)) (s .second n) _ _
+        (λ w. tested (bind n ds b) (done s (id b)) _ (λ e k. inr (inr ((t, w), eqb-true (s .status (id b)) 3 e))))
+        (λ w. tested (bind n ds b) (all-done s ds) _ (λ e k. inr (inl ((t, w), all-done-finished s ds e)))))
 
     -- a node is blocked only so
     free : (n : ℕ) (u : Expr) (t : ℕ) (o b : Act) → (Blocks o → ⊥) → (Blocks b → ⊥) → Blocks (by-status t o b) → Waits s u

@@ -5,17 +5,19 @@ use Prim.Native.Nat.{ℕ}
 use Rattle.table.specs.Check.{accepted, checkOf}
 use Rattle.rules.specs.State.{State512}
 use Rattle.rules.specs.Play.{Ask}
-use Rattle.rules.specs.Circuit.{started, startOf}
+use Rattle.rules.specs.Circuit.{started, startOf, playsOf}
 use Rattle.rules.specs.Demand.{ThirdDemand, ReadingUnique}
 use Rattle.rules.specs.Companions.{UnderAnyTags, OwnStart, OwnList, ReadingFixed, ReadingWord, FitsFromStart, InAnyState, AfterSteps}
 use Rattle.rules.specs.Companions.{FirstDemand}
 use Rattle.rules.specs.SpareTags.{AlikeInReach, SpareBodies, SpareTags}
+use Rattle.rules.specs.EitherOrder.{WhoGoesFirst, EitherOrderReached}
 use Rattle.rules.specs.First.{FirstSteps}
 use Rattle.rules.specs.Widths.{NarrowFirst, FunctionBelow, ReadingBelow, AnswerBelow, StepNarrow, StatesBelow}
 use Rattle.rules.proofs.Demands as Demands
 use Rattle.rules.proofs.OwnList as OwnLists
 use Rattle.rules.proofs.EveryState as EveryState
 use Rattle.rules.proofs.SpareTags as SpareTags
+use Rattle.rules.proofs.EitherOrder as EitherOrder
 use Rattle.rules.proofs.RunFacts as RunFacts
 use Rattle.rules.proofs.FirstDemand as FirstDemand
 use Rattle.rules.proofs.Fits as FitsProof
@@ -81,6 +83,15 @@ spare-bodies = SpareTags.spare-bodies
 -- .. nor do they change the start, or whether tags hold the list
 pub spare-tags : (t tags tags′ args : List ℕ) (F N : ℕ) → checkOf t ≡ accepted F N → AlikeInReach t tags tags′ → SpareTags t tags tags′ args
 spare-tags = SpareTags.spare-tags
+
+-- two hands, either order (document 02, Q-6): after any steps from a start, which of two nodes may step first, and what rivals meet ..
+pub either-order : (t tags₀ args : List ℕ) (s : State512) → startOf t tags₀ args ≡ started s → (asked : List (Ask (List ℕ))) (tags : List ℕ)
+    → WhoGoesFirst t tags (playsOf t s asked .state)
+either-order = EitherOrder.either-order
+
+-- .. and the request's own sentence
+pub either-order-reached : EitherOrderReached
+either-order-reached = EitherOrder.either-order-reached
 
 pub fits : FitsFromStart
 fits = FitsProof.fits-from-start

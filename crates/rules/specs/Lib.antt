@@ -12,5 +12,6 @@ pub mod Met
 pub mod Demand
 pub mod Companions
 pub mod SpareTags
+pub mod EitherOrder
 pub mod Widths
 pub mod WidthDesigns

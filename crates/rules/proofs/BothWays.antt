@@ -1,0 +1,131 @@
+-- two steps of the circuit on lists, not both entering one resource: either order is taken, and the ends are equal
+use Prim.Native.Nat.{ℕ}
+use mathlib.Core.Bool.{Bool}
+use mathlib.Core.Path.{_≡_, refl, subst, sym, ap, _∙_}
+use mathlib.Core.Logic.{inl, inr, ⊎-elim}
+use borrow.Author.Tests.{ne-eqb}
+use Rattle.table.specs.Syntax.{Expr, id, Node}
+use Rattle.table.specs.Pick.{pick}
+use Rattle.table.specs.Well.{Laid}
+use Rattle.table.proofs.SyntaxLaws.{node-id, every-node}
+use Rattle.rules.specs.Arithmetic.{Arithmetic}
+use Rattle.rules.specs.State.{State512, view}
+use Rattle.rules.specs.Step.{Move, taken, answered, Stepped, outcome, perform}
+use Rattle.rules.specs.Play.{IsTaken}
+use Rattle.rules.proofs.LaidFacts.{fn-main, own-node}
+use Rattle.rules.proofs.Shape.{Still}
+use Rattle.rules.proofs.Frame.{Same}
+use Rattle.rules.proofs.Performed.{Fair, Does}
+use Rattle.rules.proofs.Answers.{all-still}
+use Rattle.rules.proofs.StepFacts.{Good, step, moved-does, moved-good, step-outcome}
+use Rattle.rules.proofs.Phases.{taken-move}
+use Rattle.rules.proofs.Touches.{Writes, writes?, keeps-node}
+use Rattle.rules.proofs.Commute.{outside, moves-commute}
+use Rattle.rules.proofs.Mover.{Mover, mover, number, moving, awake}
+use Rattle.rules.proofs.MoversApart.{Movers, swap, expression-kept, Calm, calm-swap, still-moves, writes-apart, alters-apart}
+
+-- a step that is taken, and no answer
+abbrev pub went : State512 → Stepped
+went s = record { answer = taken; state = s }
+
+-- main's root isn't done
+abbrev Unfinished : ℕ → (ℕ → Expr) → State512 → Type 0
+Unfinished F body s = view s .status (id (body F)) ≡ 3 → ⊥
+
+-- both orders: the state after a, after b, and after both
+pub record BothWays (units : Arithmetic) {F N : ℕ} {body at : ℕ → Expr} {home : ℕ → ℕ} (laid : Laid F N body at home) (tags : ℕ → Bool)
+    (s : State512) (a b : ℕ) : Type 0 where
+  pub after-a : State512
+  pub after-b : State512
+  pub after-both : State512
+  pub a-first : step units laid tags s a ≡ went after-a
+  pub b-second : step units laid tags after-a b ≡ went after-both
+  pub b-first : step units laid tags s b ≡ went after-b
+  pub a-second : step units laid tags after-b a ≡ went after-both
+
+module _ {units : Arithmetic} {F N : ℕ} {body at : ℕ → Expr} {home : ℕ → ℕ} {laid : Laid F N body at home} where
+  -- main's root isn't done while a node has a move
+  unfinished : (s : State512) → Good F body s → {n : ℕ} {x : Move} → Mover units laid (view s) n x → Unfinished F body s
+  unfinished s good {n} p e = awake p (home n) (all-still (view s) (good .sound) (fn-main laid) e (home n) (p .acting .fn)) refl
+
+  -- a move after which it isn't done either is taken, and is all that changes
+  pub moved : (tags : ℕ → Bool) (s : State512) → Good F body s → {n : ℕ} {x : Move} → Mover units laid (view s) n x
+      → Unfinished F body (perform N home body s n x) → step units laid tags s n ≡ went (perform N home body s n x)
+  moved tags s good {n} {x} p e =
+      let next = perform N home body s n x in
+      let d = ne-eqb (view next .status (id (body F))) 3 e in
+      step-outcome units laid tags s good n (p .there) (unfinished s good p)
+      ∙ ap (outcome units F N body at home tags s n) (p .moves)
+      ∙ (λ i. record { answer = pick (d i) (answered (view next .value (id (body F)))) taken; state = next })
+
+  module _ (s : State512) (good : Good F body s) where
+    -- after the move of a ..
+    module _ {a b : ℕ} {x y : Move} (h : Movers units laid (view s) a b x y) where
+      abbrev sa : State512
+      sa = perform N home body s a x
+
+      pub does-a : Fair F N home body a x × Does N home body (view s) (view sa) a x
+      does-a = moved-does units laid s (good .sized) a (h .one .there) x (h .one .moves)
+
+      pub good-a : Good F body sa
+      good-a = moved-good units laid s good a (h .one .there) x (h .one .moves)
+
+      -- .. b is under way still, so main's root isn't done
+      pub open-a : Unfinished F body sa
+      open-a e = moving (h .other) (as-before (every-node (Still (view sa)) b (body (home b))
+          (all-still (view sa) (good-a .sound) (fn-main laid) e (home b) (h .other .acting .fn))
+          (own-node laid (home b) b (h .other .there) refl)))
+        where
+          b-kept : Same (view s) (view sa) b
+          b-kept = expression-kept h (view sa) (does-a .1) b (subst (λ m. Node m (at b)) (number (h .other)) (node-id (at b)))
+
+          as-before : Still (view sa) b → Still (view s) b
+          as-before z = (⊎-elim (λ e. inl (sym (b-kept .0) ∙ e)) (λ e. inr (sym (b-kept .0) ∙ e)) (z .0), sym (b-kept .1) ∙ z .1)
+
+      -- and where the two don't both enter one resource, b has its move still
+      module _ (calm : Calm x y) where
+        b-still : Mover units laid (view sa) b y
+        b-still = mover (good-a .sound) (h .other .there) (still-moves h calm (view sa) (does-a .1))
+
+        -- nor is the root done after both, where b doesn't write it
+        open-both : (Writes N home b y (id (body F)) → ⊥) → Unfinished F body (perform N home body sa b y)
+        open-both k e =
+            let d = moved-does units laid sa (good-a .sized) b (h .other .there) y (b-still .moves) .1 in
+            open-a (sym (keeps-node N home body (view sa) (view (perform N home body sa b y)) b y d (id (body F)) k .0) ∙ e)
+
+    pub both-ways : (tags : ℕ → Bool) {a b : ℕ} {x y : Move} → Movers units laid (view s) a b x y → Calm x y
+        → BothWays units laid tags s a b
+    both-ways tags {a} {b} {x} {y} h calm = record {
+      after-a = sa h;
+      after-b = sa (swap h);
+      after-both = sab;
+      a-first = moved tags s good (h .one) (open-a h);
+      b-second = moved tags (sa h) (good-a h) (b-still h calm) open-end;
+      b-first = moved tags s good (h .other) (open-a (swap h));
+      a-second = moved tags (sa (swap h)) (good-a (swap h)) (b-still (swap h) turned) (subst (Unfinished F body) same open-end)
+          ∙ ap went (sym same);
+    }
+      where
+        turned : Calm y x
+        turned = calm-swap x y calm
+
+        sab : State512
+        sab = perform N home body (sa h) b y
+
+        same : sab ≡ perform N home body (sa (swap h)) a x
+        same = moves-commute F N home body (laid .functions) (laid .nodes) a b x y (h .one .there) (h .other .there)
+            (does-a h .0) (does-a (swap h) .0) (writes-apart h calm) (alters-apart h calm) s (good .sized)
+
+        -- one of the two doesn't write main's root
+        open-end : Unfinished F body sab
+        open-end = ⊎-elim (λ k. subst (Unfinished F body) (sym same) (open-both (swap h) turned k)) (open-both h calm)
+            (outside (writes? N home a x (id (body F))) (writes-apart h calm (id (body F))))
+
+    -- two steps that are taken are moves
+    pub taken-movers : (tags : ℕ → Bool) (a b : ℕ) → (a ≡ b → ⊥) → IsTaken (step units laid tags s a .answer)
+        → IsTaken (step units laid tags s b .answer) → (x y : Move) × Movers units laid (view s) a b x y
+    taken-movers tags a b d p q =
+        let x = taken-move units laid tags s a p in
+        let y = taken-move units laid tags s b q in
+        let one = mover (good .sound) (x .0) (x .1 .1) in
+        (x .1 .0, y .1 .0, record { one = one; other = mover (good .sound) (y .0) (y .1 .1); different = d })
