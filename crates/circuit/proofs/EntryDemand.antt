@@ -25,7 +25,7 @@ pub record Played (t tags : List ℕ) (s : State) (ns : List ℕ) (rs : List Ste
   pub state : listsOf (lastState s rs) ≡ playOf t tags (listsOf s) ns .state
 
 module _ (t tags : List ℕ) where
-  played-entries : (s : State) (ns : List ℕ) (rs : List Stepped) → StepsOf t tags s ns rs → Played t tags s ns rs
+  pub played-entries : (s : State) (ns : List ℕ) (rs : List Stepped) → StepsOf t tags s ns rs → Played t tags s ns rs
   unfolding playOf
   played-entries s [] [] h = record { answers = refl; steps = refl; state = refl }
   played-entries s [] (r ∷ rs) h = absurd h
@@ -40,7 +40,7 @@ module _ (t tags : List ℕ) where
       }
 
   -- and so is every prefix
-  prefix : (s : State) (ns : List ℕ) (rs : List Stepped) → StepsOf t tags s ns rs → (k : ℕ) → StepsOf t tags s (take k ns) (take k rs)
+  pub prefix : (s : State) (ns : List ℕ) (rs : List Stepped) → StepsOf t tags s ns rs → (k : ℕ) → StepsOf t tags s (take k ns) (take k rs)
   prefix s ns rs h zero = tt
   prefix s [] [] h (suc k) = tt
   prefix s [] (r ∷ rs) h (suc k) = absurd h

@@ -31,4 +31,5 @@ pub mod LentLaws
 pub mod BeginLaws
 pub mod EntryDemand
 pub mod ReachedDemand
+pub mod EitherOrder
 pub mod Theorems

@@ -3,3 +3,4 @@ pub mod Working
 pub mod Packed
 pub mod Following
 pub mod Entries
+pub mod EitherOrder

@@ -75,9 +75,12 @@ entering = either-order-reached pair both-tags (9 ∷ []) _ refl pair-holds (2 �
 })
 
 -- both enter, but not one resource: 10 calls function 1, 13 function 2
-two-resources : EitherOrder fir fir-tags (fir-after (9 ∷ 10 ∷ 13 ∷ 11 ∷ 12 ∷ 14 ∷ 15 ∷ [])) 10 13
+abbrev to-calls : List ℕ
+to-calls = 9 ∷ 10 ∷ 13 ∷ 11 ∷ 12 ∷ 14 ∷ 15 ∷ []
+
+two-resources : EitherOrder fir fir-tags (fir-after to-calls) 10 13
 unfolding circuit-open
-two-resources = either-order-reached fir fir-tags (1 ∷ 2 ∷ 3 ∷ 4 ∷ []) _ refl fir-holds _ 10 13 (record {
+two-resources = either-order-reached fir fir-tags (1 ∷ 2 ∷ 3 ∷ 4 ∷ []) _ refl fir-holds to-calls 10 13 (record {
   two = record { different = λ e. omega arith; a-steps = tt; b-steps = tt };
   no-rivals = λ r. omega (arith, one-callee 1 (r .0) _ _ (r .1 .1), one-callee 2 (r .0) _ _ (r .2 .1));
 })
