@@ -36,4 +36,5 @@ OrderOfSteps = (t tags args steps : List ℕ) (s : State) → Reached t tags arg
 -- and of rivals, where the tags hold the arbiter list
 abbrev pub RivalsInOrder : Type 0
 RivalsInOrder = (t tags args steps : List ℕ) (s : State) → Reached t tags args steps s → Holding t tags → (a b : ℕ) (rs rs′ : List Stepped)
-    → BothOrders t tags s a b rs rs′ → TwoSteps t tags (listsOf s) a b → Rivals t (listsOf s) a b → SecondRefused s b rs × SecondRefused s a rs′
+    → BothOrders t tags s a b rs rs′ → TwoSteps t tags (listsOf s) a b → Rivals t (listsOf s) a b
+    → SecondRefused s b rs × SecondRefused s a rs′

@@ -69,7 +69,6 @@ pub mod StatesSame
 pub mod Commute
 -- two hands: a node that has a step, what its move touches, and two of them
 pub mod Ready
-pub mod SelfReady
 pub mod Definiens
 pub mod Mover
 pub mod MoversApart

@@ -1,16 +1,18 @@
--- a node that has a step: it is under way itself, and below it nothing is; so two of them have no node in common
+-- a node that has a step: below it nothing is under way, so two of them have no node in common; beside a self call that restarts, no other
+-- node of its body is one
 use Prim.Native.Nat.{ℕ}
 use mathlib.Core.Bool.{true≢false}
 use mathlib.Core.Path.{_≡_, refl, subst, sym, _∙_}
 use mathlib.Core.Logic.{_⊎_, inl, inr, ⊎-elim}
 use native.Mathlib.Omega.{arith}
-use Rattle.table.specs.Syntax.{Expr, const, param, prim, call, self, cond, bind, bound, id, Every, Node, Sub}
+use Rattle.table.specs.Syntax.{Expr, Exprs, const, param, prim, call, self, cond, bind, bound, id, Every, Node, Sub}
 use Rattle.table.proofs.SyntaxLaws.{node-id, sub-node, every-node, every-node*}
 use Rattle.rules.specs.State.{View}
-use Rattle.rules.proofs.Shape.{Still, Live, open-moves, busy-moves}
+use Rattle.rules.proofs.Shape.{Still, Live}
 use Rattle.rules.proofs.Branches.{chosen-case, chosen-both}
-use Rattle.rules.proofs.Moves.{Under, finished, finished*, done*-still, idle-still, idle-still*}
-use Rattle.rules.proofs.Acting.{Acting, apart, live-part}
+use Rattle.rules.proofs.Moves.{Under, Finished*, finished, finished*, done*-still, idle-still, idle-still*}
+use Rattle.rules.proofs.SelfCalls.{self-above}
+use Rattle.rules.proofs.Acting.{Acting, apart, live, live-part}
 use Rattle.rules.proofs.Progress.{Able}
 use Rattle.rules.proofs.Numbered.{nested}
 
@@ -34,27 +36,8 @@ under-node P m (bind n ds b) h (inr (inr k)) = inr (every-node P m b (h .1) k)
 under-node P m (bound n d) h k = inl k
 
 module _ (body : ℕ → Expr) (s : View) where
-  -- it is open or busy
-  pub able-moving : (u : Expr) → Able body s u → Still s (id u) → ⊥
-  able-moving (const n v) a = open-moves s n (a .0)
-  able-moving (param n i) a = open-moves s n (a .0)
-  able-moving (prim n op es) (inl a) = open-moves s n (a .0)
-  able-moving (prim n op es) (inr a) = busy-moves s n (a .0)
-  able-moving (call n g es) (inl a) = open-moves s n (a .0)
-  able-moving (call n g es) (inr (inl a)) = busy-moves s n (a .0 .0)
-  able-moving (call n g es) (inr (inr a)) = busy-moves s n (a .0 .0)
-  able-moving (self n es) (inl a) = open-moves s n (a .0)
-  able-moving (self n es) (inr a) = busy-moves s n (a .0)
-  able-moving (cond n x y z) (inl a) = open-moves s n (a .0)
-  able-moving (cond n x y z) (inr (inl a)) = busy-moves s n (a .0 .0)
-  able-moving (cond n x y z) (inr (inr a)) = busy-moves s n (a .0 .0)
-  able-moving (bind n ds b) (inl a) = open-moves s n (a .0)
-  able-moving (bind n ds b) (inr (inl a)) = busy-moves s n (a .0 .0)
-  able-moving (bind n ds b) (inr (inr a)) = busy-moves s n (a .0 .0)
-  able-moving (bound n d) a = open-moves s n (a .0)
-
   -- below it all is done or was never opened
-  pub able-below : (u : Expr) → Able body s u → Live s u → Under (Still s) u
+  able-below : (u : Expr) → Able body s u → Live s u → Under (Still s) u
   able-below (const n v) a l = tt
   able-below (param n i) a l = tt
   able-below (prim n op es) a (inl l) = idle-still* s es (l .1)
@@ -90,15 +73,21 @@ module _ (body : ℕ → Expr) (s : View) where
   able-below (bind n ds b) (inr (inr a)) (inr (inr l)) = (done*-still s ds (l .1), finished s b (l .2) (a .1) .1)
   able-below (bound n d) a l = tt
 
--- a node below another that has a step has none
-above : {F : ℕ} {body : ℕ → Expr} {s : View} {k : ℕ} (u w : Expr) → Acting F body s k w → Able body s w → Able body s u → Sub u w
-    → id u ≡ id w
-above {body = body} {s = s} u w y b a p = ⊎-elim (λ e. e) (λ k. absurd (able-moving body s u a k))
-    (under-node (Still s) (id u) w (able-below body s w b (live-part y)) (sub-node u (id u) w p (node-id u)))
+module _ {F : ℕ} {body : ℕ → Expr} {s : View} where
+  -- a node below another that has a step has none
+  above : {h k : ℕ} {u w : Expr} → Acting F body s h u → Acting F body s k w → Able body s w → Sub u w → id u ≡ id w
+  above {u = u} {w = w} x y b p = ⊎-elim (λ e. e) (λ k. absurd (x .moving k))
+      (under-node (Still s) (id u) w (able-below body s w b (live-part y)) (sub-node u (id u) w p (node-id u)))
 
-module _ {F : ℕ} {body : ℕ → Expr} {s : View} {h k : ℕ} {u w : Expr} (x : Acting F body s h u) (y : Acting F body s k w) where
-  pub able-apart : Able body s u → Able body s w → (m : ℕ) → Node m u → Node m w → id u ≡ id w
-  able-apart a b m i j =
+  pub able-apart : {h k : ℕ} {u w : Expr} → Acting F body s h u → Acting F body s k w → Able body s u → Able body s w
+      → (m : ℕ) → Node m u → Node m w → id u ≡ id w
+  able-apart {h} {k} {u} {w} x y a b m i j =
       let e : h ≡ k = x .well .owner h k m (x .fn) (y .fn) (sub-node u m (body h) (x .place) i) (sub-node w m (body k) (y .place) j) in
-      ⊎-elim (above u w y b a) (λ p. sym (above w u x a b p))
+      ⊎-elim (above x y b) (λ p. sym (above y x a p))
       (nested u w m i j (body k) (apart y) (subst (λ f. Sub u (body f)) e (x .place)) (y .place))
+
+  -- what is under way beside a self call with its arguments done stands above it, and has no step
+  pub able-alone : {h n : ℕ} {es : Exprs} {w : Expr} → Acting F body s h (self n es) → s .status n ≡ 2 → Finished* s es
+      → Acting F body s h w → Able body s w → n ≡ id w
+  able-alone {h} {n} {es} {w} x at ready y a =
+      above x y a (self-above s n es at ready w (y .moving) (body h) (x .well .tail h (x .fn)) (x .place) (live x) (y .place) .0)

@@ -9,18 +9,17 @@ use Rattle.rules.specs.State.{View}
 use Rattle.rules.proofs.Shape.{Still, Live, Opened, busy-moves}
 use Rattle.rules.specs.Reading.{again, Readings}
 use Rattle.rules.proofs.Branches.{chosen-case, chosen-map}
-use Rattle.rules.proofs.Within.{idle-not, done-not}
+use Rattle.rules.proofs.Within.{idle-not, idle-not*, done-not, done-not*}
 use Rattle.table.specs.Environment.{extend, values}
 use Rattle.rules.proofs.Left.{Left}
 use Rattle.rules.proofs.Counts.{over-left*}
 use Rattle.rules.proofs.Moves.{Finished*, finished*}
 use Rattle.table.specs.Well.{CallIn, NoSelf, NoSelf*, Tail}
-use Rattle.table.proofs.CallPlaces.{call-node, call-node*}
-use Rattle.rules.proofs.Places.{still-busy, idle-busy, idle-busy*, done-busy*}
+use Rattle.table.proofs.CallPlaces.{find}
 
 module _ (n : ℕ) (es : Exprs) where
   mutual
-    pub no-self : (e : Expr) → NoSelf e → Sub (self n es) e → ⊥
+    no-self : (e : Expr) → NoSelf e → Sub (self n es) e → ⊥
     no-self (const m v) h p = let z : _≡_ {A = ℕ} 0 1 = cc in omega arith
     no-self (param m i) h p = let z : _≡_ {A = ℕ} 0 1 = cc in omega arith
     no-self (prim m op xs) h (inl p) = let z : _≡_ {A = ℕ} 0 1 = cc in omega arith
@@ -49,49 +48,62 @@ module _ (s : View) (n : ℕ) (es : Exprs) (at : s .status n ≡ 2) (ready : Fin
   abbrev U : Expr
   U = self n es
 
-  -- no call is under way beside it
-  module _ (c f : ℕ) (busy : s .status c ≡ 2) where
-    own : (e : Expr) → U ≡ e → Live s e → CallIn c f e → ⊥
-    own e p l k = mine (subst (Live s) (sym p) l) (subst (CallIn c f) (sym p) k)
+  -- what is under way in the body is this call or stands above it
+  module _ (w : Expr) (moving : Still s (id w) → ⊥) where
+    abbrev Above : Type 0
+    Above = Sub U w × Tail w
+
+    own : (e : Expr) → U ≡ e → Tail e → Live s e → Sub w e → Above
+    own e p t l q = mine (subst (Live s) (sym p) l) (subst (Sub w) (sym p) q)
       where
-        mine : Live s U → CallIn c f U → ⊥
-        mine (inl l) k = idle-busy* s c busy es (l .1) (call-node* c f es k)
-        mine (inr l) k = done-busy* s c busy es (finished* s es (l .1) ready) (call-node* c f es k)
+        mine : Live s U → Sub w U → Above
+        mine l (inl q) = (subst (Sub U) (sym q) (inl refl), subst Tail (sym q) (subst Tail (sym p) t))
+        mine (inl l) (inr q) = absurd (idle-not* s w moving es (l .1) q)
+        mine (inr l) (inr q) = absurd (done-not* s w moving es (finished* s es (l .1) ready) q)
 
-    alone-opened : (e : Expr) → (Live s e → CallIn c f e → ⊥) → Sub U e → Opened s e → CallIn c f e → ⊥
-    alone-opened e g p (inl l) k = g l k
-    alone-opened e g p (inr d) k = done-not s U moves e d p
+    in-opened : (e : Expr) → (Live s e → Sub w e → Above) → Sub U e → Opened s e → Sub w e → Above
+    in-opened e g p (inl l) q = g l q
+    in-opened e g p (inr d) q = absurd (done-not s U moves e d p)
 
-    pub self-alone : (e : Expr) → Tail e → Sub U e → Live s e → CallIn c f e → ⊥
-    self-alone (const m v) t p l k = k
-    self-alone (param m i) t p l k = k
-    self-alone (prim m op xs) t (inl p) l k = own (prim m op xs) p l k
-    self-alone (prim m op xs) t (inr p) l k = no-self* n es xs t p
-    self-alone (call m g xs) t (inl p) l k = own (call m g xs) p l k
-    self-alone (call m g xs) t (inr p) l k = no-self* n es xs t p
-    self-alone (self m xs) t (inl p) l k = own (self m xs) p l k
-    self-alone (self m xs) t (inr p) l k = no-self* n es xs t p
-    self-alone (cond m x y z) t (inl p) l k = own (cond m x y z) p l k
-    self-alone (cond m x y z) t (inr (inl p)) l k = no-self n es x (t .0) p
-    self-alone (cond m x y z) t (inr (inr (inl p))) (inl l) k = idle-not s U moves y (l .2) p
-    self-alone (cond m x y z) t (inr (inr (inl p))) (inr (inl l)) k = idle-not s U moves y (l .2) p
-    self-alone (cond m x y z) t (inr (inr (inl p))) (inr (inr l)) (inl k) = still-busy s c busy x (l .1 .1) (call-node c f x k)
-    self-alone (cond m x y z) t (inr (inr (inl p))) (inr (inr l)) (inr k) =
-        chosen-case (λ o. ⊎-elim (λ i. alone-opened y (λ l′ k′. self-alone y (t .1) p l′ k′) p (o .0) i)
-        (λ i. idle-busy s c busy z (o .1) (call-node c f z i)) k) (λ o. idle-not s U moves y (o .1) p) (s .value (id x)) (l .2)
-    self-alone (cond m x y z) t (inr (inr (inr p))) (inl l) k = idle-not s U moves z (l .3) p
-    self-alone (cond m x y z) t (inr (inr (inr p))) (inr (inl l)) k = idle-not s U moves z (l .3) p
-    self-alone (cond m x y z) t (inr (inr (inr p))) (inr (inr l)) (inl k) = still-busy s c busy x (l .1 .1) (call-node c f x k)
-    self-alone (cond m x y z) t (inr (inr (inr p))) (inr (inr l)) (inr k) =
-        chosen-case (λ o. idle-not s U moves z (o .1) p) (λ o. ⊎-elim (λ i. idle-busy s c busy y (o .1) (call-node c f y i))
-        (λ i. alone-opened z (λ l′ k′. self-alone z (t .2) p l′ k′) p (o .0) i) k) (s .value (id x)) (l .2)
-    self-alone (bind m ds b) t (inl p) l k = own (bind m ds b) p l k
-    self-alone (bind m ds b) t (inr (inl p)) l k = no-self* n es ds (t .0) p
-    self-alone (bind m ds b) t (inr (inr p)) (inl l) k = idle-not s U moves b (l .2) p
-    self-alone (bind m ds b) t (inr (inr p)) (inr (inl l)) k = idle-not s U moves b (l .2) p
-    self-alone (bind m ds b) t (inr (inr p)) (inr (inr l)) (inl k) = done-busy* s c busy ds (l .1) (call-node* c f ds k)
-    self-alone (bind m ds b) t (inr (inr p)) (inr (inr l)) (inr k) = alone-opened b (λ l′ k′. self-alone b (t .1) p l′ k′) p (l .2) k
-    self-alone (bound m d) t p l k = k
+    pub self-above : (e : Expr) → Tail e → Sub U e → Live s e → Sub w e → Above
+    self-above (const m v) t p l q = own (const m v) p t l q
+    self-above (param m i) t p l q = own (param m i) p t l q
+    self-above (prim m op xs) t (inl p) l q = own (prim m op xs) p t l q
+    self-above (prim m op xs) t (inr p) l q = absurd (no-self* n es xs t p)
+    self-above (call m g xs) t (inl p) l q = own (call m g xs) p t l q
+    self-above (call m g xs) t (inr p) l q = absurd (no-self* n es xs t p)
+    self-above (self m xs) t (inl p) l q = own (self m xs) p t l q
+    self-above (self m xs) t (inr p) l q = absurd (no-self* n es xs t p)
+    self-above (cond m x y z) t (inl p) l q = own (cond m x y z) p t l q
+    self-above (cond m x y z) t (inr (inl p)) l q = absurd (no-self n es x (t .0) p)
+    self-above (cond m x y z) t (inr (inr (inl p))) (inl l) q = absurd (idle-not s U moves y (l .2) p)
+    self-above (cond m x y z) t (inr (inr (inl p))) (inr (inl l)) q = absurd (idle-not s U moves y (l .2) p)
+    self-above (cond m x y z) t (inr (inr p)) (inr (inr l)) (inl q) = subst (λ e. Sub U e × Tail e) (sym q) (inr (inr p), t)
+    self-above (cond m x y z) t (inr (inr p)) (inr (inr l)) (inr (inl q)) = absurd (done-not s w moving x (l .1) q)
+    self-above (cond m x y z) t (inr (inr (inl p))) (inr (inr l)) (inr (inr q)) =
+        chosen-case (λ o. ⊎-elim (λ k. in-opened y (λ l′ k′. self-above y (t .1) p l′ k′) p (o .0) k)
+        (λ k. absurd (idle-not s w moving z (o .1) k)) q) (λ o. absurd (idle-not s U moves y (o .1) p)) (s .value (id x)) (l .2)
+    self-above (cond m x y z) t (inr (inr (inr p))) (inl l) q = absurd (idle-not s U moves z (l .3) p)
+    self-above (cond m x y z) t (inr (inr (inr p))) (inr (inl l)) q = absurd (idle-not s U moves z (l .3) p)
+    self-above (cond m x y z) t (inr (inr (inr p))) (inr (inr l)) (inr (inr q)) =
+        chosen-case (λ o. absurd (idle-not s U moves z (o .1) p)) (λ o. ⊎-elim (λ k. absurd (idle-not s w moving y (o .1) k))
+        (λ k. in-opened z (λ l′ k′. self-above z (t .2) p l′ k′) p (o .0) k) q) (s .value (id x)) (l .2)
+    self-above (bind m ds b) t (inl p) l q = own (bind m ds b) p t l q
+    self-above (bind m ds b) t (inr (inl p)) l q = absurd (no-self* n es ds (t .0) p)
+    self-above (bind m ds b) t (inr (inr p)) (inl l) q = absurd (idle-not s U moves b (l .2) p)
+    self-above (bind m ds b) t (inr (inr p)) (inr (inl l)) q = absurd (idle-not s U moves b (l .2) p)
+    self-above (bind m ds b) t (inr (inr p)) (inr (inr l)) (inl q) = subst (λ e. Sub U e × Tail e) (sym q) (inr (inr p), t)
+    self-above (bind m ds b) t (inr (inr p)) (inr (inr l)) (inr (inl q)) = absurd (done-not* s w moving ds (l .1) q)
+    self-above (bind m ds b) t (inr (inr p)) (inr (inr l)) (inr (inr q)) =
+        in-opened b (λ l′ k′. self-above b (t .1) p l′ k′) p (l .2) q
+    self-above (bound m d) t p l q = own (bound m d) p t l q
+
+  -- no call is, since none stands above it
+  pub self-alone : (c f : ℕ) → s .status c ≡ 2 → (e : Expr) → Tail e → Sub U e → Live s e → CallIn c f e → ⊥
+  self-alone c f busy e t p l k =
+      let x = find c f e k in
+      let a = self-above (call c f (x .0)) (busy-moves s c busy) e t p l (x .1) in
+      ⊎-elim (λ i. let z : _≡_ {A = ℕ} 0 1 = cc in omega arith) (no-self* n es (x .0) (a .1)) (a .0)
 
   -- one step is left, and then the function again
   module _ (apply : ℕ → List ℕ → ℕ) (K : Readings) (W : ℕ → ℕ) (args : ℕ → ℕ) where
