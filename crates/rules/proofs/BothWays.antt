@@ -11,14 +11,12 @@ use Rattle.table.proofs.SyntaxLaws.{node-id, every-node}
 use Rattle.rules.specs.Arithmetic.{Arithmetic}
 use Rattle.rules.specs.State.{State512, view}
 use Rattle.rules.specs.Step.{Move, taken, answered, Stepped, outcome, perform}
-use Rattle.rules.specs.Play.{IsTaken}
 use Rattle.rules.proofs.LaidFacts.{fn-main, own-node}
 use Rattle.rules.proofs.Shape.{Still}
 use Rattle.rules.proofs.Frame.{Same}
 use Rattle.rules.proofs.Performed.{Fair, Does}
 use Rattle.rules.proofs.Answers.{all-still}
 use Rattle.rules.proofs.StepFacts.{Good, step, moved-does, moved-good, step-outcome}
-use Rattle.rules.proofs.Phases.{taken-move}
 use Rattle.rules.proofs.Touches.{Writes, writes?, keeps-node}
 use Rattle.rules.proofs.Commute.{outside, moves-commute}
 use Rattle.rules.proofs.Mover.{Mover, mover, number, moving, awake}
@@ -120,12 +118,3 @@ module _ {units : Arithmetic} {F N : ℕ} {body at : ℕ → Expr} {home : ℕ �
         open-end : Unfinished F body sab
         open-end = ⊎-elim (λ k. subst (Unfinished F body) (sym same) (open-both (swap h) turned k)) (open-both h calm)
             (outside (writes? N home a x (id (body F))) (writes-apart h calm (id (body F))))
-
-    -- two steps that are taken are moves
-    pub taken-movers : (tags : ℕ → Bool) (a b : ℕ) → (a ≡ b → ⊥) → IsTaken (step units laid tags s a .answer)
-        → IsTaken (step units laid tags s b .answer) → (x y : Move) × Movers units laid (view s) a b x y
-    taken-movers tags a b d p q =
-        let x = taken-move units laid tags s a p in
-        let y = taken-move units laid tags s b q in
-        let one = mover (good .sound) (x .0) (x .1 .1) in
-        (x .1 .0, y .1 .0, record { one = one; other = mover (good .sound) (y .0) (y .1 .1); different = d })

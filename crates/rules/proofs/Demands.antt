@@ -97,7 +97,7 @@ module _ (t : List ℕ) (F N : ℕ) (check : checkOf t ≡ accepted F N) where
   step-same tags F N e s n = ap (λ c. stepAfter c s (circuitOf t tags s n)) e
 
   -- a step that isn't refused is the circuit's
-  pub possible-same : (tags : List ℕ) (s : State512) (n : ℕ) → Possible t tags s n
+  possible-same : (tags : List ℕ) (s : State512) (n : ℕ) → Possible t tags s n
       → IsTaken (circuitStep (arithmetic t) (functions t) (nodes t) (bodyOf t) (exprAt t) (owner t) (tagged tags) s n .answer)
   unfolding stepOf stepAfter circuitOf
   possible-same tags s n = go (checkWith t tags)
@@ -106,16 +106,6 @@ module _ (t : List ℕ) (F N : ℕ) (check : checkOf t ≡ accepted F N) where
           → IsTaken (circuitStep (arithmetic t) (functions t) (nodes t) (bodyOf t) (exprAt t) (owner t) (tagged tags) s n .answer)
       go (accepted F N) x = x
       go (refused i p) x = absurd x
-
-  -- and its tags are taken
-  pub possible-tags : (tags : List ℕ) (s : State512) (n : ℕ) → Possible t tags s n → (F N : ℕ) × (checkWith t tags ≡ accepted F N)
-  unfolding stepOf stepAfter
-  possible-tags tags s n = go (checkWith t tags) refl
-    where
-      go : (c : Verdict) → checkWith t tags ≡ c → IsTaken (stepAfter c s (circuitOf t tags s n) .answer)
-          → (F N : ℕ) × (checkWith t tags ≡ accepted F N)
-      go (accepted F N) e x = (F, N, e)
-      go (refused i p) e x = absurd x
 
   -- tags that hold the list are at every call that the circuit's proof lists
   pub holding-tags : (tags : List ℕ) → Holding t tags → (n : ℕ) → Listed (bodyOf t) (exprAt t) (functions t) n → tagged tags n ≡ true

@@ -1,14 +1,14 @@
 -- two hands on the circuit of a table: what is shown of two different nodes that both have a step, after any steps from a start
 use Prim.Native.Nat.{ℕ}
 use mathlib.Core.Bool.{true}
-use mathlib.Core.Path.{_≡_, subst, sym, ap, _∙_}
+use mathlib.Core.Path.{_≡_, refl, subst, sym, ap, _∙_}
 use mathlib.Core.List.{List, [], _∷_}
 use native.Mathlib.Omega.{arith}
 use native.Mathlib.Decide.{ℕ-discrete}
 use Rattle.table.specs.Bytes.{functions, nodes}
 use Rattle.table.specs.Check.{accepted, checkOf}
 use Rattle.table.specs.Expressions.{bodyOf}
-use Rattle.list.specs.Tags.{tagged, Holding}
+use Rattle.list.specs.Tags.{tagged, checkWith, Holding}
 use Rattle.rules.specs.State.{State512, view}
 use Rattle.rules.specs.Step.{does, Move, taken, answered}
 use Rattle.rules.specs.Play.{Ask, asks, IsTaken, played}
@@ -16,11 +16,12 @@ use Rattle.rules.specs.Arithmetic.{arithmetic}
 use Rattle.rules.specs.Circuit.{started, startOf, stepOf, playsOf, playOf, Possible}
 use Rattle.rules.specs.EitherOrder.{Rivals, TwoSteps, TwoHands, EitherOrder, SecondWaits, WhoGoesFirst, EitherOrderReached}
 use Rattle.rules.proofs.StepFacts.{Good, step}
-use Rattle.rules.proofs.Demands.{start-passes, lay, step-same, possible-same, possible-tags, holding-tags, table-kept}
+use Rattle.rules.proofs.Demands.{start-passes, after-both, ranges, standing-by, lay, step-same, holding-tags, table-kept}
+use Rattle.rules.proofs.FirstFacts.{possible-node, possible-stands, possible-move}
 use Rattle.rules.proofs.Kept.{waits-listed}
 use Rattle.rules.proofs.Mover.{mover}
 use Rattle.rules.proofs.MoversApart.{Movers}
-use Rattle.rules.proofs.BothWays.{went, moved, open-a, BothWays, both-ways, taken-movers}
+use Rattle.rules.proofs.BothWays.{went, moved, open-a, BothWays, both-ways}
 use Rattle.rules.proofs.RivalsWait.{FirstEnters, first-enters}
 
 -- in any sound state
@@ -29,11 +30,24 @@ module _ (t : List ℕ) (F N : ℕ) (check : checkOf t ≡ accepted F N) (tags :
   module _ (a b : ℕ) (two : TwoSteps t tags s a b) where
     -- both are moves of the circuit on lists
     hands : (x y : Move) × Movers (arithmetic t) (lay t F N check) (view s) a b x y
-    hands = taken-movers s good (tagged tags) a b (two .different) (possible-same t F N check tags s a (two .a-steps))
-        (possible-same t F N check tags s b (two .b-steps))
+    hands =
+        let x = possible-move t tags s a (two .a-steps) in
+        let y = possible-move t tags s b (two .b-steps) in (
+          x .0,
+          y .0,
+          record {
+            one = mover (good .sound) (possible-node t tags s a (two .a-steps)) (x .1);
+            other = mover (good .sound) (possible-node t tags s b (two .b-steps)) (y .1);
+            different = two .different;
+          },
+        )
 
+    -- the tags are taken, so each step is the circuit's
     circuit : (z : State512) (n : ℕ) → stepOf t tags z n ≡ step (arithmetic t) (lay t F N check) (tagged tags) z n
-    circuit z n = let x = possible-tags t F N check tags s a (two .a-steps) in step-same t F N check tags (x .0) (x .1) (x .2) z n
+    circuit z n =
+        let p = sym (standing-by t tags s (checkWith t tags) refl) ∙ possible-stands t tags s a (two .a-steps) in
+        let c = after-both (checkWith t tags) (ranges t s) (functions t) (nodes t) p .0 in
+        step-same t F N check tags (c .0) (c .1) (c .2) z n
 
     -- the first isn't main's answer
     first-taken : stepOf t tags s a .answer ≡ taken

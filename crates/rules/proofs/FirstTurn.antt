@@ -15,6 +15,7 @@ use Rattle.rules.specs.Circuit.{actOf}
 use Rattle.rules.specs.Runs.{MainDone, mainValue, gave, atRest, spent}
 use Rattle.rules.specs.First.{firstOf, onward, driveFrom}
 use Rattle.rules.specs.Sets.{Sets, firstIn, Exact}
+use Rattle.rules.proofs.StepTaken.{one-move}
 use Rattle.rules.proofs.Performed.{perform-sized}
 use Rattle.rules.proofs.FirstFacts.{first-some, first-moves}
 use Rattle.rules.proofs.FirstLoop.{Drove, drove-gave, drove-rests, drove-spent, drove-next}
@@ -74,6 +75,3 @@ module _ (t tags : List ℕ) (F N : ℕ) (tagging : checkWith t tags ≡ accepte
             statuses = p;
             occupants = o;
           }
-        where
-          one-move : (m l : Move) → does m ≡ does l → m ≡ l
-          one-move m l e = cc

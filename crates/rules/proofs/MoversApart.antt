@@ -22,11 +22,8 @@ use Rattle.rules.proofs.Performed.{Does}
 use Rattle.rules.proofs.Tells.{Restarts}
 use Rattle.rules.proofs.Touches.{Renews, Reseats, Writes, Alters, keeps-node, keeps-value, keeps-register, keeps-occupant}
 use Rattle.rules.proofs.ActSame.{Seen, Beside, act-same, read-own}
-use Rattle.rules.proofs.StepTaken.{enter-act}
+use Rattle.rules.proofs.StepTaken.{one-move, enter-act}
 use Rattle.rules.proofs.Mover.{Entering, Leaving, Mover, number, moving, at-home, awake, marked, leaving, renewing, reseating}
-
-one-move : (x y : Move) → does x ≡ does y → x ≡ y
-one-move x y e = cc
 
 -- node a has the move x, another node b the move y
 pub record Movers (units : Arithmetic) {F N : ℕ} {body at : ℕ → Expr} {home : ℕ → ℕ} (laid : Laid F N body at home) (s : View) (a b : ℕ)

@@ -10,7 +10,7 @@ use Rattle.table.specs.Pick.{Range}
 use Rattle.table.specs.Well.{Laid}
 use Rattle.rules.specs.Arithmetic.{Arithmetic}
 use Rattle.rules.specs.State.{View, State512, view}
-use Rattle.rules.specs.Step.{Act, does, Move, begins, enters, leaves, done, all-done, act, circuitStep}
+use Rattle.rules.specs.Step.{Act, does, begins, enters, leaves, done, all-done, act, circuitStep}
 use Rattle.rules.specs.Play.{calls, IsTaken}
 use Rattle.rules.specs.Companions.{Phases}
 use Rattle.rules.proofs.ActCases.{by-pick, by-state}
@@ -60,12 +60,11 @@ module _ (units : Arithmetic) (body : ℕ → Expr) (s : View) (h n f : ℕ) (es
 
 module _ (units : Arithmetic) {F N : ℕ} {body at : ℕ → Expr} {home : ℕ → ℕ} (laid : Laid F N body at home)
     (tags : ℕ → Bool) (s : State512) where
-  -- a step taken at a number is the move of a node
-  pub taken-move : (n : ℕ) → IsTaken (circuitStep units F N body at home tags s n .answer)
-      → Range N n × ((m : Move) × (act units body (home n) (view s) (at n) ≡ does m))
-  taken-move n = step-cases units F N body at home tags s n
-      (λ r. IsTaken (r .answer) → Range N n × ((m : Move) × (act units body (home n) (view s) (at n) ≡ does m)))
-      (λ c. absurd) (λ r e m h a. (r, (m, h)))
+  -- a step taken at a node is its move
+  pub taken-moves : (n : ℕ) → IsTaken (circuitStep units F N body at home tags s n .answer)
+      → Moves (act units body (home n) (view s) (at n))
+  taken-moves n = step-cases units F N body at home tags s n
+      (λ r. IsTaken (r .answer) → Moves (act units body (home n) (view s) (at n))) (λ c. absurd) (λ r e m h a. subst Moves (sym h) tt)
 
   pub step-phases : (c f : ℕ) → Range N c → calls (at c) f ≡ true → IsTaken (circuitStep units F N body at home tags s c .answer)
       → (k : ℕ) → k % 3 ≡ third (view s) c → Phases (act units body (home c) (view s) (at c)) f k
@@ -74,4 +73,4 @@ module _ (units : Arithmetic) {F N : ℕ} {body at : ℕ → Expr} {home : ℕ �
       let i : x .0 ≡ c = sym (ap id (x .2)) ∙ laid .number c r in
       subst (λ u. Phases (act units body (home c) (view s) u) f k) (sym (x .2))
       (call-phases units body (view s) (home c) (x .0) f (x .1) k (ph ∙ ap (third (view s)) (sym i))
-      (subst (λ u. Moves (act units body (home c) (view s) u)) (x .2) (subst Moves (sym (taken-move c a .1 .1)) tt)))
+      (subst (λ u. Moves (act units body (home c) (view s) u)) (x .2) (taken-moves c a)))

@@ -35,6 +35,10 @@ Blocks stuck = ⊥
 Blocks blocked = Unit {0}
 Blocks (does m) = ⊥
 
+-- a node's move is one
+pub one-move : (m l : Move) → does m ≡ does l → m ≡ l
+one-move m l e = cc
+
 -- a call that waits at an occupied resource, its arguments done
 abbrev pub Waits : View → Expr → Type 0
 Waits s u = (n g : ℕ) × (es : Exprs) × (u ≡ call n g es) × Busy s n false × Finished* s es × (s .occupant g ≡ 0 → ⊥)
