@@ -10,7 +10,7 @@ use Rattle.table.specs.Check.{accepted, checkOf}
 use Rattle.table.specs.Expressions.{bodyOf}
 use Rattle.list.specs.Tags.{tagged, checkWith, Holding}
 use Rattle.rules.specs.State.{State512, view}
-use Rattle.rules.specs.Step.{does, Move, taken, answered}
+use Rattle.rules.specs.Step.{does, Move, taken, answered, denied}
 use Rattle.rules.specs.Play.{Ask, asks, IsTaken, played}
 use Rattle.rules.specs.Arithmetic.{arithmetic}
 use Rattle.rules.specs.Circuit.{started, startOf, stepOf, playsOf, playOf, Possible}
@@ -113,6 +113,12 @@ module _ (t : List ℕ) (F N : ℕ) (check : checkOf t ≡ accepted F N) (tags :
           state = pair-state a b (first .after) goes-in ∙ ap (λ r. r .state) waits ∙ sym (one-state a (first .after) goes-in);
         }
 
+    never-either : EitherOrder t tags s a b → ⊥
+    never-either x = not-refused (sym (x .a-then-b) ∙ second-waits .answers)
+      where
+        not-refused : {k p : ℕ} → taken ∷ taken ∷ [] ≡ taken ∷ denied k p ∷ [] → ⊥
+        not-refused e = let z : _≡_ {A = ℕ} 0 1 = cc in omega arith
+
     -- the second waits at an occupied resource, so it is listed
     second-tagged : Holding t tags → tagged tags b ≡ true
     second-tagged holds = holding-tags t F N check tags holds b
@@ -138,6 +144,7 @@ module _ (t : List ℕ) (F N : ℕ) (check : checkOf t ≡ accepted F N) (tags :
   pub who-goes-first : WhoGoesFirst t tags s
   who-goes-first = record {
     either = either;
+    only = λ a b two x r. never-either a b two r x;
     alone = alone;
     waits = λ a b two r. (second-waits a b two r, second-waits b a (turned a b two) (r .0, r .2, r .1));
     arbitrated = λ holds a b two r. (second-tagged b a (turned a b two) (r .0, r .2, r .1) holds, second-tagged a b two r holds);

@@ -44,6 +44,8 @@ pub record SecondWaits (t tags : List ℕ) (s : State512) (a b : ℕ) : Type 0 w
 -- what is shown of state s, whichever nodes have a step there
 pub record WhoGoesFirst (t tags : List ℕ) (s : State512) : Type 0 where
   pub either : (a b : ℕ) → TwoHands t tags s a b → EitherOrder t tags s a b
+  -- rivals never go in either order
+  pub only : (a b : ℕ) → TwoSteps t tags s a b → EitherOrder t tags s a b → Rivals t s a b → ⊥
   -- a step that is main's answer is the only one that is possible
   pub alone : (n m v : ℕ) → stepOf t tags s n .answer ≡ answered v → Possible t tags s m → n ≡ m
   -- of two rivals the one that comes second waits, whichever that is
