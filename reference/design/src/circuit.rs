@@ -6,14 +6,14 @@ use crate::list::{check_tags, is_tagged};
 use crate::table::{compute, Function, Node, Refusal};
 use crate::tree::{Kind, Tree};
 
-#[derive(Clone, Copy, PartialEq, Eq, Debug, Default)]
+#[derive(Clone, Copy, PartialEq, Eq, Hash, Debug, Default)]
 pub struct NodeState {
     pub status: u8,
     pub second: bool,
     pub value: u32,
 }
 
-#[derive(Clone, Copy, PartialEq, Eq, Debug, Default)]
+#[derive(Clone, Copy, PartialEq, Eq, Hash, Debug, Default)]
 pub struct FunctionState {
     pub registers: [u32; MOST_PARAMETERS],
     pub occupant: Node,

@@ -12,7 +12,8 @@ pub fn depth(tree: &Tree, node: Node) -> usize {
     1 + tree.children(node).iter().map(|child| depth(tree, *child)).max().unwrap_or(0)
 }
 
-fn holds(tree: &Tree, node: Node, wanted: &dyn Fn(Node) -> bool) -> bool {
+/// Whether a node below this one is wanted.
+pub(crate) fn holds(tree: &Tree, node: Node, wanted: &dyn Fn(Node) -> bool) -> bool {
     tree.children(node).iter().any(|child| wanted(*child) || holds(tree, *child, wanted))
 }
 

@@ -18,20 +18,25 @@ pub struct FirstCase {
 impl FirstCase {
     /// Its table, and tags: the arbiter list, which has no say in what is possible.
     pub fn table(&self) -> (Vec<u8>, Vec<u8>) {
-        let bytes = assemble(self.text).expect(self.text);
-        let tags = tags_of(&bytes).expect(self.text);
-        (bytes, tags)
+        listed(self.text)
     }
 }
 
+/// The table of a text, and its arbiter list as tags.
+pub(crate) fn listed(text: &str) -> (Vec<u8>, Vec<u8>) {
+    let bytes = assemble(text).expect(text);
+    let tags = tags_of(&bytes).expect(text);
+    (bytes, tags)
+}
+
 /// Nodes 1; 2 beside; 3 call, 4; 5 call, 6.
-const BESIDE: &str = "fun f(x) = x  fun main(x) = beside(f(x), f(x))";
+pub(crate) const BESIDE: &str = "fun f(x) = x  fun main(x) = beside(f(x), f(x))";
 
 /// The same with a third: 7 call, 8.
-const THREE: &str = "fun f(x) = x  fun main(x) = beside(f(x), f(x), f(x))";
+pub(crate) const THREE: &str = "fun f(x) = x  fun main(x) = beside(f(x), f(x), f(x))";
 
 /// Nodes 1; 2 call of f, 3; 4 beside; 5 call of g, 6; 7 call of f, 8.
-const HELD: &str = "fun f(x) = x  fun g(x) = f(x)  fun main(x) = beside(g(x), f(x))";
+pub(crate) const HELD: &str = "fun f(x) = x  fun g(x) = f(x)  fun main(x) = beside(g(x), f(x))";
 
 /// Nodes 1; 2 call of g, 3; 4 beside; 5 call of f, 6; 7 call of f, 8.
 const STUCK: &str = "fun g(x) = x  fun f(x) = g(x)  fun main(x) = beside(f(x), f(x))";
@@ -43,15 +48,14 @@ const HALVED: &str = "fun main(x) = if x then main(halve(x)) else 9";
 const IF: &str = "fun main() = if 1 then 2 else 3";
 
 /// Nodes 1 beside; 2 if; 3, 4, 5.
-const ELSE: &str = "fun main() = beside(if 0 then 2 else 3)";
+pub(crate) const ELSE: &str = "fun main() = beside(if 0 then 2 else 3)";
 
 /// Nodes 1 if; 2; 3 self call, 4; 5; 6 call of f, 7.
-const AGAIN: &str = "fun f(x) = if x then f(0) else 9  fun main() = f(1)";
+pub(crate) const AGAIN: &str = "fun f(x) = if x then f(0) else 9  fun main() = f(1)";
 
 /// From a start, after these steps.
-fn started(text: &str, arguments: &[u32], steps: &[u16]) -> State {
-    let bytes = assemble(text).expect(text);
-    let tags = tags_of(&bytes).expect(text);
+pub(crate) fn started(text: &str, arguments: &[u32], steps: &[u16]) -> State {
+    let (bytes, tags) = listed(text);
     let mut state = State::zero();
     start(&bytes, &tags, arguments, &mut state).expect(text);
     assert_eq!(run_list(&bytes, &tags, &mut state, steps), Ok((steps.len(), None)), "{text}");
@@ -59,7 +63,7 @@ fn started(text: &str, arguments: &[u32], steps: &[u16]) -> State {
 }
 
 /// Nodes 1, 2, .. as given by status, flag and value, the rest idle, and what is in the first register of function 1.
-fn standing(nodes: &[(u8, bool, u32)], register: u32) -> State {
+pub(crate) fn standing(nodes: &[(u8, bool, u32)], register: u32) -> State {
     let mut state = State::zero();
     for (entry, (status, second, value)) in state.nodes.iter_mut().zip(nodes) {
         *entry = NodeState { status: *status, second: *second, value: *value };

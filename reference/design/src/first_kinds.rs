@@ -70,7 +70,7 @@ pub fn first_kinds(tree: &Tree, tags: &[u8], before: &State, node: Node, after: 
     };
     let step = Step { tree, before, node, after, change };
     let were: BTreeSet<Node> = possible(tree, tags, before).collect();
-    let mut found = vec![step.name()];
+    let mut found = vec![step.change.name()];
     found.extend(step.picked(&were));
     // Once main has answered nothing is possible, which says nothing of the nodes.
     if after.node(tree.root(tree.main())).status != DONE {
@@ -90,9 +90,10 @@ struct Step<'a> {
     change: Change,
 }
 
-impl Step<'_> {
-    fn name(&self) -> &'static str {
-        match self.change {
+impl Change {
+    /// One of `MOVES`.
+    pub(crate) fn name(&self) -> &'static str {
+        match self {
             Change::Busy { .. } => "begins",
             Change::SecondPhase { .. } => "turns",
             Change::Done(_) => "finishes",
@@ -102,14 +103,16 @@ impl Step<'_> {
         }
     }
 
-    /// The function whose body was made ready.
-    fn reset(&self) -> Option<Function> {
-        match self.change {
-            Change::Enter(function) | Change::Again(function) => Some(function),
+    /// The function whose body is made ready.
+    pub(crate) fn reset(&self) -> Option<Function> {
+        match self {
+            Change::Enter(function) | Change::Again(function) => Some(*function),
             _ => None,
         }
     }
+}
 
+impl Step<'_> {
     /// A busy call of a function, no self call, in this phase.
     fn is_call(&self, state: &State, node: Node, second: bool) -> bool {
         let entry = state.node(node);
@@ -190,8 +193,8 @@ impl Step<'_> {
 
     /// Why this node has no step any more, which another took.
     fn disabled(&self, other: Node) -> &'static str {
-        let is_reset = self.reset().is_some_and(|function| self.tree.owner(other) == function);
-        let calls_reset = self.reset().is_some_and(|function| self.calls(other, function));
+        let is_reset = self.change.reset().is_some_and(|function| self.tree.owner(other) == function);
+        let calls_reset = self.change.reset().is_some_and(|function| self.calls(other, function));
         match self.change {
             _ if is_reset => "a reset takes a possible step",
             Change::Enter(_) if calls_reset && self.waits(self.after, other) => "others held by a call that enters",
@@ -242,7 +245,7 @@ impl Step<'_> {
             note("callee left by another call, and so several calls", count(&released) > 1);
             note("leaves what another call occupies", self.before.function(callee).occupant != self.node);
         }
-        if let Some(function) = self.reset() {
+        if let Some(function) = self.change.reset() {
             let within = |other: Node| self.tree.owner(other) == function && other != self.node;
             note(
                 "a reset takes a call that waits",

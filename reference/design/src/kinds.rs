@@ -40,6 +40,15 @@ impl Kinds {
         ensure(rare.is_empty(), || format!("rare, {fewest} wanted: {rare:?}"))
     }
 
+    /// Fails if one of these kinds occurred less often than its own number.
+    pub fn at_least(&self, wanted: &[(&str, usize)]) -> Outcome {
+        for (kind, fewest) in wanted {
+            let count = self.count(kind);
+            ensure(count >= *fewest, || format!("{kind} in {count} cases, wanted {fewest}"))?;
+        }
+        Ok(())
+    }
+
     /// Fails if one of these kinds occurred.
     pub fn never(&self, kinds: &[&str]) -> Outcome {
         let met: Vec<&&str> = kinds.iter().filter(|kind| self.count(kind) > 0).collect();

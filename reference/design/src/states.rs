@@ -13,9 +13,14 @@ pub fn arguments(random: &mut Random, tree: &Tree) -> Vec<u32> {
     (0..tree.parameters(tree.main())).map(|_| random.word()).collect()
 }
 
+/// Every call that may have a tag.
+pub fn every_call(tree: &Tree) -> Calls {
+    tree.nodes().filter(|node| tree.other_callee(*node).is_some()).collect()
+}
+
 /// A tag list that is in order: the arbiter list, none, every call, or any calls.
 pub fn tags(random: &mut Random, tree: &Tree) -> Vec<u8> {
-    let calls: Calls = tree.nodes().filter(|node| tree.other_callee(*node).is_some()).collect();
+    let calls = every_call(tree);
     let marked = match random.below(4) {
         0 => arbiter_list(tree),
         1 => Calls::new(),
@@ -87,6 +92,13 @@ pub fn any_state(random: &mut Random, tree: &Tree) -> State {
         }
     }
     state
+}
+
+/// Fills the entries past F and N with anything. No step looks at them.
+pub fn fill_past(random: &mut Random, tree: &Tree, state: &mut State) {
+    let noise = any_state(random, tree);
+    state.nodes[tree.node_count()..].copy_from_slice(&noise.nodes[tree.node_count()..]);
+    state.functions[tree.function_count()..].copy_from_slice(&noise.functions[tree.function_count()..]);
 }
 
 /// Any state, in which more ifs are in second phase while their condition is open, and more open calls have the flag.
