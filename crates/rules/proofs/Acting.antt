@@ -8,10 +8,10 @@ use native.Mathlib.Omega.{arith}
 use Rattle.table.specs.Syntax.{Expr, Exprs, const, param, prim, call, self, cond, bind, bound, id, Node, Node*, Sub}
 use Rattle.rules.specs.State.{View}
 use Rattle.rules.proofs.LaidFacts.{callee-fn}
-use Rattle.rules.proofs.Shape.{Still, Busy, Done*, Live, Opened*, Opened, open-moves, busy-moves}
+use Rattle.rules.proofs.Shape.{Still, Busy, Done*, Live, Opened*, open-moves, busy-moves}
 use Rattle.rules.proofs.Frame.{Same}
 use Rattle.table.proofs.SyntaxLaws.{node-id, sub-node, every-node, apart-sub}
-use Rattle.rules.proofs.Within.{done-not}
+use Rattle.rules.proofs.Within.{under-way}
 use Rattle.rules.proofs.Moves.{Inner}
 use Rattle.table.specs.Well.{Apart, CallIn, Fn, Well}
 use Rattle.table.proofs.CallPlaces.{call-node, sub-call}
@@ -22,13 +22,9 @@ use Rattle.rules.proofs.Invariant.{Active, active?, InnerStep, EnterSte
 -- the body of a node that isn't still is active
 pub stepping : {F : ℕ} {body : ℕ → Expr} {s : View} → Sound F body s → (h : ℕ) → Fn F body h → (u : Expr) → Sub u (body h)
     → (Still s (id u) → ⊥) → Active F s h × Live s (body h)
-stepping {F} {body} {s} sound h r u p m = ⊎-elim (λ a. (a, live (sound .opened h r a)))
+stepping {F} {body} {s} sound h r u p m = ⊎-elim (λ a. (a, under-way s u m (body h) p (sound .opened h r a)))
     (λ a. absurd (m (every-node (Still s) (id u) (body h) (sound .rest h r a) (sub-node u (id u) (body h) p (node-id u)))))
     (active? F s h)
-  where
-    live : Opened s (body h) → Live s (body h)
-    live (inl l) = l
-    live (inr d) = absurd (done-not s u m (body h) d p)
 
 pub stepping-live : {F : ℕ} {body : ℕ → Expr} {s : View} → Sound F body s → (h : ℕ) → Fn F body h → (u : Expr) → Sub u (body h)
     → (Still s (id u) → ⊥) → Live s u

@@ -4,10 +4,10 @@ use mathlib.Core.Bool.{Bool}
 use mathlib.Core.Path.{_≡_, refl, subst, sym, ap, _∙_}
 use mathlib.Core.Logic.{inl, inr, ⊎-elim}
 use borrow.Author.Tests.{ne-eqb}
-use Rattle.table.specs.Syntax.{Expr, id, Node}
+use Rattle.table.specs.Syntax.{Expr, id}
 use Rattle.table.specs.Pick.{pick}
 use Rattle.table.specs.Well.{Laid}
-use Rattle.table.proofs.SyntaxLaws.{node-id, every-node}
+use Rattle.table.proofs.SyntaxLaws.{every-node}
 use Rattle.rules.specs.Arithmetic.{Arithmetic}
 use Rattle.rules.specs.State.{State512, view}
 use Rattle.rules.specs.Step.{Move, taken, answered, Stepped, outcome, perform}
@@ -19,7 +19,7 @@ use Rattle.rules.proofs.Answers.{all-still}
 use Rattle.rules.proofs.StepFacts.{Good, step, moved-does, moved-good, step-outcome}
 use Rattle.rules.proofs.Touches.{Writes, writes?, keeps-node}
 use Rattle.rules.proofs.Commute.{outside, moves-commute}
-use Rattle.rules.proofs.Mover.{Mover, mover, number, moving, awake}
+use Rattle.rules.proofs.Mover.{Mover, mover, node-at, moving, awake}
 use Rattle.rules.proofs.MoversApart.{Movers, swap, expression-kept, Calm, calm-swap, still-moves, writes-apart, alters-apart}
 
 -- a step that is taken, and no answer
@@ -69,13 +69,13 @@ module _ {units : Arithmetic} {F N : ℕ} {body at : ℕ → Expr} {home : ℕ �
       good-a = moved-good units laid s good a (h .one .there) x (h .one .moves)
 
       -- .. b is under way still, so main's root isn't done
-      pub open-a : Unfinished F body sa
-      open-a e = moving (h .other) (as-before (every-node (Still (view sa)) b (body (home b))
+      pub unfinished-a : Unfinished F body sa
+      unfinished-a e = moving (h .other) (as-before (every-node (Still (view sa)) b (body (home b))
           (all-still (view sa) (good-a .sound) (fn-main laid) e (home b) (h .other .acting .fn))
           (own-node laid (home b) b (h .other .there) refl)))
         where
           b-kept : Same (view s) (view sa) b
-          b-kept = expression-kept h (view sa) (does-a .1) b (subst (λ m. Node m (at b)) (number (h .other)) (node-id (at b)))
+          b-kept = expression-kept h (view sa) (does-a .1) b (node-at (h .other))
 
           as-before : Still (view sa) b → Still (view s) b
           as-before z = (⊎-elim (λ e. inl (sym (b-kept .0) ∙ e)) (λ e. inr (sym (b-kept .0) ∙ e)) (z .0), sym (b-kept .1) ∙ z .1)
@@ -86,10 +86,10 @@ module _ {units : Arithmetic} {F N : ℕ} {body at : ℕ → Expr} {home : ℕ �
         b-still = mover (good-a .sound) (h .other .there) (still-moves h calm (view sa) (does-a .1))
 
         -- nor is the root done after both, where b doesn't write it
-        open-both : (Writes N home b y (id (body F)) → ⊥) → Unfinished F body (perform N home body sa b y)
-        open-both k e =
+        unfinished-both : (Writes N home b y (id (body F)) → ⊥) → Unfinished F body (perform N home body sa b y)
+        unfinished-both k e =
             let d = moved-does units laid sa (good-a .sized) b (h .other .there) y (b-still .moves) .1 in
-            open-a (sym (keeps-node N home body (view sa) (view (perform N home body sa b y)) b y d (id (body F)) k .0) ∙ e)
+            unfinished-a (sym (keeps-node N home body (view sa) (view (perform N home body sa b y)) b y d (id (body F)) k .0) ∙ e)
 
     pub both-ways : (tags : ℕ → Bool) {a b : ℕ} {x y : Move} → Movers units laid (view s) a b x y → Calm x y
         → BothWays units laid tags s a b
@@ -97,10 +97,10 @@ module _ {units : Arithmetic} {F N : ℕ} {body at : ℕ → Expr} {home : ℕ �
       after-a = sa h;
       after-b = sa (swap h);
       after-both = sab;
-      a-first = moved tags s good (h .one) (open-a h);
-      b-second = moved tags (sa h) (good-a h) (b-still h calm) open-end;
-      b-first = moved tags s good (h .other) (open-a (swap h));
-      a-second = moved tags (sa (swap h)) (good-a (swap h)) (b-still (swap h) turned) (subst (Unfinished F body) same open-end)
+      a-first = moved tags s good (h .one) (unfinished-a h);
+      b-second = moved tags (sa h) (good-a h) (b-still h calm) unfinished-end;
+      b-first = moved tags s good (h .other) (unfinished-a (swap h));
+      a-second = moved tags (sa (swap h)) (good-a (swap h)) (b-still (swap h) turned) (subst (Unfinished F body) same unfinished-end)
           ∙ ap went (sym same);
     }
       where
@@ -115,6 +115,6 @@ module _ {units : Arithmetic} {F N : ℕ} {body at : ℕ → Expr} {home : ℕ �
             (does-a h .0) (does-a (swap h) .0) (writes-apart h calm) (alters-apart h calm) s (good .sized)
 
         -- one of the two doesn't write main's root
-        open-end : Unfinished F body sab
-        open-end = ⊎-elim (λ k. subst (Unfinished F body) (sym same) (open-both (swap h) turned k)) (open-both h calm)
+        unfinished-end : Unfinished F body sab
+        unfinished-end = ⊎-elim (λ k. subst (Unfinished F body) (sym same) (unfinished-both (swap h) turned k)) (unfinished-both h calm)
             (outside (writes? N home a x (id (body F))) (writes-apart h calm (id (body F))))

@@ -1,4 +1,4 @@
--- two hands on small designs: steps in either order, rivals, and why each premise is there, since without it the statement is false
+-- two hands on small designs: steps in either order, rivals, and three premises without which the statement is false
 use Prim.Native.Nat.{ℕ}
 use mathlib.Core.Path.{_≡_, refl, subst, ap}
 use mathlib.Core.List.{List, [], _∷_}
@@ -14,7 +14,7 @@ use Rattle.rules.specs.Runs.{standing}
 use Rattle.rules.specs.EitherOrder.{Rivals, TwoSteps, TwoHands, EitherOrder}
 use Rattle.rules.proofs.Cases.{from, circuit-open, twice-list, pair-list, fir-list}
 use Rattle.rules.proofs.OddStates.{status-at, second-at}
-use Rattle.rules.proofs.EitherOrder.{either-order-reached}
+use Rattle.rules.proofs.EitherOrder.{refused-second, either-order-reached}
 
 -- f(x) = x; main(x) = f(f(x)), whose list is empty; main(x) = beside(f(x), f(x)), whose list is {3, 5}; and the filter, with an empty one
 abbrev no-tags : List ℕ
@@ -39,9 +39,6 @@ unfolding circuit-open
 fir-holds = subst (Holding fir) fir-list (tags-hold fir 5 37 refl)
 
 -- the state after steps at ns
-abbrev twice-after : List ℕ → State512
-twice-after ns = playOf twice no-tags (from twice no-tags (9 ∷ [])) ns .state
-
 abbrev pair-after : List ℕ → State512
 pair-after ns = playOf pair both-tags (from pair both-tags (9 ∷ [])) ns .state
 
@@ -94,9 +91,6 @@ second-waits : (playOf pair both-tags (pair-after (2 ∷ 3 ∷ 5 ∷ 4 ∷ 6 ∷
     × (playOf pair both-tags (pair-after (2 ∷ 3 ∷ 5 ∷ 4 ∷ 6 ∷ [])) (5 ∷ 3 ∷ []) .answers ≡ taken ∷ denied 22 3 ∷ [])
 unfolding circuit-open
 second-waits = (refl, refl)
-
-refused-second : {k p : ℕ} → taken ∷ denied k p ∷ [] ≡ taken ∷ taken ∷ [] → ⊥
-refused-second e = let z : _≡_ {A = ℕ} 0 1 = cc in omega arith
 
 -- "not both entering one resource" is needed ..
 needs-no-rivals : ((t tags args : List ℕ) (s : State512) → startOf t tags args ≡ started s → Holding t tags → (ns : List ℕ) (a b : ℕ)

@@ -21,8 +21,11 @@ use Rattle.rules.proofs.FirstFacts.{possible-node, possible-stands, pos
 use Rattle.rules.proofs.Kept.{waits-listed}
 use Rattle.rules.proofs.Mover.{mover}
 use Rattle.rules.proofs.MoversApart.{Movers}
-use Rattle.rules.proofs.BothWays.{went, moved, open-a, BothWays, both-ways}
+use Rattle.rules.proofs.BothWays.{went, moved, unfinished-a, BothWays, both-ways}
 use Rattle.rules.proofs.RivalsWait.{FirstEnters, first-enters}
+
+pub refused-second : {k p : ℕ} → taken ∷ denied k p ∷ [] ≡ taken ∷ taken ∷ [] → ⊥
+refused-second e = let z : _≡_ {A = ℕ} 0 1 = cc in omega arith
 
 -- in any sound state
 module _ (t : List ℕ) (F N : ℕ) (check : checkOf t ≡ accepted F N) (tags : List ℕ) (s : State512)
@@ -51,9 +54,9 @@ module _ (t : List ℕ) (F N : ℕ) (check : checkOf t ≡ accepted F N) (tags :
 
     -- the first isn't main's answer
     first-taken : stepOf t tags s a .answer ≡ taken
-    first-taken = let h = hands .2 in ap (λ r. r .answer) (circuit s a ∙ moved (tagged tags) s good (h .one) (open-a s good h))
+    first-taken = let h = hands .2 in ap (λ r. r .answer) (circuit s a ∙ moved (tagged tags) s good (h .one) (unfinished-a s good h))
 
-  -- two steps after each other, the first of them without an answer
+  -- two steps, one after the other, of which the first isn't main's answer
   pair-answers : (a b : ℕ) (s₁ : State512) → stepOf t tags s a ≡ went s₁ → playOf t tags s (a ∷ b ∷ []) .answers
       ≡ taken ∷ stepOf t tags s₁ b .answer ∷ []
   unfolding playOf
@@ -114,10 +117,7 @@ module _ (t : List ℕ) (F N : ℕ) (check : checkOf t ≡ accepted F N) (tags :
         }
 
     never-either : EitherOrder t tags s a b → ⊥
-    never-either x = not-refused (sym (x .a-then-b) ∙ second-waits .answers)
-      where
-        not-refused : {k p : ℕ} → taken ∷ taken ∷ [] ≡ taken ∷ denied k p ∷ [] → ⊥
-        not-refused e = let z : _≡_ {A = ℕ} 0 1 = cc in omega arith
+    never-either x = refused-second (sym (second-waits .answers) ∙ x .a-then-b)
 
     -- the second waits at an occupied resource, so it is listed
     second-tagged : Holding t tags → tagged tags b ≡ true
@@ -141,7 +141,7 @@ module _ (t : List ℕ) (F N : ℕ) (check : checkOf t ≡ accepted F N) (tags :
       go (yes i) = i
       go (no i) = absurd (not-both (sym (first-taken n m (record { different = i; a-steps = n-steps; b-steps = p })) ∙ e))
 
-  pub who-goes-first : WhoGoesFirst t tags s
+  who-goes-first : WhoGoesFirst t tags s
   who-goes-first = record {
     either = either;
     only = λ a b two x r. never-either a b two r x;

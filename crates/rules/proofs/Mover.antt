@@ -10,6 +10,7 @@ use Rattle.table.proofs.SyntaxLaws.{node-id, sub-node, every-node}
 use Rattle.rules.specs.Arithmetic.{Arithmetic}
 use Rattle.rules.specs.State.{View}
 use Rattle.rules.specs.Step.{does, Move, begins, turns, finishes, enters, leaves, restarts, act}
+use Rattle.rules.proofs.LaidFacts.{own-node}
 use Rattle.rules.proofs.Shape.{Still}
 use Rattle.rules.proofs.Moves.{finished}
 use Rattle.rules.proofs.Invariant.{Sound}
@@ -27,7 +28,7 @@ pub record Entering (body : ℕ → Expr) (s : View) (x : Move) (f : ℕ) : Type
   pub free : s .occupant f ≡ 0
   pub still : Every (Still s) (body f)
 
--- node n holds f, whose body is done
+-- node n holds f, whose body is at rest
 pub record Leaving (F : ℕ) (body : ℕ → Expr) (s : View) (n f : ℕ) : Type 0 where
   pub fn : Fn F body f
   pub holder : s .occupant f ≡ n
@@ -70,23 +71,22 @@ module _ {units : Arithmetic} {F N : ℕ} {body at : ℕ → Expr} {home : ℕ �
   pub moving : Still s n → ⊥
   moving k = p .acting .moving (subst (Still s) (sym number) k)
 
-  own-node : Node n (at n)
-  own-node = subst (λ m. Node m (at n)) number (node-id (at n))
+  pub node-at : Node n (at n)
+  node-at = subst (λ m. Node m (at n)) number (node-id (at n))
 
   pub at-home : (m : ℕ) → Node m (at n) → home m ≡ home n
   at-home m k = laid .inside (home n) m (p .acting .fn) (sub-node (at n) m (body (home n)) (p .acting .place) k) .0
 
   -- a body at rest isn't its own
   pub awake : (f : ℕ) → Every (Still s) (body f) → home n ≡ f → ⊥
-  awake f h e = moving (every-node (Still s) n (body f) h
-      (subst (λ g. Node n (body g)) e (sub-node (at n) n (body (home n)) (p .acting .place) own-node)))
+  awake f h e = moving (every-node (Still s) n (body f) h (own-node laid f n (p .there) e))
 
   -- the nodes that it marks are of its expression
   pub marked : (m : ℕ) → Marks n x m → Node m (at n)
   marked m = go x (p .tells)
     where
       itself : m ≡ n → Node m (at n)
-      itself e = subst (λ y. Node y (at n)) (sym e) own-node
+      itself e = subst (λ y. Node y (at n)) (sym e) node-at
 
       go : (y : Move) → Tells body (home n) s (at n) y → Marks n y m → Node m (at n)
       go (begins ns) d (inl e) = itself e

@@ -17,7 +17,7 @@ use Rattle.rules.proofs.Frame.{Same}
 use Rattle.rules.proofs.Acting.{Acting}
 use Rattle.rules.proofs.Progress.{Able}
 use Rattle.rules.proofs.Ready.{able-apart, able-alone}
-use Rattle.rules.proofs.Definiens.{definiens-done}
+use Rattle.rules.proofs.Definiens.{definiens-still}
 use Rattle.rules.proofs.Performed.{Does}
 use Rattle.rules.proofs.Tells.{Restarts}
 use Rattle.rules.proofs.Touches.{Renews, Reseats, Writes, Alters, keeps-node, keeps-value, keeps-register, keeps-occupant}
@@ -51,7 +51,6 @@ module _ {units : Arithmetic} {F N : ℕ} {body at : ℕ → Expr} {home : ℕ �
     abbrev q : Mover units laid s b y
     q = h .other
 
-    -- b isn't of a function that a makes new
     restarted : Restarts s (at a) → home b ≡ home a → ⊥
     restarted z e = h .different (sym (number p) ∙ ap id (z .is) ∙ same ∙ number q)
       where
@@ -59,6 +58,7 @@ module _ {units : Arithmetic} {F N : ℕ} {body at : ℕ → Expr} {home : ℕ �
         same = able-alone (subst (Acting F body s (home a)) (z .is) (p .acting)) (z .waits) (z .ready)
             (subst (λ f. Acting F body s f (at b)) e (q .acting)) (q .able)
 
+    -- b isn't of a function that a makes new
     fresh : (f : ℕ) → Renews x f → home b ≡ f → ⊥
     fresh f k e = ⊎-elim (λ z. awake q f (z .still) e) (λ z. restarted (z .1) (e ∙ sym (z .0))) (renewing p f k)
 
@@ -107,11 +107,11 @@ module _ {units : Arithmetic} {F N : ℕ} {body at : ℕ → Expr} {home : ℕ �
         beside : (u : Expr) → at b ≡ u → Able body s u → Beside body (home b) s s′ u
         beside (const n v) e l = tt
         beside (param n i) e l = keeps-register N home body s s′ a x moved (home b) i (λ k. fresh (home b) k refl)
-        beside (bound n d) e l = keeps-value N home body s s′ a x moved d (λ i. moving p (subst (Still s) i (done .0)))
-            (λ k. fresh (k .0) (k .1) (sym (laid .inside (home b) d (q .acting .fn) (done .1) .0) ∙ k .2 .2))
+        beside (bound n d) e l = keeps-value N home body s s′ a x moved d (λ i. moving p (subst (Still s) i (at-rest .0)))
+            (λ k. fresh (k .0) (k .1) (sym (laid .inside (home b) d (q .acting .fn) (at-rest .1) .0) ∙ k .2 .2))
           where
-            done : Still s d × Node d (body (home b))
-            done = definiens-done (subst (Acting F body s (home b)) e (q .acting))
+            at-rest : Still s d × Node d (body (home b))
+            at-rest = definiens-still (subst (Acting F body s (home b)) e (q .acting))
         beside (prim n op es) e l = tt
         beside (call n g es) e l = (λ w. root w l, λ w. keeps-occupant N home body s s′ a x moved g (seat w l))
           where

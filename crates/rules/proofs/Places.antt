@@ -8,18 +8,14 @@ use native.Mathlib.Omega.{arith}
 use Rattle.table.specs.Syntax.{Expr, Exprs, const, param, prim, call, self, cond, bind, bound, none, some, id, Every, Every*, Node, Node*}
 use Rattle.table.specs.Syntax.{Sub, Sub*}
 use Rattle.rules.specs.State.{View}
-use Rattle.rules.proofs.Shape.{Still, Idle, Done*, Live, Opened*, Opened, busy-moves}
+use Rattle.rules.proofs.Shape.{Still, Idle, Done*, Live, Opened*, busy-moves}
 use Rattle.rules.proofs.Branches.{chosen-case, chosen-both}
 use Rattle.table.proofs.SyntaxLaws.{every-node, every-node*}
-use Rattle.rules.proofs.Within.{idle-not, idle-not*, done-not, done-not*}
+use Rattle.rules.proofs.Within.{idle-not, idle-not*, done-not, under-way, done-not*}
 use Rattle.rules.proofs.Moves.{Inner, finished, finished*}
 
 -- a part that is under way is live itself
 module _ (s : View) (u : Expr) (moving : Still s (id u) → ⊥) where
-  opened-live : (e : Expr) → (Live s e → Live s u) → Sub u e → Opened s e → Live s u
-  opened-live e f p (inl l) = f l
-  opened-live e f p (inr d) = absurd (done-not s u moving e d p)
-
   mutual
     pub sub-live : (e : Expr) → Sub u e → Live s e → Live s u
     sub-live (const n v) p l = subst (Live s) (sym p) l
@@ -36,17 +32,17 @@ module _ (s : View) (u : Expr) (moving : Still s (id u) → ⊥) where
     sub-live (self n es) (inr p) (inr l) = sub-live* es p (l .1)
     sub-live (cond n a b c) (inl p) l = subst (Live s) (sym p) l
     sub-live (cond n a b c) (inr (inl p)) (inl l) = absurd (idle-not s u moving a (l .1) p)
-    sub-live (cond n a b c) (inr (inl p)) (inr (inl l)) = opened-live a (λ x. sub-live a p x) p (l .1)
+    sub-live (cond n a b c) (inr (inl p)) (inr (inl l)) = sub-live a p (under-way s u moving a p (l .1))
     sub-live (cond n a b c) (inr (inl p)) (inr (inr l)) = absurd (done-not s u moving a (l .1) p)
     sub-live (cond n a b c) (inr (inr (inl p))) (inl l) = absurd (idle-not s u moving b (l .2) p)
     sub-live (cond n a b c) (inr (inr (inl p))) (inr (inl l)) = absurd (idle-not s u moving b (l .2) p)
     sub-live (cond n a b c) (inr (inr (inl p))) (inr (inr l)) =
-        chosen-case (λ o. opened-live b (λ x. sub-live b p x) p (o .0)) (λ o. absurd (idle-not s u moving b (o .1) p))
+        chosen-case (λ o. sub-live b p (under-way s u moving b p (o .0))) (λ o. absurd (idle-not s u moving b (o .1) p))
         (s .value (id a)) (l .2)
     sub-live (cond n a b c) (inr (inr (inr p))) (inl l) = absurd (idle-not s u moving c (l .3) p)
     sub-live (cond n a b c) (inr (inr (inr p))) (inr (inl l)) = absurd (idle-not s u moving c (l .3) p)
     sub-live (cond n a b c) (inr (inr (inr p))) (inr (inr l)) =
-        chosen-case (λ o. absurd (idle-not s u moving c (o .1) p)) (λ o. opened-live c (λ x. sub-live c p x) p (o .0))
+        chosen-case (λ o. absurd (idle-not s u moving c (o .1) p)) (λ o. sub-live c p (under-way s u moving c p (o .0)))
         (s .value (id a)) (l .2)
     sub-live (bind n ds b) (inl p) l = subst (Live s) (sym p) l
     sub-live (bind n ds b) (inr (inl p)) (inl l) = absurd (idle-not* s u moving ds (l .1) p)
@@ -54,12 +50,12 @@ module _ (s : View) (u : Expr) (moving : Still s (id u) → ⊥) where
     sub-live (bind n ds b) (inr (inl p)) (inr (inr l)) = absurd (done-not* s u moving ds (l .1) p)
     sub-live (bind n ds b) (inr (inr p)) (inl l) = absurd (idle-not s u moving b (l .2) p)
     sub-live (bind n ds b) (inr (inr p)) (inr (inl l)) = absurd (idle-not s u moving b (l .2) p)
-    sub-live (bind n ds b) (inr (inr p)) (inr (inr l)) = opened-live b (λ x. sub-live b p x) p (l .2)
+    sub-live (bind n ds b) (inr (inr p)) (inr (inr l)) = sub-live b p (under-way s u moving b p (l .2))
     sub-live (bound n d) p l = subst (Live s) (sym p) l
 
     pub sub-live* : (es : Exprs) → Sub* u es → Opened* s es → Live s u
     sub-live* none p o = absurd p
-    sub-live* (some e es) (inl p) o = opened-live e (λ x. sub-live e p x) p (o .0)
+    sub-live* (some e es) (inl p) o = sub-live e p (under-way s u moving e p (o .0))
     sub-live* (some e es) (inr p) o = sub-live* es p (o .1)
 
 -- nothing is busy in what is still or idle

@@ -1,5 +1,5 @@
--- a node that has a step: below it nothing is under way, so two of them have no node in common; beside a self call that restarts, no other
--- node of its body is one
+-- a node that has a step: below it nothing is under way, so the expressions of two such nodes share no node; where a self call restarts,
+-- no other node of its body has a step
 use Prim.Native.Nat.{ℕ}
 use mathlib.Core.Bool.{true≢false}
 use mathlib.Core.Path.{_≡_, refl, subst, sym, _∙_}

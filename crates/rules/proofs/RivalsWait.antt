@@ -19,7 +19,7 @@ use Rattle.rules.proofs.StepTaken.{Waits, wait-act}
 use Rattle.rules.proofs.StepFacts.{Good, step, step-outcome}
 use Rattle.rules.proofs.Tells.{EntersTo}
 use Rattle.rules.proofs.MoversApart.{Movers, expression-kept}
-use Rattle.rules.proofs.BothWays.{went, moved, does-a, good-a, open-a}
+use Rattle.rules.proofs.BothWays.{went, moved, does-a, good-a, unfinished-a}
 
 finished-kept : (s s′ : View) (es : Exprs) → ((m : ℕ) → Node* m es → Same s s′ m) → Finished* s es → Finished* s′ es
 finished-kept s s′ none f x = tt
@@ -35,7 +35,7 @@ pub record FirstEnters (units : Arithmetic) {F N : ℕ} {body at : ℕ → Expr}
   pub second : step units laid tags after b ≡ refusal after (pick (tags b) 22 23) b
 
 module _ {units : Arithmetic} {F N : ℕ} {body at : ℕ → Expr} {home : ℕ → ℕ} {laid : Laid F N body at home} (tags : ℕ → Bool) (s : State512)
-    (sound : Good F body s) {a b g : ℕ} {vs ws : List ℕ} (h : Movers units laid (view s) a b (enters g vs) (enters g ws)) where
+    (good : Good F body s) {a b g : ℕ} {vs ws : List ℕ} (h : Movers units laid (view s) a b (enters g vs) (enters g ws)) where
   abbrev next : State512
   next = perform N home body s a (enters g vs)
 
@@ -44,7 +44,7 @@ module _ {units : Arithmetic} {F N : ℕ} {body at : ℕ → Expr} {home : ℕ �
 
   -- b's expression is as it was
   kept : (m : ℕ) → Node m (call (call-b .node) g (call-b .args)) → Same (view s) (view next) m
-  kept m k = expression-kept h (view next) (does-a s sound h .1) m (subst (Node m) (sym (call-b .is)) k)
+  kept m k = expression-kept h (view next) (does-a s good h .1) m (subst (Node m) (sym (call-b .is)) k)
 
   busy : Busy (view next) (call-b .node) false
   busy = let k = kept (call-b .node) (inl refl) in (k .0 ∙ call-b .waits .0, k .1 ∙ call-b .waits .1)
@@ -52,9 +52,9 @@ module _ {units : Arithmetic} {F N : ℕ} {body at : ℕ → Expr} {home : ℕ �
   ready : Finished* (view next) (call-b .args)
   ready = finished-kept (view s) (view next) (call-b .args) (λ m k. kept m (inr k)) (call-b .ready)
 
-  -- and its callee is a's
+  -- and its callee is occupied, by a
   occupied : view next .occupant g ≡ 0 → ⊥
-  occupied z = omega (arith, does-a s sound h .1 .occupies, z, h .one .there .0)
+  occupied z = omega (arith, does-a s good h .1 .occupies, z, h .one .there .0)
 
   held : act units body (home b) (view next) (at b) ≡ blocked
   held = ap (act units body (home b) (view next)) (call-b .is)
@@ -63,9 +63,9 @@ module _ {units : Arithmetic} {F N : ℕ} {body at : ℕ → Expr} {home : ℕ �
   pub first-enters : FirstEnters units laid tags s a b
   first-enters = record {
     after = next;
-    good = good-a s sound h;
-    first = moved tags s sound (h .one) (open-a s sound h);
+    good = good-a s good h;
+    first = moved tags s good (h .one) (unfinished-a s good h);
     waits = (call-b .node, g, call-b .args, call-b .is, busy, ready, occupied);
-    second = step-outcome units laid tags next (good-a s sound h) b (h .other .there) (open-a s sound h)
+    second = step-outcome units laid tags next (good-a s good h) b (h .other .there) (unfinished-a s good h)
         ∙ ap (outcome units F N body at home tags next b) held;
   }

@@ -6,10 +6,10 @@ use mathlib.Core.List.{List}
 use native.Mathlib.Omega.{arith}
 use Rattle.table.specs.Syntax.{Expr, Exprs, const, param, prim, call, self, cond, bind, bound, none, some, id, Sub, Sub*}
 use Rattle.rules.specs.State.{View}
-use Rattle.rules.proofs.Shape.{Still, Live, Opened, busy-moves}
+use Rattle.rules.proofs.Shape.{Still, Live, busy-moves}
 use Rattle.rules.specs.Reading.{again, Readings}
 use Rattle.rules.proofs.Branches.{chosen-case, chosen-map}
-use Rattle.rules.proofs.Within.{idle-not, idle-not*, done-not, done-not*}
+use Rattle.rules.proofs.Within.{idle-not, idle-not*, done-not, under-way, done-not*}
 use Rattle.table.specs.Environment.{extend, values}
 use Rattle.rules.proofs.Left.{Left}
 use Rattle.rules.proofs.Counts.{over-left*}
@@ -36,7 +36,7 @@ module _ (n : ℕ) (es : Exprs) where
     no-self (bind m ds b) h (inr (inr p)) = no-self b (h .1) p
     no-self (bound m d) h p = let z : _≡_ {A = ℕ} 0 1 = cc in omega arith
 
-    pub no-self* : (xs : Exprs) → NoSelf* xs → Sub* (self n es) xs → ⊥
+    no-self* : (xs : Exprs) → NoSelf* xs → Sub* (self n es) xs → ⊥
     no-self* none h p = p
     no-self* (some e xs) h (inl p) = no-self e (h .0) p
     no-self* (some e xs) h (inr p) = no-self* xs (h .1) p
@@ -61,10 +61,6 @@ module _ (s : View) (n : ℕ) (es : Exprs) (at : s .status n ≡ 2) (ready : Fin
         mine (inl l) (inr q) = absurd (idle-not* s w moving es (l .1) q)
         mine (inr l) (inr q) = absurd (done-not* s w moving es (finished* s es (l .1) ready) q)
 
-    in-opened : (e : Expr) → (Live s e → Sub w e → Above) → Sub U e → Opened s e → Sub w e → Above
-    in-opened e g p (inl l) q = g l q
-    in-opened e g p (inr d) q = absurd (done-not s U moves e d p)
-
     pub self-above : (e : Expr) → Tail e → Sub U e → Live s e → Sub w e → Above
     self-above (const m v) t p l q = own (const m v) p t l q
     self-above (param m i) t p l q = own (param m i) p t l q
@@ -81,13 +77,13 @@ module _ (s : View) (n : ℕ) (es : Exprs) (at : s .status n ≡ 2) (ready : Fin
     self-above (cond m x y z) t (inr (inr p)) (inr (inr l)) (inl q) = subst (λ e. Sub U e × Tail e) (sym q) (inr (inr p), t)
     self-above (cond m x y z) t (inr (inr p)) (inr (inr l)) (inr (inl q)) = absurd (done-not s w moving x (l .1) q)
     self-above (cond m x y z) t (inr (inr (inl p))) (inr (inr l)) (inr (inr q)) =
-        chosen-case (λ o. ⊎-elim (λ k. in-opened y (λ l′ k′. self-above y (t .1) p l′ k′) p (o .0) k)
+        chosen-case (λ o. ⊎-elim (λ k. self-above y (t .1) p (under-way s U moves y p (o .0)) k)
         (λ k. absurd (idle-not s w moving z (o .1) k)) q) (λ o. absurd (idle-not s U moves y (o .1) p)) (s .value (id x)) (l .2)
     self-above (cond m x y z) t (inr (inr (inr p))) (inl l) q = absurd (idle-not s U moves z (l .3) p)
     self-above (cond m x y z) t (inr (inr (inr p))) (inr (inl l)) q = absurd (idle-not s U moves z (l .3) p)
     self-above (cond m x y z) t (inr (inr (inr p))) (inr (inr l)) (inr (inr q)) =
         chosen-case (λ o. absurd (idle-not s U moves z (o .1) p)) (λ o. ⊎-elim (λ k. absurd (idle-not s w moving y (o .1) k))
-        (λ k. in-opened z (λ l′ k′. self-above z (t .2) p l′ k′) p (o .0) k) q) (s .value (id x)) (l .2)
+        (λ k. self-above z (t .2) p (under-way s U moves z p (o .0)) k) q) (s .value (id x)) (l .2)
     self-above (bind m ds b) t (inl p) l q = own (bind m ds b) p t l q
     self-above (bind m ds b) t (inr (inl p)) l q = absurd (no-self* n es ds (t .0) p)
     self-above (bind m ds b) t (inr (inr p)) (inl l) q = absurd (idle-not s U moves b (l .2) p)
@@ -95,10 +91,10 @@ module _ (s : View) (n : ℕ) (es : Exprs) (at : s .status n ≡ 2) (ready : Fin
     self-above (bind m ds b) t (inr (inr p)) (inr (inr l)) (inl q) = subst (λ e. Sub U e × Tail e) (sym q) (inr (inr p), t)
     self-above (bind m ds b) t (inr (inr p)) (inr (inr l)) (inr (inl q)) = absurd (done-not* s w moving ds (l .1) q)
     self-above (bind m ds b) t (inr (inr p)) (inr (inr l)) (inr (inr q)) =
-        in-opened b (λ l′ k′. self-above b (t .1) p l′ k′) p (l .2) q
+        self-above b (t .1) p (under-way s U moves b p (l .2)) q
     self-above (bound m d) t p l q = own (bound m d) p t l q
 
-  -- no call is, since none stands above it
+  -- no call is under way in the body, since none stands above the self call
   pub self-alone : (c f : ℕ) → s .status c ≡ 2 → (e : Expr) → Tail e → Sub U e → Live s e → CallIn c f e → ⊥
   self-alone c f busy e t p l k =
       let x = find c f e k in
@@ -112,10 +108,6 @@ module _ (s : View) (n : ℕ) (es : Exprs) (at : s .status n ≡ 2) (ready : Fin
 
     mine : (e : Expr) → U ≡ e → (ρ : ℕ → ℕ) → One e ρ
     mine e p ρ = subst (λ x. One x ρ) p (inr (inr (at, (values (s .value) es, 0, over-left* apply K s W args es ρ ready, refl, refl))))
-
-    left-opened : (e : Expr) (ρ : ℕ → ℕ) → (Live s e → One e ρ) → Sub U e → Opened s e → One e ρ
-    left-opened e ρ g p (inl l) = g l
-    left-opened e ρ g p (inr d) = absurd (done-not s U moves e d p)
 
     pub self-left : (e : Expr) → Tail e → Sub U e → Live s e → (ρ : ℕ → ℕ) → One e ρ
     self-left (const m v) t p l ρ = mine (const m v) p ρ
@@ -137,7 +129,7 @@ module _ (s : View) (n : ℕ) (es : Exprs) (at : s .status n ≡ 2) (ready : Fin
             l .0 .1,
             (
               1,
-              chosen-map (λ o. left-opened y ρ (λ l′. self-left y (t .1) p l′ ρ) p (o .0))
+              chosen-map (λ o. self-left y (t .1) p (under-way s U moves y p (o .0)) ρ)
                   (λ o. absurd (idle-not s U moves y (o .1) p)) (s .value (id x)) (s .value (id x)) refl (l .2),
               refl,
             ),
@@ -153,7 +145,7 @@ module _ (s : View) (n : ℕ) (es : Exprs) (at : s .status n ≡ 2) (ready : Fin
             (
               1,
               chosen-map (λ o. absurd (idle-not s U moves z (o .1) p))
-                  (λ o. left-opened z ρ (λ l′. self-left z (t .2) p l′ ρ) p (o .0)) (s .value (id x)) (s .value (id x)) refl (l .2),
+                  (λ o. self-left z (t .2) p (under-way s U moves z p (o .0)) ρ) (s .value (id x)) (s .value (id x)) refl (l .2),
               refl,
             ),
           ),
@@ -169,8 +161,7 @@ module _ (s : View) (n : ℕ) (es : Exprs) (at : s .status n ≡ 2) (ready : Fin
             l .0 .1,
             (
               1,
-              left-opened b (extend ds (values (s .value) ds) ρ) (λ l′. self-left b (t .1) p l′ (extend ds (values
-                  (s .value) ds) ρ)) p (l .2),
+              self-left b (t .1) p (under-way s U moves b p (l .2)) (extend ds (values (s .value) ds) ρ),
               refl,
             ),
           ),

@@ -8,7 +8,7 @@ use native.Mathlib.Decide.{ℕ-discrete}
 use lib.Dec.{eqb}
 use borrow.Author.Tests.{eqb-true, eqb-false, eq-eqb, ne-eqb}
 use Rattle.table.specs.Pick.{pick, Range}
-use Rattle.table.specs.Syntax.{Expr, const, param, prim, call, self, cond, bind, bound, id}
+use Rattle.table.specs.Syntax.{Expr, id}
 use Rattle.table.specs.Well.{Laid}
 use Rattle.rules.specs.Arithmetic.{Arithmetic}
 use Rattle.rules.specs.State.{State512, Sized, View, view, In}
@@ -25,19 +25,6 @@ use Rattle.rules.proofs.SetsOpening.{opening}
 use Rattle.rules.proofs.SetsEnding.{ending}
 use Rattle.rules.proofs.SetsRenewing.{MadeNew, Goes, renewing}
 use Rattle.rules.proofs.SetsHeld.{held-same, held-entered, held-left}
-
--- a call that is busy and in second phase is inside
-now-inside : (s : View) (u : Expr) (g : ℕ) → calls u g ≡ true → s .status (id u) ≡ 2 → s .second (id u) ≡ true → entered s u ≡ true
-now-inside s (const n v) g c e w = absurd (true≢false (sym c))
-now-inside s (param n i) g c e w = absurd (true≢false (sym c))
-now-inside s (prim n op es) g c e w = absurd (true≢false (sym c))
-now-inside s (call n f es) g c e w =
-    let p = eq-eqb (s .status n) 2 e in
-    (λ i. p i && w i)
-now-inside s (self n es) g c e w = absurd (true≢false (sym c))
-now-inside s (cond n a b d) g c e w = absurd (true≢false (sym c))
-now-inside s (bind n ds b) g c e w = absurd (true≢false (sym c))
-now-inside s (bound n d) g c e w = absurd (true≢false (sym c))
 
 module _ (units : Arithmetic) {F N : ℕ} {body at : ℕ → Expr} {home up : ℕ → ℕ} (laid : Laid F N body at home)
     (kin : Upward F N body at home up) where
@@ -80,8 +67,10 @@ module _ (units : Arithmetic) {F N : ℕ} {body at : ℕ → Expr} {home up : �
         goes-in : Goes units laid s s′ g fn (λ m. eqb m n) entered-body n
         goes-in =
             let c : calls (at n) g ≡ true = ap (λ u. calls u g) (k .is) ∙ eq-eqb g g refl in
-            let e = ap (s′ .status) own ∙ d .status ∙ ap (s .status) (sym own) ∙ ap (λ u. s .status (id u)) (k .is) ∙ k .waits .0 in
-            let i = now-inside s′ (at n) g c e (ap (s′ .second) own ∙ d .second) in
+            let m : k .node ≡ n = sym (ap id (k .is)) ∙ own in
+            let p = eq-eqb (s′ .status (k .node)) 2 (ap (s′ .status) m ∙ d .status ∙ ap (s .status) (sym m) ∙ k .waits .0) in
+            let w = ap (s′ .second) m ∙ d .second in
+            let i : entered s′ (at n) ≡ true = ap (entered s′) (k .is) ∙ (λ i. p i && w i) in
             let z = inside-sort s′ body (at n) g c i
             ∙ ap (λ b. pick b 2 0) (ne-eqb (s′ .status (id (body g))) 3 (λ q. omega (arith, d .new .root .0, q))) in
             record {

@@ -165,9 +165,7 @@ module _ (units : Arithmetic) {F N : ℕ} {body at : ℕ → Expr} {home : ℕ �
     able-moves (prim n op es) (inr b) = at-busy Moves (s .status n) _ _ (b .0)
         (pick-true Moves (all-done s es) _ _ (finished-all-done s es (b .1)) tt)
     able-moves (call n g es) (inl o) = at-open Moves (s .status n) _ _ (o .0) tt
-    able-moves (call n g es) (inr (inl b)) = at-busy Moves (s .status n) _ _ (b .0 .0) (pick-false Moves (s .second n) _ _ (b .0 .1)
-        (pick-true Moves (all-done s es) _ _ (finished-all-done s es (b .1))
-        (pick-true Moves (eqb (s .occupant g) 0) _ _ (eq-eqb (s .occupant g) 0 (b .2)) tt)))
+    able-moves (call n g es) (inr (inl b)) = subst Moves (sym (enter-act units body h s n g es (b .0) (b .1) (b .2))) tt
     able-moves (call n g es) (inr (inr b)) = at-busy Moves (s .status n) _ _ (b .0 .0) (pick-true Moves (s .second n) _ _ (b .0 .1)
         (pick-true Moves (done s (id (body g))) _ _ (eq-eqb (s .status (id (body g))) 3 (b .1)) tt))
     able-moves (self n es) (inl o) = at-open Moves (s .status n) _ _ (o .0) tt

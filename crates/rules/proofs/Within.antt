@@ -23,6 +23,11 @@ module _ (s : View) (u : Expr) (moving : Still s (id u) → ⊥) where
   pub done-not : (e : Expr) → Done s e → Sub u e → ⊥
   done-not e d p = moving (every-node (Still s) (id u) e (d .1) (sub-node u (id u) e p (node-id u)))
 
+  -- what was opened and has a part under way isn't done
+  pub under-way : (e : Expr) → Sub u e → Opened s e → Live s e
+  under-way e p (inl l) = l
+  under-way e p (inr d) = absurd (done-not e d p)
+
   pub done-not* : (es : Exprs) → Done* s es → Sub* u es → ⊥
   done-not* none d p = p
   done-not* (some e es) d (inl p) = done-not e (d .0) p
@@ -35,10 +40,6 @@ module _ (s s′ : View) (u : Expr)
     (local : Live s u → Opened s′ u) where
   abbrev X : ℕ → Type 0
   X m = Node m u
-
-  opened : (e : Expr) → (Live s e → Opened s′ e) → Sub u e → Opened s e → Opened s′ e
-  opened e f p (inl l) = f l
-  opened e f p (inr d) = absurd (done-not s u moving e d p)
 
   mutual
     pub within : (e : Expr) → Apart e → Sub u e → Live s e → Opened s′ e
@@ -62,7 +63,7 @@ module _ (s s′ : View) (u : Expr)
     within (cond n a b c) h (inr (inl p)) (inr (inl l)) =
         inl (inr (inl (
           busy-frame s s′ X keeps n false (λ k. h .0 (sub-node u n a p k)) (l .0),
-          opened a (λ x. within a (h .3) p x) p (l .1),
+          within a (h .3) p (under-way s u moving a p (l .1)),
           idle-over s s′ X keeps b (λ m k x. h .6 m (sub-node u m a p x) k) (l .2),
           idle-over s s′ X keeps c (λ m k x. h .7 m (sub-node u m a p x) k) (l .3),
         )))
@@ -75,7 +76,7 @@ module _ (s s′ : View) (u : Expr)
           done-over s s′ X keeps a (λ m k x. h .6 m k (sub-node u m b p x)) (l .1),
           chosen-map
               (λ t. (
-                opened b (λ x. within b (h .4) p x) p (t .0),
+                within b (h .4) p (under-way s u moving b p (t .0)),
                 idle-over s s′ X keeps c (λ m k x. h .8 m (sub-node u m b p x) k) (t .1),
               ))
               (λ t. absurd (idle-not s u moving b (t .1) p))
@@ -90,7 +91,7 @@ module _ (s s′ : View) (u : Expr)
           chosen-map
               (λ t. absurd (idle-not s u moving c (t .1) p))
               (λ t. (
-                opened c (λ x. within c (h .5) p x) p (t .0),
+                within c (h .5) p (under-way s u moving c p (t .0)),
                 idle-over s s′ X keeps b (λ m k x. h .8 m k (sub-node u m c p x)) (t .1),
               ))
               (s .value (id a)) (s′ .value (id a)) (sym (keeps (id a) (λ x. h .7 (id a) (node-id a) (sub-node u (id a) c p x)) .2)) (l .2),
@@ -110,14 +111,15 @@ module _ (s s′ : View) (u : Expr)
         inl (inr (inr (
           busy-frame s s′ X keeps n true (λ k. h .1 (sub-node u n b p k)) (l .0),
           done-over* s s′ X keeps ds (λ m k x. h .4 m k (sub-node u m b p x)) (l .1),
-          opened b (λ x. within b (h .3) p x) p
-              (l .2),
+          within b (h .3) p (under-way s u moving b p (l .2)),
         )))
     within (bound n d) a p l = subst (λ x. Live s x → Opened s′ x) p local l
 
     pub within* : (es : Exprs) → Apart* es → Sub* u es → Opened* s es → Opened* s′ es
     within* none a p o = absurd p
-    within* (some e es) a (inl p) o =
-        (opened e (λ l. within e (a .0) p l) p (o .0), opened-over* s s′ X keeps holds es (λ m k x. a .2 m (sub-node u m e p x) k) (o .1))
+    within* (some e es) a (inl p) o = (
+      within e (a .0) p (under-way s u moving e p (o .0)),
+      opened-over* s s′ X keeps holds es (λ m k x. a .2 m (sub-node u m e p x) k) (o .1),
+    )
     within* (some e es) a (inr p) o =
         (opened-over s s′ X keeps holds e (λ m k x. a .2 m k (sub-node* u m es p x)) (o .0), within* es (a .1) p (o .1))

@@ -17,7 +17,7 @@ EntersAt t s n g = (vs : List ℕ) × (actOf t s n ≡ does (enters g vs))
 abbrev pub Rivals : (t : List ℕ) → State512 → (a b : ℕ) → Type 0
 Rivals t s a b = (g : ℕ) × EntersAt t s a g × EntersAt t s b g
 
--- "two different nodes that both have a step": asked there, each would be taken
+-- "two different nodes that both have a step": a step asked for at each would be taken
 pub record TwoSteps (t tags : List ℕ) (s : State512) (a b : ℕ) : Type 0 where
   pub different : a ≡ b → ⊥
   pub a-steps : Possible t tags s a
@@ -28,7 +28,7 @@ pub record TwoHands (t tags : List ℕ) (s : State512) (a b : ℕ) : Type 0 wher
   pub two : TwoSteps t tags s a b
   pub no-rivals : Rivals t s a b → ⊥
 
--- "Either order is then possible and ends in equal states, answers included": a then b, and b then a, from state s on
+-- both orders are taken, with equal answers, and end in one state: a then b, and b then a, from state s on
 pub record EitherOrder (t tags : List ℕ) (s : State512) (a b : ℕ) : Type 0 where
   -- all four steps are taken, and none is main's answer
   pub a-then-b : playOf t tags s (a ∷ b ∷ []) .answers ≡ taken ∷ taken ∷ []
@@ -53,8 +53,7 @@ pub record WhoGoesFirst (t tags : List ℕ) (s : State512) : Type 0 where
   -- and where the tags hold the arbiter list, both have a tag, so it meets 22
   pub arbitrated : Holding t tags → (a b : ℕ) → TwoSteps t tags s a b → Rivals t s a b → (tagged tags a ≡ true) × (tagged tags b ≡ true)
 
--- the request's sentence with its premises: "a state reached from a start whose tags hold the arbiter list, table and tags being those of
--- the start at every step and at these two"
+-- the request's sentence with its premises: tags that hold the arbiter list, and the start's table and tags at every step
 abbrev pub EitherOrderReached : Type 0
 EitherOrderReached = (t tags args : List ℕ) (s : State512) → startOf t tags args ≡ started s → Holding t tags
     → (ns : List ℕ) (a b : ℕ) → TwoHands t tags (playOf t tags s ns .state) a b → EitherOrder t tags (playOf t tags s ns .state) a b
