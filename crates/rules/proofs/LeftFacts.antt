@@ -9,14 +9,14 @@ use Rattle.table.specs.Syntax.{Expr, Exprs, const, param, prim, call, self, con
 use Rattle.table.specs.Syntax.{Sub*}
 use Rattle.rules.specs.State.{View}
 use Rattle.table.specs.Environment.{values, extend}
-use Rattle.rules.proofs.Shape.{Still, Live, Opened*, Opened}
+use Rattle.rules.proofs.Shape.{Still, Live, Opened*}
 use Rattle.rules.specs.Reading.{Outcome, val, Readings}
 use Rattle.rules.proofs.Branches.{chosen-map, chosen-both}
 use Rattle.table.specs.Well.{Apart, Apart*}
 use Rattle.rules.proofs.Sees.{Sees, Sees*}
 use Rattle.rules.proofs.Frame.{Same, Avoids, Avoids*}
 use Rattle.table.proofs.SyntaxLaws.{node-id, sub-node, sub-node*}
-use Rattle.rules.proofs.Within.{idle-not, idle-not*, done-not, done-not*}
+use Rattle.rules.proofs.Within.{idle-not, idle-not*, done-not, under-way, done-not*}
 use Rattle.rules.proofs.Left.{Going, Left, Left*}
 
 -- what is left outside
@@ -140,11 +140,6 @@ module _ (apply : ℕ → List ℕ → ℕ) (K : Readings) (s s′ : View) (W W�
   here : (e : Expr) → u ≡ e → Back e
   here e p = subst Back p local
 
-  back-opened : (e : Expr) → Back e → Sub u e → (ρ : ℕ → ℕ) (o : Outcome) (k : ℕ) → Opened s e → Sees (s .value) e ρ
-      → Left apply K s′ W′ args e ρ o k → Left apply K s W args e ρ o (d + k)
-  back-opened e f p ρ o k (inl l) g h = f ρ o k l g h
-  back-opened e f p ρ o k (inr x) g h = absurd (done-not s u moving e x p)
-
   -- of a busy expression around the move, what is left after it is what is left of a busy one
   going : (e : Expr) → (Node (id e) u → ⊥) → s .status (id e) ≡ 2 → (ρ : ℕ → ℕ) (o : Outcome) (k : ℕ) → Left apply K s′ W′ args e ρ o k
       → Going apply K s′ W′ args e ρ o k
@@ -205,8 +200,7 @@ module _ (apply : ℕ → List ℕ → ℕ) (K : Readings) (s s′ : View) (W W�
               g .1 .0,
               d + g .1 .1,
               g .1 .2,
-              back-opened a (λ ρ′ o′ k′ l′ f′ h′. left-within a (q .3) p ρ′ o′ k′ l′ f′ h′) p ρ (val (g .1 .0)) (g .1 .1) (l .1)
-                  (f .0) (g .1 .3),
+              left-within a (q .3) p ρ (val (g .1 .0)) (g .1 .1) (under-way s u moving a p (l .1)) (f .0) (g .1 .3),
               g .1 .4,
               omega (arith, g .1 .5),
             ),
@@ -227,7 +221,7 @@ module _ (apply : ℕ → List ℕ → ℕ) (K : Readings) (s s′ : View) (W W�
             (
               d + g .1 .0,
               chosen-both
-                  (λ x t. back-opened b (λ ρ′ o′ k′ l′ f′ h′. left-within b (q .4) p ρ′ o′ k′ l′ f′ h′) p ρ o (g .1 .0) (x .0) (f .1) t)
+                  (λ x t. left-within b (q .4) p ρ o (g .1 .0) (under-way s u moving b p (x .0)) (f .1) t)
                   (λ x t. absurd (idle-not s u moving b (x .1) p))
                   (s .value (id a)) (s′ .value (id a)) (keeps (id a) (λ x. q .6 (id a) (node-id a) (sub-node u (id a) b p x)) .2)
                   (l .2) (g .1 .1),
@@ -246,7 +240,7 @@ module _ (apply : ℕ → List ℕ → ℕ) (K : Readings) (s s′ : View) (W W�
               d + g .1 .0,
               chosen-both
                   (λ x t. absurd (idle-not s u moving c (x .1) p))
-                  (λ x t. back-opened c (λ ρ′ o′ k′ l′ f′ h′. left-within c (q .5) p ρ′ o′ k′ l′ f′ h′) p ρ o (g .1 .0) (x .0) (f .2) t)
+                  (λ x t. left-within c (q .5) p ρ o (g .1 .0) (under-way s u moving c p (x .0)) (f .2) t)
                   (s .value (id a)) (s′ .value (id a)) (keeps (id a) (λ x. q .7 (id a) (node-id a) (sub-node u (id a) c p x)) .2)
                   (l .2) (g .1 .1),
               omega (arith, g .1 .2),
@@ -283,9 +277,8 @@ module _ (apply : ℕ → List ℕ → ℕ) (K : Readings) (s s′ : View) (W W�
             l .0 .1,
             (
               d + g .1 .0,
-              back-opened b (λ ρ′ o′ k′ l′ f′ h′. left-within b (q .3) p ρ′ o′ k′ l′ f′ h′) p (extend ds (values
-                  (s .value) ds) ρ) o (g .1 .0)
-                  (l .2) (f .1) (subst (λ vs. Left apply K s′ W′ args b (extend ds vs ρ) o (g .1 .0))
+              left-within b (q .3) p (extend ds (values (s .value) ds) ρ) o (g .1 .0) (under-way s u moving b p (l .2)) (f .1)
+                  (subst (λ vs. Left apply K s′ W′ args b (extend ds vs ρ) o (g .1 .0))
                   (values-over apply K s s′ W W′ args (λ m. Node m u) keeps expects ds (λ m k x. q .4 m k (sub-node u m b p x))) (g .1 .1)),
               omega (arith, g .1 .2),
             ),
@@ -302,7 +295,7 @@ module _ (apply : ℕ → List ℕ → ℕ) (K : Readings) (s s′ : View) (W W�
       h .1,
       d + h .2,
       h .3,
-      back-opened e (λ ρ′ o′ k′ l′ f′ h′. left-within e (a .0) p ρ′ o′ k′ l′ f′ h′) p ρ (val (h .0)) (h .2) (l .0) (f .0) (h .4),
+      left-within e (a .0) p ρ (val (h .0)) (h .2) (under-way s u moving e p (l .0)) (f .0) (h .4),
       left-over* apply K s s′ W W′ args (λ m. Node m u) keeps expects es (λ m k x. a .2 m (sub-node u m e p x) k) ρ (h .1) (h .3) (h .5),
       h .6,
       omega (arith, h .7),
