@@ -20,7 +20,7 @@ use Rattle.rules.proofs.StepFacts.{Good, step, moved-does, moved-good, 
 use Rattle.rules.proofs.Touches.{Writes, writes?, keeps-node}
 use Rattle.rules.proofs.Commute.{outside, moves-commute}
 use Rattle.rules.proofs.Mover.{Mover, mover, node-at, moving, awake}
-use Rattle.rules.proofs.MoversApart.{Movers, swap, expression-kept, Calm, calm-swap, still-moves, writes-apart, alters-apart}
+use Rattle.rules.proofs.MoversApart.{Movers, swap, expression-kept, Calm, calm-swap, keeps-move, writes-apart, alters-apart}
 
 -- a step that is taken, and no answer
 abbrev pub went : State512 → Stepped
@@ -80,15 +80,15 @@ module _ {units : Arithmetic} {F N : ℕ} {body at : ℕ → Expr} {home : ℕ �
           as-before : Still (view sa) b → Still (view s) b
           as-before z = (⊎-elim (λ e. inl (sym (b-kept .0) ∙ e)) (λ e. inr (sym (b-kept .0) ∙ e)) (z .0), sym (b-kept .1) ∙ z .1)
 
-      -- and where the two don't both enter one resource, b has its move still
+      -- and where the two don't both enter one resource, b has the move that it had
       module _ (calm : Calm x y) where
-        b-still : Mover units laid (view sa) b y
-        b-still = mover (good-a .sound) (h .other .there) (still-moves h calm (view sa) (does-a .1))
+        b-moves : Mover units laid (view sa) b y
+        b-moves = mover (good-a .sound) (h .other .there) (keeps-move h calm (view sa) (does-a .1))
 
         -- nor is the root done after both, where b doesn't write it
         unfinished-both : (Writes N home b y (id (body F)) → ⊥) → Unfinished F body (perform N home body sa b y)
         unfinished-both k e =
-            let d = moved-does units laid sa (good-a .sized) b (h .other .there) y (b-still .moves) .1 in
+            let d = moved-does units laid sa (good-a .sized) b (h .other .there) y (b-moves .moves) .1 in
             unfinished-a (sym (keeps-node N home body (view sa) (view (perform N home body sa b y)) b y d (id (body F)) k .0) ∙ e)
 
     pub both-ways : (tags : ℕ → Bool) {a b : ℕ} {x y : Move} → Movers units laid (view s) a b x y → Calm x y
@@ -98,9 +98,9 @@ module _ {units : Arithmetic} {F N : ℕ} {body at : ℕ → Expr} {home : ℕ �
       after-b = sa (swap h);
       after-both = sab;
       a-first = moved tags s good (h .one) (unfinished-a h);
-      b-second = moved tags (sa h) (good-a h) (b-still h calm) unfinished-end;
+      b-second = moved tags (sa h) (good-a h) (b-moves h calm) unfinished-end;
       b-first = moved tags s good (h .other) (unfinished-a (swap h));
-      a-second = moved tags (sa (swap h)) (good-a (swap h)) (b-still (swap h) turned) (subst (Unfinished F body) same unfinished-end)
+      a-second = moved tags (sa (swap h)) (good-a (swap h)) (b-moves (swap h) turned) (subst (Unfinished F body) same unfinished-end)
           ∙ ap went (sym same);
     }
       where

@@ -1,4 +1,4 @@
--- for a reader: the theorems, then the designs of document 01
+-- for a reader: the theorems, then closed cases
 pub mod Theorems
 pub mod Cases
 pub mod OddStates
@@ -7,7 +7,7 @@ pub mod WidthCases
 pub mod FirstCases
 pub mod ReachCases
 pub mod EitherCases
--- from bytes to the abstract circuit: the demand over tables, the own list, any state, the runs, 32-bit values
+-- from bytes to the abstract circuit: the demand over tables, the own list, any state, the runs, 32-bit values, two hands
 pub mod Demands
 pub mod OwnList
 pub mod AnyState

@@ -136,8 +136,8 @@ module _ {units : Arithmetic} {F N : ℕ} {body at : ℕ → Expr} {home : ℕ �
         beside (cond n u v w) e l = tt
         beside (bind n ds u) e l = tt
 
-        pub still-moves : act units body (home b) s′ (at b) ≡ does y
-        still-moves = act-same units body (home b) s s′ (at b)
+        pub keeps-move : act units body (home b) s′ (at b) ≡ does y
+        keeps-move = act-same units body (home b) s s′ (at b)
             (read-own body (home b) s s′ (at b) (expression-kept s′ moved) (beside (at b) refl (q .able)))
             ∙ q .moves
 
