@@ -5,9 +5,7 @@ use mathlib.Core.Path.{_≡_, refl, subst, sym, ap, _∙_}
 use mathlib.Core.List.{List, [], _∷_, _++_}
 use mathlib.Core.Logic.{inl, inr}
 use lib.ListN.{length, replicate}
-use Rattle.list.specs.Arbiters.{noCalls, joined, anyUpTo, callsIn, meeting, parallel, conflicts, callsOf, reachedIn}
-use Rattle.list.specs.Arbiters.{listedIn}
-use Rattle.list.specs.Tags.{tagged, isCall, calleeOf, listed, bitsFrom, bytesFrom, tagLength, tagsOf, nonePast, tagFits, tagsRefusal}
+use Rattle.list.specs.Tags.{tagged, tagsOf, nonePast, tagFits, tagsRefusal}
 use Rattle.list.specs.Tags.{after, checkWith}
 use Rattle.rules.specs.Operations.{lastValue, wrap, operate}
 use Rattle.rules.specs.Arithmetic.{narrow}
@@ -18,8 +16,9 @@ use Rattle.rules.specs.Circuit.{started, turned, checkStart, startAfter,
 use Rattle.rules.specs.Circuit.{playOf}
 use Rattle.rules.specs.Runs.{stopped, standing, runFrom, runOf}
 use Rattle.rules.specs.Reading.{ReadsTo}
-use Rattle.table.specs.Designs.{twice, pair, layered, mult, nested, fir}
-use Rattle.table.proofs.CheckedDesigns.{syntax-open, check-open}
+use Rattle.table.specs.Designs.{twice, pair, mult, nested}
+use Rattle.table.proofs.CheckedDesigns.{check-open}
+use Rattle.list.proofs.Designs.{list-open}
 use Rattle.rules.proofs.Demands.{under-any-tags}
 
 -- the state that a start makes, from one in which nothing is open
@@ -74,33 +73,11 @@ reads t tags args ns k v s e =
     (subst (In (answered v)) (sym e) (in-ends k v)))
 
 -- what closed evaluation has to see through
-unfoldable pub list-open : Unit {0}
-unfolding syntax-open noCalls joined anyUpTo callsIn meeting parallel conflicts callsOf reachedIn listedIn isCall calleeOf listed bitsFrom
-    bytesFrom tagLength tagsOf
-list-open = tt
-
 unfoldable pub circuit-open : Unit {0}
 unfolding list-open check-open tagged nonePast tagFits tagsRefusal after checkWith checkStart startAfter startOf circuitOf stepAfter stepOf
     playsOf playOf circuitStep circuitStart over entry write register alter fill clear opened blank lastValue wrap operate narrow
     standing runFrom runOf
 circuit-open = tt
-
--- the arbiter lists as tag bytes: empty; {3, 5}; {2, 5, 7}; empty
-pub twice-list : tagsOf twice ≡ 0b0000_0000 ∷ []
-unfolding list-open
-twice-list = refl
-
-pub pair-list : tagsOf pair ≡ 0b0001_0100 ∷ []
-unfolding list-open
-pair-list = refl
-
-layered-list : tagsOf layered ≡ 0b0101_0010 ∷ []
-unfolding list-open
-layered-list = refl
-
-pub fir-list : tagsOf fir ≡ 0 ∷ 0 ∷ 0 ∷ 0 ∷ 0 ∷ []
-unfolding list-open
-fir-list = refl
 
 -- "f(x)=x; main(x)=f(f(x)) .. argument 9 gives 9 in 9 steps"
 abbrev inside-out : List ℕ

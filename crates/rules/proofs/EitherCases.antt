@@ -7,12 +7,13 @@ use Rattle.table.specs.Check.{accepted}
 use Rattle.table.specs.Designs.{twice, pair, fir}
 use Rattle.list.specs.Tags.{Holding}
 use Rattle.list.proofs.TagFacts.{tags-hold}
+use Rattle.list.proofs.Designs.{twice-list, pair-list, fir-list}
 use Rattle.rules.specs.State.{State512, Sized, entry}
 use Rattle.rules.specs.Step.{does, begins, finishes, enters, taken, answered, denied}
 use Rattle.rules.specs.Circuit.{started, startOf, stepOf, playOf, Possible}
 use Rattle.rules.specs.Runs.{standing}
 use Rattle.rules.specs.EitherOrder.{Rivals, TwoSteps, TwoHands, EitherOrder}
-use Rattle.rules.proofs.Cases.{from, circuit-open, twice-list, pair-list, fir-list}
+use Rattle.rules.proofs.Cases.{from, circuit-open}
 use Rattle.rules.proofs.OddStates.{status-at, second-at}
 use Rattle.rules.proofs.EitherOrder.{refused-second, either-order-reached}
 

@@ -3,7 +3,7 @@ use Prim.Native.Nat.{ℕ}
 use mathlib.Core.Path.{_≡_, refl, subst, sym, ap, _∙_}
 use mathlib.Core.Logic.{_⊎_, inl, inr, ⊎-elim}
 use mathlib.Core.List.{List}
-use Rattle.table.specs.Syntax.{Expr, call, id, Every, Node}
+use Rattle.table.specs.Syntax.{Expr, Exprs, call, id, Every, Node}
 use Rattle.table.specs.Pick.{Range}
 use Rattle.table.specs.Well.{Fn, Laid}
 use Rattle.table.proofs.SyntaxLaws.{node-id, sub-node, every-node}
@@ -98,33 +98,31 @@ module _ {units : Arithmetic} {F N : ℕ} {body at : ℕ → Expr} {home : ℕ �
       go (leaves g v) d e = itself e
       go (restarts f vs) d e = absurd e
 
+  -- where it is a call
+  caller : {c g : ℕ} {es : Exprs} → at n ≡ call c g es → Acting F body s (home n) (call c g es)
+  caller e = subst (Acting F body s (home n)) e (p .acting)
+
   pub leaving : (g : ℕ) → LeavesFrom body s (at n) g → Leaving F body s n g
-  leaving g d = record {
-    fn = fn-g caller;
-    holder = holds ∙ same;
-    nonzero = λ z. n≢0 caller (same ∙ z);
-    still = finished s (body g) (p .acting .sound .opened g (fn-g caller) (inr (λ z. n≢0 caller (sym holds ∙ z)))) (d .over) .1;
-  }
-    where
-      caller : Acting F body s (home n) (call (d .node) g (d .args))
-      caller = subst (Acting F body s (home n)) (d .is) (p .acting)
-
-      same : d .node ≡ n
-      same = sym (ap id (d .is)) ∙ number
-
-      holds : s .occupant g ≡ d .node
-      holds = second-phase s (d .node) g (d .args) (d .holds) (live-part caller) .1
+  leaving g d =
+      let y = caller (d .is) in
+      let same : d .node ≡ n = sym (ap id (d .is)) ∙ number in
+      let holds = second-phase s (d .node) g (d .args) (d .holds) (live-part y) .1 in
+      record {
+        fn = fn-g y;
+        holder = holds ∙ same;
+        nonzero = λ z. n≢0 y (same ∙ z);
+        still = finished s (body g) (p .acting .sound .opened g (fn-g y) (inr (λ z. n≢0 y (sym holds ∙ z)))) (d .over) .1;
+      }
 
   entering : (g : ℕ) (vs : List ℕ) → x ≡ enters g vs → EntersTo s (at n) g → Entering body s x g
-  entering g vs e d = record {
-    arguments = vs;
-    move = e;
-    free = d .free;
-    still = p .acting .sound .rest g (fn-g caller) (⊎-elim (λ z. F≢g caller (sym z)) (λ z. z (d .free)));
-  }
-    where
-      caller : Acting F body s (home n) (call (d .node) g (d .args))
-      caller = subst (Acting F body s (home n)) (d .is) (p .acting)
+  entering g vs e d =
+      let y = caller (d .is) in
+      record {
+        arguments = vs;
+        move = e;
+        free = d .free;
+        still = p .acting .sound .rest g (fn-g y) (⊎-elim (λ z. F≢g y (sym z)) (λ z. z (d .free)));
+      }
 
   -- a function that it makes new is entered or restarted, one whose occupant changes is entered or left
   pub renewing : (f : ℕ) → Renews x f → Entering body s x f ⊎ ((home n ≡ f) × Restarts s (at n))
