@@ -5,7 +5,7 @@ use mathlib.Core.Path.{_≡_, refl, subst, sym, ap, _∙_}
 use mathlib.Core.Logic.{inl, inr, ⊎-elim}
 use borrow.Author.Tests.{ne-eqb}
 use Rattle.table.specs.Syntax.{Expr, id}
-use Rattle.table.specs.Pick.{pick}
+use Rattle.table.specs.Pick.{pick, Range}
 use Rattle.table.specs.Well.{Laid}
 use Rattle.table.proofs.SyntaxLaws.{every-node}
 use Rattle.rules.specs.Arithmetic.{Arithmetic}
@@ -19,16 +19,22 @@ use Rattle.rules.proofs.Answers.{all-still}
 use Rattle.rules.proofs.StepFacts.{Good, step, moved-does, moved-good, step-outcome}
 use Rattle.rules.proofs.Touches.{Writes, writes?, keeps-node}
 use Rattle.rules.proofs.Commute.{outside, moves-commute}
-use Rattle.rules.proofs.Mover.{Mover, mover, node-at, moving, awake}
+use Rattle.rules.proofs.Mover.{Mover, mover, node-at, moving}
 use Rattle.rules.proofs.MoversApart.{Movers, swap, expression-kept, Calm, calm-swap, keeps-move, writes-apart, alters-apart}
 
 -- a step that is taken, and no answer
 abbrev pub went : State512 → Stepped
 went s = record { answer = taken; state = s }
 
--- main's root isn't done
+-- main's root isn't done ..
 abbrev Unfinished : ℕ → (ℕ → Expr) → State512 → Type 0
 Unfinished F body s = view s .status (id (body F)) ≡ 3 → ⊥
+
+-- .. which holds while a node is under way
+unfinished : {F N : ℕ} {body at : ℕ → Expr} {home : ℕ → ℕ} (laid : Laid F N body at home) (s : State512) → Good F body s
+    → (n : ℕ) → Range N n → (Still (view s) n → ⊥) → Unfinished F body s
+unfinished {body = body} {home = home} laid s good n r m e = m (every-node (Still (view s)) n (body (home n))
+    (all-still (view s) (good .sound) (fn-main laid) e (home n) (laid .home-there n r)) (own-node laid (home n) n r refl))
 
 -- both orders: the state after a, after b, and after both
 pub record BothWays (units : Arithmetic) {F N : ℕ} {body at : ℕ → Expr} {home : ℕ → ℕ} (laid : Laid F N body at home) (tags : ℕ → Bool)
@@ -42,17 +48,13 @@ pub record BothWays (units : Arithmetic) {F N : ℕ} {body at : ℕ → Expr} {h
   pub a-second : step units laid tags after-b a ≡ went after-both
 
 module _ {units : Arithmetic} {F N : ℕ} {body at : ℕ → Expr} {home : ℕ → ℕ} {laid : Laid F N body at home} where
-  -- main's root isn't done while a node has a move
-  unfinished : (s : State512) → Good F body s → {n : ℕ} {x : Move} → Mover units laid (view s) n x → Unfinished F body s
-  unfinished s good {n} p e = awake p (home n) (all-still (view s) (good .sound) (fn-main laid) e (home n) (p .acting .fn)) refl
-
-  -- a move after which it isn't done either is taken, and is all that changes
+  -- a move after which main's root isn't done is taken, and is all that changes
   pub moved : (tags : ℕ → Bool) (s : State512) → Good F body s → {n : ℕ} {x : Move} → Mover units laid (view s) n x
       → Unfinished F body (perform N home body s n x) → step units laid tags s n ≡ went (perform N home body s n x)
   moved tags s good {n} {x} p e =
       let next = perform N home body s n x in
       let d = ne-eqb (view next .status (id (body F))) 3 e in
-      step-outcome units laid tags s good n (p .there) (unfinished s good p)
+      step-outcome units laid tags s good n (p .there) (unfinished laid s good n (p .there) (moving p))
       ∙ ap (outcome units F N body at home tags s n) (p .moves)
       ∙ (λ i. record { answer = pick (d i) (answered (view next .value (id (body F)))) taken; state = next })
 
@@ -68,17 +70,15 @@ module _ {units : Arithmetic} {F N : ℕ} {body at : ℕ → Expr} {home : ℕ �
       pub good-a : Good F body sa
       good-a = moved-good units laid s good a (h .one .there) x (h .one .moves)
 
-      -- .. b is under way still, so main's root isn't done
+      -- .. b is under way still
       pub unfinished-a : Unfinished F body sa
-      unfinished-a e = moving (h .other) (as-before (every-node (Still (view sa)) b (body (home b))
-          (all-still (view sa) (good-a .sound) (fn-main laid) e (home b) (h .other .acting .fn))
-          (own-node laid (home b) b (h .other .there) refl)))
+      unfinished-a = unfinished laid sa good-a b (h .other .there) (λ z. moving (h .other) (as-before z))
         where
-          b-kept : Same (view s) (view sa) b
-          b-kept = expression-kept h (view sa) (does-a .1) b (node-at (h .other))
+          kept : Same (view s) (view sa) b
+          kept = expression-kept h (view sa) (does-a .1) b (node-at (h .other))
 
           as-before : Still (view sa) b → Still (view s) b
-          as-before z = (⊎-elim (λ e. inl (sym (b-kept .0) ∙ e)) (λ e. inr (sym (b-kept .0) ∙ e)) (z .0), sym (b-kept .1) ∙ z .1)
+          as-before z = (⊎-elim (λ e. inl (sym (kept .0) ∙ e)) (λ e. inr (sym (kept .0) ∙ e)) (z .0), sym (kept .1) ∙ z .1)
 
       -- and where the two don't both enter one resource, b has the move that it had
       module _ (calm : Calm x y) where

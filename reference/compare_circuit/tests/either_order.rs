@@ -184,16 +184,25 @@ fn crowded_table(random: &mut Random) -> Vec<u8> {
     }
 }
 
-#[test]
-fn random_designs() -> Outcome {
-    let (mut random, mut met) = (Random::new(461), Met::default());
-    for _ in 0..SCHEDULES {
+/// How a circuit of a table is started on main's arguments.
+type Begin = fn(&mut Random, Vec<u8>, &[u32]) -> Result<Circuit, String>;
+
+/// What so many schedules meet, each of a table of its own that is started the given way.
+fn followed(seed: u64, schedules: usize, begin: Begin) -> Result<Met, String> {
+    let (mut random, mut met) = (Random::new(seed), Met::default());
+    for _ in 0..schedules {
         let bytes = crowded_table(&mut random);
         let arguments = arguments(&mut random, &tree_of(&bytes)?);
-        let circuit = Circuit::started(&mut random, bytes, &arguments)?;
+        let circuit = begin(&mut random, bytes, &arguments)?;
         let asks = random.within(10, 150);
         met.follow(&mut random, circuit, asks, 8)?;
     }
+    Ok(met)
+}
+
+#[test]
+fn random_designs() -> Outcome {
+    let met = followed(461, SCHEDULES, Circuit::started)?;
     met.pairs.often(&[&MOVES_BESIDE[..], &PLACED, &RIVALS, &[HIGH]].concat(), 15)?;
     let wanted = [(STATES, 45_000), (EITHER_WAY, 200_000), (RIVAL_PAIRS, 2_500), (TAGGED_WAITS, 5_000)];
     met.pairs.at_least(&wanted)?;
@@ -258,14 +267,7 @@ fn crowds() -> Outcome {
 /// Tags tell only by which number a rival has to wait.
 #[test]
 fn under_other_tags() -> Outcome {
-    let (mut random, mut met) = (Random::new(464), Met::default());
-    for _ in 0..OTHER_TAGS {
-        let bytes = crowded_table(&mut random);
-        let arguments = arguments(&mut random, &tree_of(&bytes)?);
-        let circuit = Circuit::with_others(&mut random, bytes, &arguments)?;
-        let asks = random.within(10, 150);
-        met.follow(&mut random, circuit, asks, 8)?;
-    }
+    let met = followed(464, OTHER_TAGS, Circuit::with_others)?;
     met.pairs.often(&[EITHER_WAY], 40_000)?;
     met.pairs.at_least(&[(BY_NONE, 25_000), (BY_OTHERS, 18_000)])?;
     met.pairs.at_least(&[(RIVAL_PAIRS, 600), (UNTAGGED_WAITS, 600), (TAGGED_WAITS, 600)])?;
