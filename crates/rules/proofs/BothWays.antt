@@ -2,7 +2,7 @@
 use Prim.Native.Nat.{ℕ}
 use mathlib.Core.Bool.{Bool}
 use mathlib.Core.Path.{_≡_, refl, subst, sym, ap, _∙_}
-use mathlib.Core.Logic.{inl, inr, ⊎-elim}
+use mathlib.Core.Logic.{⊎-elim}
 use borrow.Author.Tests.{ne-eqb}
 use Rattle.table.specs.Syntax.{Expr, id}
 use Rattle.table.specs.Pick.{pick, Range}
@@ -14,6 +14,7 @@ use Rattle.rules.specs.Step.{Move, taken, answered, Stepped, outcome, pe
 use Rattle.rules.proofs.LaidFacts.{fn-main, own-node}
 use Rattle.rules.proofs.Shape.{Still}
 use Rattle.rules.proofs.Frame.{Same}
+use Rattle.rules.proofs.Moves.{still-same}
 use Rattle.rules.proofs.Performed.{Fair, Does}
 use Rattle.rules.proofs.Answers.{all-still}
 use Rattle.rules.proofs.StepFacts.{Good, step, moved-does, moved-good, step-outcome}
@@ -72,13 +73,11 @@ module _ {units : Arithmetic} {F N : ℕ} {body at : ℕ → Expr} {home : ℕ �
 
       -- .. b is under way still
       pub unfinished-a : Unfinished F body sa
-      unfinished-a = unfinished laid sa good-a b (h .other .there) (λ z. moving (h .other) (as-before z))
+      unfinished-a = unfinished laid sa good-a b (h .other .there)
+          (λ z. moving (h .other) (still-same (view sa) (view s) b (sym (kept .0), sym (kept .1), sym (kept .2)) z))
         where
           kept : Same (view s) (view sa) b
           kept = expression-kept h (view sa) (does-a .1) b (node-at (h .other))
-
-          as-before : Still (view sa) b → Still (view s) b
-          as-before z = (⊎-elim (λ e. inl (sym (kept .0) ∙ e)) (λ e. inr (sym (kept .0) ∙ e)) (z .0), sym (kept .1) ∙ z .1)
 
       -- and where the two don't both enter one resource, b has the move that it had
       module _ (calm : Calm x y) where

@@ -85,7 +85,7 @@ module _ (P Q R : ℕ → Type 0) (f : (n : ℕ) → P n → Q n → R n) where
     both* (some e es) p q = (both e (p .0) (q .0), both* es (p .1) (q .1))
 
 module _ (s s′ : View) where
-  still-same : (n : ℕ) → Same s s′ n → Still s n → Still s′ n
+  pub still-same : (n : ℕ) → Same s s′ n → Still s n → Still s′ n
   still-same n k h = (⊎-elim (λ e. inl (k .0 ∙ e)) (λ e. inr (k .0 ∙ e)) (h .0), k .1 ∙ h .1)
 
   idle-same : (n : ℕ) → Same s s′ n → Idle s n → Idle s′ n
