@@ -8,7 +8,7 @@ use lib.Dec.{T}
 use Rattle.table.specs.Find.{lowest}
 use Rattle.table.proofs.FindLaws.{lowest-passes}
 use Rattle.rules.specs.Sets.{Sets, Stays, ready, firstIn}
-use Rattle.rules.proofs.LowestLaws.{Lowest, lowest-fails}
+use Rattle.table.proofs.LowestLaws.{Lowest, lowest-fails}
 
 unready : (x : Sets) (m : ℕ) → T (not (ready x m)) → ready x m ≡ false
 unready x m h = go (ready x m) h

@@ -20,7 +20,7 @@ use Rattle.rules.specs.Circuit.{actOf}
 use Rattle.rules.specs.Runs.{MainDone, Ended, gave, atRest, spent, Driven}
 use Rattle.rules.specs.First.{onward, driveFrom}
 use Rattle.rules.specs.Sets.{Sets, ready, firstIn, goes}
-use Rattle.rules.proofs.LowestLaws.{lowest-past}
+use Rattle.table.proofs.LowestLaws.{lowest-past}
 use Rattle.rules.proofs.FirstLoop.{drove-start}
 use Rattle.rules.proofs.FirstTurn.{Turning, turn-gave, turn-rests, turn-spent, turn-moves, turn-next}
 use Rattle.circuit.specs.declared.plan.Plan.{Plan}

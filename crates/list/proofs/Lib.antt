@@ -30,6 +30,7 @@ pub mod RecordSlice
 pub mod TagsFit
 pub mod TagLoops
 pub mod TagVerdicts
+pub mod HoldingLaws
 pub mod PaperList
 pub mod SmallDesigns
 pub mod ReachDesigns

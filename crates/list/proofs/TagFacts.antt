@@ -146,7 +146,7 @@ module _ (t : List ℕ) (F N : ℕ) (check : checkOf t ≡ accepted F N) where
         fits true c f = true-T c (f refl)
         fits false c f = tt
 
-    goes-order : (F′ N′ : ℕ) → checkWith t tags ≡ accepted F′ N′ → InOrder t tags
+    pub goes-order : (F′ N′ : ℕ) → checkWith t tags ≡ accepted F′ N′ → InOrder t tags
     unfolding checkWith after tagsRefusal nonePast tagFits
     goes-order F′ N′ e = record {
       size = eqb→eq (length tags) (tagLength t) (parts .0);

@@ -22,6 +22,7 @@ use Rattle.list.specs.Tags.{checkWith, fillVerdict}
 use Rattle.list.proofs.CallWords.{call-low}
 use Rattle.list.specs.Tags.{filledTags}
 use Rattle.table.specs.Working.{IsNode, Taken, Read}
+use Rattle.table.proofs.LowestLaws.{lowest-same}
 use Rattle.list.specs.Working.{Bit}
 use Rattle.list.proofs.ListLaws.{tags-are}
 
@@ -71,14 +72,6 @@ module _ (cells tags : List ℕ) where
   pub past-is : (k : ℕ) → k ≡ N → all (λ i. not (tagged tags (k + i))) (8 * length tags - k) ≡ none
   past-is k e = ap (λ n. all (λ i. not (tagged tags (n + i))) (8 * length tags - n)) e
 
--- tests that agree find the same
-lowest-same : (p q : Test) (k : ℕ) → ((n : ℕ) → 1 ≤ n → n ≤ k → p n ≡ q n) → lowest p k ≡ lowest q k
-unfolding lowest
-lowest-same p q zero f = refl
-lowest-same p q (suc k) f =
-    ap₂ (λ r b. pick (eqb r 0) (pick b 0 (suc k)) r) (lowest-same p q k (λ n a b. f n a (omega arith))) (f (suc k) (omega arith)
-    (omega arith))
-
 cell-same : (t cells tags : List ℕ) → Read t cells → (n : ℕ) → IsNode t n → cellFits cells tags n ≡ tagFits t tags n
 unfolding cellFits tagFits isCall
 cell-same t cells tags h n i =
@@ -100,7 +93,7 @@ held-read t cells tags h =
     (lowest (cellFits cells tags) n) (λ _. accepted f n)) (h .told .own 0 (omega arith)) (h .told .own 1 (omega arith))
     ∙ ap (λ x. stage 10 (eqb (length tags) ((nodes t + 7) / 8) && all (λ i. not (tagged tags (nodes t + i))) (8 * length tags - nodes t)) x
     (λ _. accepted (functions t) (nodes t))) (lowest-same (cellFits cells tags) (tagFits t tags) (nodes t)
-    (λ n a b. cell-same t cells tags h n (a, b)))
+    (cell-same t cells tags h))
 
 -- the table first
 pub after-check : (t tags : List ℕ) (r : Verdict) → Taken t → r ≡ tagsRefusal t tags → r ≡ checkWith t tags

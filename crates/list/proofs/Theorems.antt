@@ -14,12 +14,14 @@ use Rattle.table.specs.Decoded.{decodedInto}
 use Rattle.table.proofs.SurveyLaws.{taken-by, taken-small}
 use Rattle.table.proofs.DecodedLaws.{decoded-read}
 use Rattle.list.proofs.TagVerdicts.{held-read}
-use Rattle.list.specs.Tags.{Holding, InOrder, bitsSet, checkWith, heldBy, isCall, reached, listed, tagged, tagsOf, tagsRefusal}
+use Rattle.list.specs.Tags.{Holding, InOrder, Lacks, bitsSet, checkWith, heldBy, isCall, reached, listed, missing, tagged, tagsOf}
+use Rattle.list.specs.Tags.{tagsRefusal}
 use Rattle.list.specs.Records.{recordsOf}
 use Rattle.list.specs.PaperList.{Decides, PaperList}
 use Rattle.list.proofs.PaperList as Paper
 use Rattle.list.proofs.Callees as Callees
 use Rattle.list.proofs.TagFacts as TagFacts
+use Rattle.list.proofs.HoldingLaws as HoldingLaws
 use Rattle.list.proofs.Totals as Totals
 
 -- the list is the A of section 4.2, of the functions that main reaches: by its PC and by the one solution of its equations for C
@@ -55,6 +57,14 @@ tags-taken = TagFacts.tags-taken
 pub order-taken : (t : List ℕ) (F N : ℕ) → checkOf t ≡ accepted F N → (tags : List ℕ)
     → (checkWith t tags ≡ accepted (functions t) (nodes t)) ↔ InOrder t tags
 order-taken = TagFacts.order-taken
+
+-- 26 (document 02, Q-7): tags lack nothing exactly if they hold the list ..
+pub none-missing : (t tags : List ℕ) → (missing t tags ≡ 0) ↔ Holding t tags
+none-missing = HoldingLaws.none-missing
+
+-- .. and else what is told is the lowest listed call without a tag
+pub missing-exactly : (t tags : List ℕ) (n : ℕ) → 1 ≤ n → (missing t tags ≡ n) ↔ Lacks t tags n
+missing-exactly = HoldingLaws.missing-exactly
 
 -- as many bits are set as there are records, and that is what `total` answers
 pub total-records : (t : List ℕ) (F N : ℕ) → checkOf t ≡ accepted F N → bitsSet (tagsOf t) ≡ length (recordsOf t)

@@ -1,5 +1,5 @@
 -- tag lists (document 01, "The arbiter list"): the bits of a tag list, a table's arbiter list and its tag bytes, refusal 10
-use Prim.Native.Nat.{ℕ, zero, suc, _+_, _-_, _*_, _/_, _%_, _^_, _<_}
+use Prim.Native.Nat.{ℕ, zero, suc, _+_, _-_, _*_, _/_, _%_, _^_, _≤_, _<_}
 use mathlib.Core.Bool.{Bool, _&&_, _||_, not, true, false}
 use mathlib.Core.List.{List, [], _∷_}
 use lib.Dec.{eqb, leb}
@@ -109,3 +109,22 @@ bitsSet (x ∷ s) = ones x + bitsSet s
 -- the tags hold the list: of the nodes 1 to N, each that is listed is tagged
 abbrev pub Holding : (t tags : List ℕ) → Type 0
 Holding t tags = (n : ℕ) → Range (nodes t) n → listed t n ≡ true → tagged tags n ≡ true
+
+-- number n is not in s, or it has a tag
+unfoldable pub holdsAt : Test → (tags : List ℕ) → Test
+holdsAt s tags n = not (s n) || tagged tags n
+
+-- 26: the lowest listed call without a tag, 0 where the tags hold the list (Theorems, none-missing)
+unfoldable pub missing : (t tags : List ℕ) → ℕ
+missing t tags = lowest (holdsAt (listed t) tags) (nodes t)
+
+-- n is that call: listed and without a tag, and each listed one below it has its tag (Theorems, missing-exactly)
+pub record Lacks (t tags : List ℕ) (n : ℕ) : Type 0 where
+  pub there : Range (nodes t) n
+  pub is-listed : listed t n ≡ true
+  pub untagged : tagged tags n ≡ false
+  pub below : (m : ℕ) → 1 ≤ m → m < n → listed t m ≡ true → tagged tags m ≡ true
+
+-- what is told of it beside the check of table and tags: 0 where that refuses
+unfoldable pub missingWith : (t tags : List ℕ) → ℕ
+missingWith t tags = ifAccepted (checkWith t tags) (missing t tags) 0

@@ -22,7 +22,7 @@ use Rattle.rules.specs.Runs.{standing, MainDone, names, nothing, Finds, 
 use Rattle.rules.specs.First.{isTaken, firstOf, First, onward, afterFirst, foundAt, queryAfter, queryOf}
 use Rattle.rules.proofs.StepCases.{step-cases}
 use Rattle.rules.proofs.AnyState.{by-check, done-none}
-use Rattle.rules.proofs.LowestLaws.{lowest-fails}
+use Rattle.table.proofs.LowestLaws.{lowest-fails}
 use Rattle.table.proofs.FindLaws.{lowest-passes, passes-lowest}
 
 -- the test and the statement

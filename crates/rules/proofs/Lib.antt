@@ -25,7 +25,6 @@ pub mod MetFacts
 pub mod MetBelow
 pub mod StatesBelow
 -- the first possible step: what it is, and the query and run that follow it
-pub mod LowestLaws
 pub mod FirstFacts
 pub mod FirstRuns
 pub mod FirstLoop

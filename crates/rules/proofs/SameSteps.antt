@@ -18,7 +18,7 @@ use Rattle.rules.specs.First.{isTaken, firstOf, onward, queryAfter, quer
 use Rattle.rules.specs.First.{driveOf}
 use Rattle.rules.specs.SpareTags.{AskedAlike}
 use Rattle.rules.proofs.Demands.{standing-by}
-use Rattle.rules.proofs.LowestLaws.{lowest-same}
+use Rattle.table.proofs.LowestLaws.{lowest-same}
 
 module _ (t tags tags′ : List ℕ) (check : checkWith t tags ≡ checkWith t tags′) (P : State512 → Type 0)
     (same : (s : State512) → P s → (n : ℕ) → stepOf t tags s n ≡ stepOf t tags′ s n)

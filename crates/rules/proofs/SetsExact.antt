@@ -23,7 +23,7 @@ use Rattle.rules.specs.First.{firstOf}
 use Rattle.rules.specs.Sets.{Sets, setsOf, ready, firstIn, Stays, Exact, Opening, Ending, Renewing, holds, Placed, rereads}
 use Rattle.rules.specs.Sets.{UpdatedOf}
 use Rattle.rules.proofs.StateLaws.{in?}
-use Rattle.rules.proofs.LowestLaws.{lowest-same}
+use Rattle.table.proofs.LowestLaws.{lowest-same}
 use Rattle.rules.proofs.FirstBySets.{first-by-sets}
 use Rattle.rules.proofs.SetsUpdated.{sets-updated}
 use Rattle.rules.proofs.Parents.{parents}

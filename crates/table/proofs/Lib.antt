@@ -2,6 +2,7 @@ pub mod SyntaxLaws
 pub mod CallPlaces
 pub mod Tests
 pub mod FindLaws
+pub mod LowestLaws
 pub mod OperationCounts
 pub mod KindLaws
 pub mod WidthLaws

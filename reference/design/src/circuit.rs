@@ -2,7 +2,7 @@
 
 use numbers::{BUSY, DONE, MOST_FUNCTIONS, MOST_NODES, MOST_PARAMETERS, OPEN};
 
-use crate::list::{check_tags, is_tagged};
+use crate::list::{check_tags, is_tagged, missing};
 use crate::table::{compute, Function, Node, Refusal};
 use crate::tree::{Kind, Tree};
 
@@ -76,12 +76,16 @@ pub enum Ending {
     Spent,
 }
 
-/// Puts the state at its start, or leaves it as it is and tells why.
+/// Puts the state at its start, or leaves it as it is and tells why. The tags have to hold the arbiter list; nothing that
+/// comes after a start looks at that again.
 pub fn start(bytes: &[u8], tags: &[u8], arguments: &[u32], state: &mut State) -> Result<(), Refusal> {
     let tree = Tree::read(bytes)?;
     check_tags(&tree, tags)?;
     if arguments.len() != tree.parameters(tree.main()) {
         return Err(Refusal { number: 11, place: Node(0) });
+    }
+    if let Some(place) = missing(&tree, tags) {
+        return Err(Refusal { number: 26, place });
     }
     *state = State::zero();
     let arguments = tree.keep_all(tree.main(), arguments);

@@ -30,6 +30,39 @@ pub fn tags(random: &mut Random, tree: &Tree) -> Vec<u8> {
     tag_bytes(tree, &marked)
 }
 
+/// Calls to tag: the arbiter list, and none, some or all of the others, also of those that main doesn't reach.
+fn holding(random: &mut Random, tree: &Tree) -> Calls {
+    let mut marked = arbiter_list(tree);
+    match random.below(4) {
+        0..=1 => {}
+        2 => marked.extend(every_call(tree)),
+        _ => marked.extend(every_call(tree).into_iter().filter(|_| random.once_in(2))),
+    }
+    marked
+}
+
+/// A tag list with which a start is possible: it holds the arbiter list.
+pub fn holding_tags(random: &mut Random, tree: &Tree) -> Vec<u8> {
+    let marked = holding(random, tree);
+    tag_bytes(tree, &marked)
+}
+
+/// A tag list that is in order and misses one, several or all calls of the arbiter list; none where the list is empty.
+pub fn missing_tags(random: &mut Random, tree: &Tree) -> Option<Vec<u8>> {
+    let list: Vec<Node> = arbiter_list(tree).into_iter().collect();
+    if list.is_empty() {
+        return None;
+    }
+    let mut marked = holding(random, tree);
+    marked.remove(&random.pick(&list));
+    match random.below(4) {
+        0..=1 => {}
+        2 => marked.retain(|call| !list.contains(call) || random.once_in(2)),
+        _ => marked.retain(|call| !list.contains(call)),
+    }
+    Some(tag_bytes(tree, &marked))
+}
+
 /// A tag list with a fault: another length, a bit past N, or a bit at some node; by chance it may be in order.
 pub fn damaged_tags(random: &mut Random, tree: &Tree) -> Vec<u8> {
     let mut bytes = tags(random, tree);
