@@ -11,6 +11,7 @@ use Rattle.rules.specs.Play.{asks, noted}
 use Rattle.rules.specs.Circuit.{playOf}
 use Rattle.rules.specs.EitherOrder.{EitherOrder, SecondWaits, WhoGoesFirst}
 use Rattle.rules.proofs.RunFacts.{same-play, play-nodes, play-state}
+use Rattle.rules.proofs.Starts.{start-passes}
 use Rattle.rules.proofs.EitherOrder.{either-order}
 use Rattle.circuit.specs.Meaning.{listsOf, replyOf}
 use Rattle.circuit.specs.Entries.{StepsOf, answersOf, takenOf, lastState, Reached}
@@ -90,10 +91,10 @@ order-of-steps t tags args steps s x a b rs rs′ h two = record {
     same = state-same (lastState s rs) (lastState s rs′) (p .state ∙ w .same ∙ sym (p′ .state))
 
 pub rivals-in-order : RivalsInOrder
-rivals-in-order t tags args steps s x holds a b rs rs′ h two r =
+rivals-in-order t tags args steps s x a b rs rs′ h two r =
     let f = who-first t tags args steps s x in
     let w = f .waits a b two r in
-    let k = f .arbitrated holds a b two r in (
+    let k = f .arbitrated (start-passes t tags args (x .first) (x .start) .holding) a b two r in (
       second-refused t tags args steps s x a b rs (h .0) (w .0) (k .1),
       second-refused t tags args steps s x b a rs′ (h .1) (w .1) (k .0),
     )

@@ -1,4 +1,4 @@
--- the third demand of what start and step return: they play as the rules do
+-- what start returns, and the third demand of what start and step return: they play as the rules do
 use Prim.Native.Nat.{ℕ, zero, suc, _+_, _≤_}
 use mathlib.Core.Path.{_≡_, refl, subst, sym, ap, _∙_}
 use mathlib.Core.Logic.{inl, inr, ⊎-elim}
@@ -7,14 +7,20 @@ use lib.ListN.{length, take}
 use Rattle.rules.specs.State.{In}
 use Rattle.rules.specs.Step.{answered, denied}
 use Rattle.rules.specs.Play.{IsTaken, noted}
-use Rattle.rules.specs.Circuit.{started, startOf, playOf, entriesOf, leavingsOf, Possible}
+use Rattle.rules.specs.Starts.{StartsExactly}
+use Rattle.rules.specs.Circuit.{started, opening, startOf, stateOf, playOf, entriesOf, leavingsOf, Possible}
 use Rattle.rules.specs.Reading.{ReadsTo}
 use Rattle.rules.specs.Runs.{MainDone, mainValue}
 use Rattle.circuit.specs.Meaning.{listsOf, replyOf, openingOf}
-use Rattle.circuit.specs.Entries.{StepsOf, answersOf, takenOf, lastState, Takes, DemandOfEntries}
+use Rattle.circuit.specs.Entries.{StepsOf, answersOf, takenOf, lastState, Takes, StartOfEntry, DemandOfEntries}
+use Rattle.circuit.specs.declared.types.Opening.{Opening}
+use Rattle.circuit.specs.declared.types.Opening.the-variants as Opening
 use Rattle.circuit.specs.declared.types.State.{State}
 use Rattle.circuit.specs.declared.types.Stepped.{Stepped}
+use native.Mathlib.Omega.{arith}
+use Rattle.rules.proofs.Starts.{starts-exactly}
 use Rattle.rules.proofs.Demands as Demands
+use Rattle.circuit.proofs.MeaningFacts.{state-same}
 use Rattle.rules.proofs.RunFacts.{main-said}
 use Rattle.rules.proofs.TakenSteps.{taken-alone}
 
@@ -51,12 +57,34 @@ module _ (t tags : List ℕ) where
   pub takes : (s : State) (n : ℕ) → Possible t tags (listsOf s) n → Takes t tags s n
   takes s n p = (p, λ r e. subst (λ x. IsTaken (x .answer)) (sym e) p)
 
+-- what start returns is what the rules say of a start
+pub start-of-entry : StartOfEntry
+start-of-entry t tags args old r a = record {
+  opened = (
+    λ o. let x = exact .taken (listsOf (r .state)) .0 (said o) in (x .0, x .1),
+    λ x. opens (r .opening) (a .answer ∙ exact .taken (opening t args) .1 (x .0, x .1, refl)),
+  );
+  state = λ o. exact .taken (listsOf (r .state)) .0 (said o) .2;
+  lacking = λ n. (λ e. exact .lacking n .0 (sym (a .answer) ∙ e), λ x. a .answer ∙ exact .lacking n .1 x);
+  kept = λ k p e. state-same (r .state) old (a .state ∙ ap (λ x. stateOf x (listsOf old)) (sym (a .answer) ∙ e));
+}
+  where
+    exact : StartsExactly t tags args
+    exact = starts-exactly t tags args
+
+    said : r .opening ≡ Opening.Opened → startOf t tags args ≡ started (listsOf (r .state))
+    said o = sym (a .answer) ∙ ap (λ x. openingOf x (listsOf (r .state))) o
+
+    opens : (o : Opening) → openingOf o (listsOf (r .state)) ≡ started (opening t args) → o ≡ Opening.Opened
+    opens Opening.Opened e = refl
+    opens (Opening.Refused k p) e = absurd (let z : _≡_ {A = ℕ} 0 1 = cc in omega arith)
+
 pub demand-of-entries : DemandOfEntries
-demand-of-entries t tags args old r₀ a o holds ns rs h =
+demand-of-entries t tags args old r₀ a o ns rs h =
     let e : startOf t tags args ≡ started (listsOf (r₀ .state)) =
     sym (a .answer) ∙ ap (λ x. openingOf x (listsOf (r₀ .state))) o in
     let p = played-entries t tags (r₀ .state) ns rs h in
-    let d = Demands.demand t tags args (listsOf (r₀ .state)) e holds ns in
+    let d = Demands.demand t tags args (listsOf (r₀ .state)) e ns in
     let alone = taken-alone t tags (listsOf (r₀ .state)) ns in
     let said = main-said t tags args (listsOf (r₀ .state)) e ns in
     record {

@@ -20,9 +20,9 @@ use Rattle.rules.specs.Runs.{standing, Ran, whole, stopped, andThen, runFrom, r
 use Rattle.circuit.specs.Meaning.{numbers, stateAs}
 use Rattle.table.specs.Working.{Taken}
 use Rattle.circuit.specs.Working.{Stands, Agreed, strayIn}
-use Rattle.circuit.proofs.TurnLaws.{fair-from, step-is, turn-stands, turn-stray, turn-stray′}
+use Rattle.circuit.proofs.TurnLaws.{step-is, turn-stands, turn-stray, turn-stray′}
 use Rattle.circuit.proofs.StandsLaws.{stands-parts, stands-by}
-use Rattle.rules.proofs.Demands.{after-both}
+use Rattle.rules.proofs.Starts.{after-both, fair-from, tags-own}
 
 -- a number, said to be a node's
 abbrev pub asNode : ℕ → Node
@@ -45,13 +45,7 @@ step-stray t tags fair s n d i b e h = go (over 3 (nodes t) (s .status)) refl
     go false q = turn-stray′ t tags fair s n d i q (sym (ap (λ y. y || over (nodes t) (functions t) (s .occupant)) q) ∙ sym e ∙ h)
 
 pub agreed-from : (t tags : List ℕ) (F N : ℕ) → checkWith t tags ≡ accepted F N → Agreed t tags
-agreed-from t tags F N e = record { fair = fair-from t tags F N e; tagging = own e }
-  where
-    own : checkWith t tags ≡ accepted F N → checkWith t tags ≡ accepted (functions t) (nodes t)
-    own = unfold checkWith tagsRefusal in (λ q.
-        let x = after-both (checkOf t) _ F N q in
-        let f = passes 10 (eqb (length tags) (tagLength t) && nonePast t tags) _ _ F N (x .1) in
-        q ∙ sym (f .2))
+agreed-from t tags F N e = record { fair = fair-from t tags F N e; tagging = tags-own t tags F N e }
 
 -- 24 where query and runs look at it
 module _ (t tags : List ℕ) (ag : Agreed t tags) (s : State512) where

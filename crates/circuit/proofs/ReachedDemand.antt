@@ -6,7 +6,6 @@ use mathlib.Core.List.{List, [], _∷_, _++_}
 use lib.ListN.{length, take, getD, length-append}
 use Rattle.table.specs.Bytes.{functions, nodes}
 use Rattle.table.specs.Check.{accepted}
-use Rattle.list.specs.Tags.{Holding}
 use Rattle.rules.specs.State.{State512, In}
 use Rattle.rules.specs.Play.{noted}
 use Rattle.rules.specs.Circuit.{stepOf, playOf, entriesOf, leavingsOf, Possible}
@@ -31,11 +30,11 @@ use Rattle.rules.proofs.RunFacts.{query-over, main-said, start-stands, start-ru
 use Rattle.rules.proofs.TakenSteps.{taken-alone, taken-prefix, next-nodes, next-state, next-answer, never-held}
 use Rattle.circuit.proofs.EntryDemand.{takes}
 
-module _ (t tags args : List ℕ) (holds : Holding t tags) where
+module _ (t tags args : List ℕ) where
   -- by the demand on the steps taken
   state-demand : (steps : List ℕ) (s : State) → Reached t tags args steps s → StateDemand t tags args steps s
   state-demand steps s x =
-      let d = Demands.demand t tags args (x .first) (x .start) holds steps in
+      let d = Demands.demand t tags args (x .first) (x .start) steps in
       let said = main-said t tags args (x .first) (x .start) steps in
       let at : playOf t tags (x .first) steps .state ≡ listsOf s = x .state in
       record {
@@ -73,11 +72,11 @@ module _ (t tags args : List ℕ) (holds : Holding t tags) where
               ∙ ap (λ z. z .state) u;
         } in
         record {
-          arbitrated = λ place q. never-held t tags args s₀ (x .start) holds steps n place (ap (λ z. z .answer) u ∙ q);
+          arbitrated = λ place q. never-held t tags args s₀ (x .start) steps n place (ap (λ z. z .answer) u ∙ q);
           reached = there;
           demand = state-demand _ (r .state) there;
           right = λ v q. subst (ReadsTo t args v) (ap length w ∙ ap (λ a. length (steps ++ noted a n [])) q ∙ length-append steps (n ∷ []))
-              (Demands.demand t tags args s₀ (x .start) holds all .right v
+              (Demands.demand t tags args s₀ (x .start) all .right v
               (subst (λ a. In a (playOf t tags s₀ all .answers)) (ap (λ z. z .answer) u ∙ q) (next-answer t tags s₀ steps n)));
         }
 
@@ -95,7 +94,7 @@ module _ (t tags args : List ℕ) (holds : Holding t tags) where
           state = sym (d .state);
         } in
         record {
-          arbitrated = λ place q. never-held t tags args s₀ (x .start) holds all (getD ms (r .steps) 0) place
+          arbitrated = λ place q. never-held t tags args s₀ (x .start) all (getD ms (r .steps) 0) place
               (ap (λ z. stepOf t tags z (getD ms (r .steps) 0) .answer) (y .state) ∙ ap (λ z. z .answer) (p .next 23 place q .1));
           number = d .number;
           reached = y;
@@ -155,10 +154,10 @@ module _ (t tags args : List ℕ) (holds : Holding t tags) where
         }
 
 pub demand-of-reached : DemandOfReached
-demand-of-reached t tags args steps s x holds = record {
-  state = state-demand t tags args holds steps s x;
-  of-step = of-step t tags args holds steps s x;
-  of-run = of-run t tags args holds steps s x;
-  of-drive = of-drive t tags args holds steps s x;
-  of-query = of-query t tags args holds steps s x;
+demand-of-reached t tags args steps s x = record {
+  state = state-demand t tags args steps s x;
+  of-step = of-step t tags args steps s x;
+  of-run = of-run t tags args steps s x;
+  of-drive = of-drive t tags args steps s x;
+  of-query = of-query t tags args steps s x;
 }

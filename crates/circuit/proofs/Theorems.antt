@@ -1,9 +1,13 @@
 -- the theorems on the entries, for a reader; that each entry does what the rules say is its own promise (src/lib.rt)
-use Rattle.circuit.specs.Entries.{DemandOfEntries, DemandOfReached}
+use Rattle.circuit.specs.Entries.{StartOfEntry, DemandOfEntries, DemandOfReached}
 use Rattle.circuit.specs.EitherOrder.{OrderOfSteps, RivalsInOrder}
 use Rattle.circuit.proofs.EntryDemand as EntryDemand
 use Rattle.circuit.proofs.ReachedDemand as ReachedDemand
 use Rattle.circuit.proofs.EitherOrder as EitherOrder
+
+-- what start takes (document 02, Q-7), said of what it returns
+pub start-of-entry : StartOfEntry
+start-of-entry = EntryDemand.start-of-entry
 
 -- demand 3 of what start and step return, whatever is asked
 pub demand-of-entries : DemandOfEntries

@@ -26,20 +26,12 @@ use Rattle.rules.specs.Circuit.{actOf, circuitOf, stepAfter, stepOf}
 use Rattle.table.specs.Working.{Taken}
 use Rattle.circuit.specs.declared.plan.Plan.{Plan}
 use Rattle.circuit.specs.Working.{Planned, performed, Stands, whyNot}
-use Rattle.rules.proofs.Demands.{after-both}
+use Rattle.rules.proofs.Starts.{after-both}
 use Rattle.circuit.proofs.StandsLaws.{kept, stands-parts}
 use Rattle.circuit.proofs.ChainLaws.{ok}
 use Rattle.table.specs.Check as TableCheck
 
--- a table whose tags are taken is taken
-pub fair-from : (t tags : List ℕ) (F N : ℕ) → checkWith t tags ≡ accepted F N → Taken t
-unfolding checkWith
-fair-from t tags F N e =
-    let x = after-both (checkOf t) _ F N e in
-    let p = passed t (x .0 .0) (x .0 .1) (x .0 .2) in
-    x .0 .2 ∙ sym (λ i. accepted (p .1 i) (p .2 i))
-
--- and a step there is the circuit's
+-- a step of a table whose tags are taken is the circuit's
 pub step-is : (t tags : List ℕ) (F N : ℕ) → checkWith t tags ≡ accepted F N → (s : State512) (n : ℕ) → stepOf t tags s n ≡ circuitOf t
     tags s n
 unfolding stepOf stepAfter

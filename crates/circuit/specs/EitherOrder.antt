@@ -3,7 +3,6 @@ use Prim.Native.Nat.{ℕ}
 use mathlib.Core.Path.{_≡_}
 use mathlib.Core.List.{List, [], _∷_, _++_}
 use lib.ListN.{take}
-use Rattle.list.specs.Tags.{Holding}
 use Rattle.rules.specs.Step.{taken, denied}
 use Rattle.rules.specs.EitherOrder.{Rivals, TwoSteps, TwoHands}
 use Rattle.circuit.specs.Meaning.{listsOf}
@@ -33,8 +32,8 @@ abbrev pub OrderOfSteps : Type 0
 OrderOfSteps = (t tags args steps : List ℕ) (s : State) → Reached t tags args steps s → (a b : ℕ) (rs rs′ : List Stepped)
     → BothOrders t tags s a b rs rs′ → TwoHands t tags (listsOf s) a b → OneEnd t tags args steps s a b rs rs′
 
--- and of rivals, where the tags hold the arbiter list
+-- and of rivals, each of which has a tag: a start saw to that
 abbrev pub RivalsInOrder : Type 0
-RivalsInOrder = (t tags args steps : List ℕ) (s : State) → Reached t tags args steps s → Holding t tags → (a b : ℕ) (rs rs′ : List Stepped)
+RivalsInOrder = (t tags args steps : List ℕ) (s : State) → Reached t tags args steps s → (a b : ℕ) (rs rs′ : List Stepped)
     → BothOrders t tags s a b rs rs′ → TwoSteps t tags (listsOf s) a b → Rivals t (listsOf s) a b
     → SecondRefused s b rs × SecondRefused s a rs′

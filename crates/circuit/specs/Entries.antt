@@ -5,16 +5,17 @@ use mathlib.Core.Logic.{_⊎_, _↔_}
 use mathlib.Core.List.{List, [], _∷_, _++_, map}
 use lib.ListN.{length, getD, take}
 use Rattle.table.specs.Bytes.{functions}
-use Rattle.list.specs.Tags.{Holding}
+use Rattle.list.specs.Tags.{Holding, Lacks}
 use Rattle.rules.specs.State.{State512, In}
 use Rattle.rules.specs.Step.{Reply, answered, denied, refusal}
 use Rattle.rules.specs.Play.{IsTaken, noted}
-use Rattle.rules.specs.Circuit.{started, startOf, stepOf, playOf, entriesOf, leavingsOf, Possible}
+use Rattle.rules.specs.Starts.{Fitting}
+use Rattle.rules.specs.Circuit.{started, turned, opening, startOf, stepOf, playOf, entriesOf, leavingsOf, Possible}
 use Rattle.rules.specs.Runs.{whole, stopped, runOf, MainDone, mainValue, gave, atRest, spent, barred, names, nothing, unasked}
 use Rattle.rules.specs.First.{firstsOf, queryOf, driveOf}
 use Rattle.rules.specs.Reading.{ReadsTo}
 use Rattle.rules.specs.Demand.{DemandThree}
-use Rattle.circuit.specs.Meaning.{listsOf, replyOf, steppedOf, StartedAs, haltOf, ranOf, endedOf, drivenOf, foundOf}
+use Rattle.circuit.specs.Meaning.{listsOf, replyOf, steppedOf, startedOf, StartedAs, haltOf, ranOf, endedOf, drivenOf, foundOf}
 use Rattle.circuit.specs.declared.types.State.{State}
 use Rattle.circuit.specs.declared.types.Opening.the-variants as Opening
 use Rattle.circuit.specs.declared.types.Started.{Started}
@@ -55,6 +56,19 @@ pub record Reached (t tags args steps : List ℕ) (s : State) : Type 0 where
   pub taken : playOf t tags first steps .nodes ≡ steps
   pub state : playOf t tags first steps .state ≡ listsOf s
 
+-- of what start returned for table, tags and arguments, the state `old` being handed in
+pub record StartEntry (t tags args : List ℕ) (old : State) (r : Started) : Type 0 where
+  -- it opened exactly if the table, 10, 11 and 26 are passed, and its state is the one that the rules name
+  pub opened : (r .opening ≡ Opening.Opened) ↔ (Fitting t tags args × Holding t tags)
+  pub state : r .opening ≡ Opening.Opened → listsOf (r .state) ≡ opening t args
+  -- it was refused 26 at n exactly if the other three are passed and n is the lowest listed call without a tag
+  pub lacking : (n : ℕ) → (startedOf r ≡ turned 26 n) ↔ (Fitting t tags args × Lacks t tags n)
+  -- refused by whatever number, it returned the state handed in
+  pub kept : (number place : ℕ) → startedOf r ≡ turned number place → r .state ≡ old
+
+abbrev pub StartOfEntry : Type 0
+StartOfEntry = (t tags args : List ℕ) (old : State) (r : Started) → StartedAs old r (startOf t tags args) → StartEntry t tags args old r
+
 -- of a start r₀ that opened and the steps rs after it, asked at the numbers ns
 pub record EntryDemand (t tags args : List ℕ) (r₀ : Started) (ns : List ℕ) (rs : List Stepped) : Type 0 where
   -- no step answered 23
@@ -80,7 +94,6 @@ pub record EntryDemand (t tags args : List ℕ) (r₀ : Started) (ns : List ℕ)
 abbrev pub DemandOfEntries : Type 0
 DemandOfEntries = (t tags args : List ℕ) (old : State) (r₀ : Started)
     → StartedAs old r₀ (startOf t tags args) → r₀ .opening ≡ Opening.Opened
-    → Holding t tags
     → (ns : List ℕ) (rs : List Stepped) → StepsOf t tags (r₀ .state) ns rs → EntryDemand t tags args r₀ ns rs
 
 -- of a state that was reached, whatever is asked next
@@ -142,5 +155,4 @@ pub record ReachedDemand (t tags args steps : List ℕ) (s : State) : Type 0 whe
   pub of-query : (r : Found) → foundOf r ≡ queryOf t tags (listsOf s) → QueryEntry t tags args steps s r
 
 abbrev pub DemandOfReached : Type 0
-DemandOfReached = (t tags args steps : List ℕ) (s : State) → Reached t tags args steps s → Holding t tags
-    → ReachedDemand t tags args steps s
+DemandOfReached = (t tags args steps : List ℕ) (s : State) → Reached t tags args steps s → ReachedDemand t tags args steps s

@@ -14,7 +14,7 @@ ghost use Rattle.rules.specs.Arithmetic.{keepAll, arithmetic};
 ghost use Rattle.rules.specs.State.{fill};
 ghost use Rattle.rules.specs.Circuit.{opening, startOf};
 ghost use Rattle.table.specs.Check.{accepted};
-ghost use Rattle.list.specs.Tags.{checkWith};
+ghost use Rattle.list.specs.Tags.{checkWith, missing};
 ghost use mathlib.Core.List.{List};
 ghost use Rattle.circuit.specs.Meaning.{OpenedAs, stateAs};
 ghost use Rattle.table.specs.Working.{IsFunction, Read};
@@ -40,7 +40,7 @@ fn fill_main(table: &[u8], cells: &Cells, registers: &mut [u32; 256], main: Func
     }
 }
 
-// 11, then the start.
+// 11, then 26 at the call that the tags lack, then the start.
 pub(crate) fn start(
     table: &[u8],
     cells: &Cells,
@@ -50,10 +50,12 @@ pub(crate) fn start(
     registers: &mut [u32; 256],
     occupant: &mut [u16; 32],
     args: &[u32],
+    lacking: Node,
 ) -> Opening
     requires { ⌜ Read (now table) (now cells) ⌝ }
     ensures { λ r. ⌜ ((tags : List ℕ) → checkWith (now (table .entry)) tags
         ≡ accepted (functions (now (table .entry))) (nodes (now (table .entry)))
+        → lacking .0 ≡ missing (now (table .entry)) tags
         → OpenedAs
         (stateAs (now (status .entry)) (now (second .entry)) (now (value .entry)) (now (registers .entry)) (now (occupant .entry)))
         r (stateAs (now (status .exit)) (now (second .exit)) (now (value .exit)) (now (registers .exit)) (now (occupant .exit)))
@@ -63,6 +65,9 @@ pub(crate) fn start(
     let count = decoded::params(cells, main);
     if args.len() != (count as usize) {
         return Opening::Refused(11, Node(0));
+    }
+    if lacking.0 != 0 {
+        return Opening::Refused(26, lacking);
     }
     open_main(
         table,

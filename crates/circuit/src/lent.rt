@@ -16,7 +16,7 @@ ghost use Rattle.rules.specs.Circuit.{startOf, stepOf};
 ghost use Rattle.rules.specs.First.{queryOf};
 ghost use Rattle.circuit.specs.Meaning.{OpenedAs, stateAs, steppedAs, RanLent, foundOf, DrivenLent};
 
-// The circuit's start: the table, its tags, 11; then main's registers hold the arguments and its root is open, all else is zero.
+// The circuit's start: the table, its tags, 11, 26; then main's registers hold the arguments and its root is open, all else is zero.
 pub fn start(
     table: &[u8],
     tags: &[u8],
@@ -33,7 +33,9 @@ pub fn start(
         (startOf (now (table .entry)) (now (tags .entry)) (now (args .entry))) ⌝ }
 {
     let mut cells = [0u16; 3270];
-    let checked = admission::read_in(table, tags, &mut cells);
+    let told = list::survey_tags(table, tags, &mut cells);
+    let checked = told.checked;
+    let lacking = told.missing;
     match checked {
         Checked::Refused(number, place) => Opening::Refused(number, place),
         Checked::Accepted(_, _) => begin::start(
@@ -45,6 +47,7 @@ pub fn start(
             registers,
             occupant,
             args,
+            lacking,
         ),
     }
 }

@@ -15,7 +15,7 @@ use Rattle.list.proofs.NodeLaws.{few}
 use Rattle.rules.specs.Arithmetic.{arithmetic}
 use Rattle.rules.specs.State.{State512, View, entry, view}
 use Rattle.rules.specs.Step.{Reply, taken, answered, denied, Stepped, refusal, done, told, circuitStep}
-use Rattle.circuit.proofs.TurnLaws.{fair-from}
+use Rattle.rules.proofs.Starts.{fair-from}
 use Rattle.rules.specs.Play.{IsTaken, asks}
 use Rattle.rules.specs.Circuit.{startOf, startAfter, checkStart, stepOf, stepAfter, circuitOf, playOf, Possible}
 use Rattle.rules.specs.Runs.{standing, Ran, runFrom, runAfter, runOf, Ended, gave, atRest, spent, barred, Driven, Says, Picks}

@@ -9,10 +9,9 @@ use native.Mathlib.Decide.{decLe}
 use lib.Dec.{T}
 use lib.Bits.{bitOr}
 use lib.ListN.{length, getD}
-use Rattle.table.specs.Pick.{Range}
 use Rattle.table.specs.Bytes.{functions, nodes}
 use Rattle.table.specs.Find.{lowest}
-use Rattle.table.specs.Check.{Verdict, accepted, refused, ifAccepted}
+use Rattle.table.specs.Check.{accepted, refused, ifAccepted}
 use Rattle.table.specs.Working.{Taken}
 use Rattle.table.proofs.Tests.{T-true, true-T}
 use Rattle.table.proofs.FindLaws.{passes-lowest, lowest-passes}

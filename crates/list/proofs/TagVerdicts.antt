@@ -1,5 +1,5 @@
 -- refusal 10, case by case, and what a lent tag list holds then
-use Prim.Native.Nat.{ℕ, zero, suc, _+_, _-_, _*_, _/_, _≤_, _<_}
+use Prim.Native.Nat.{ℕ, zero, suc, _+_, _-_, _*_, _/_, _<_}
 use mathlib.Core.Path.{_≡_, refl, sym, subst, ap, ap₂, _∙_}
 use mathlib.Core.Bool.{Bool, true, false, _&&_, _||_, not}
 use mathlib.Core.List.{List}
@@ -8,7 +8,6 @@ use lib.Dec.{eqb}
 use lib.ListN.{length, getD, take}
 use lib.Seq.{getD-take}
 use borrow.Author.Tests.{eq-eqb, ne-eqb}
-use Rattle.table.specs.Pick.{pick}
 use Rattle.table.specs.Bytes.{functions, nodes, kind, word}
 use Rattle.table.specs.Naming.{owner}
 use Rattle.table.specs.Decoded.{cellAt, nodeSlot, tableSlot}
@@ -16,7 +15,6 @@ use native.Mathlib.Decide.{ℕ-discrete}
 use Rattle.table.specs.Find.{lowest, all}
 use Rattle.table.specs.Check.{Verdict, accepted, refused, stage, checkOf}
 use Rattle.table.specs.Check.{ifAccepted}
-use Rattle.list.specs.Arbiters.{Test}
 use Rattle.list.specs.Tags.{tagged, listed, isCall, tagLength, nonePast, tagFits, tagsRefusal, cellFits, heldBy, tagsOf, after}
 use Rattle.list.specs.Tags.{checkWith, fillVerdict}
 use Rattle.list.proofs.CallWords.{call-low}

@@ -29,7 +29,8 @@ use Rattle.rules.proofs.StepCases.{number, place, step-cases}
 use Rattle.rules.proofs.AgreeLaws.{agree-same}
 use Rattle.rules.proofs.Past.{step-past}
 use Rattle.rules.proofs.Ignores.{step-agree}
-use Rattle.rules.proofs.Demands.{after-both, lay}
+use Rattle.rules.proofs.Starts.{after-both}
+use Rattle.rules.proofs.Demands.{lay}
 use Rattle.table.specs.Pick.{pick}
 
 -- the definiens of a bound node is a node

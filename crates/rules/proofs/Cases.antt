@@ -6,17 +6,17 @@ use mathlib.Core.List.{List, [], _∷_, _++_}
 use mathlib.Core.Logic.{inl, inr}
 use lib.ListN.{length, replicate}
 use Rattle.list.specs.Tags.{tagged, tagsOf, nonePast, tagFits, tagsRefusal}
-use Rattle.list.specs.Tags.{after, checkWith}
+use Rattle.list.specs.Tags.{after, checkWith, holdsAt, missing}
 use Rattle.rules.specs.Operations.{lastValue, wrap, operate}
 use Rattle.rules.specs.Arithmetic.{narrow}
 use Rattle.rules.specs.State.{State512, entry, write, register, alter, fill, clear, opened, blank, circuitStart, In, zeros}
 use Rattle.rules.specs.Step.{Reply, taken, answered, denied, over, Stepped, circuitStep}
 use Rattle.rules.specs.Play.{Ask, asks, noted, played}
-use Rattle.rules.specs.Circuit.{started, turned, checkStart, startAfter, startOf, stateOf, circuitOf, stepAfter, stepOf, playsOf}
+use Rattle.rules.specs.Circuit.{started, checkStart, startAfter, startOf, stateOf, circuitOf, stepAfter, stepOf, playsOf}
 use Rattle.rules.specs.Circuit.{playOf}
 use Rattle.rules.specs.Runs.{stopped, standing, runFrom, runOf}
 use Rattle.rules.specs.Reading.{ReadsTo}
-use Rattle.table.specs.Designs.{twice, pair, mult, nested}
+use Rattle.table.specs.Designs.{twice, pair, mult}
 use Rattle.table.proofs.CheckedDesigns.{check-open}
 use Rattle.list.proofs.Designs.{list-open}
 use Rattle.rules.proofs.Demands.{under-any-tags}
@@ -74,8 +74,8 @@ reads t tags args ns k v s e =
 
 -- what closed evaluation has to see through
 unfoldable pub circuit-open : Unit {0}
-unfolding list-open check-open tagged nonePast tagFits tagsRefusal after checkWith checkStart startAfter startOf circuitOf stepAfter stepOf
-    playsOf playOf circuitStep circuitStart over entry write register alter fill clear opened blank lastValue wrap operate narrow
+unfolding list-open check-open tagged nonePast tagFits tagsRefusal after checkWith holdsAt missing checkStart startAfter startOf circuitOf
+    stepAfter stepOf playsOf playOf circuitStep circuitStart over entry write register alter fill clear opened blank lastValue wrap operate narrow
     standing runFrom runOf
 circuit-open = tt
 
@@ -103,14 +103,18 @@ pair-reads : ReadsTo pair (9 ∷ []) 9 12
 unfolding circuit-open
 pair-reads = reads pair (0b0001_0100 ∷ []) (9 ∷ []) one-by-one 11 9 refl pair-run
 
--- "Steps 2, 3, 5, 4, 6, 3, then 5: 22 with both tags, 22 with 5 alone, 23 with none or 3 alone"
+-- "Steps 2, 3, 5, 4, 6, 3, then 5: 22 with both tags, 22 with 5 alone, 23 with none or 3 alone": the start has both tags, and so have the
+-- first six steps (document 02, Q-7)
+abbrev pub both : List ℕ
+both = 0b0001_0100 ∷ []
+
 abbrev collision : List ℕ → List Reply
-collision tags = says pair tags (9 ∷ []) (2 ∷ 3 ∷ 5 ∷ 4 ∷ 6 ∷ 3 ∷ 5 ∷ [])
+collision tags = playsOf pair (from pair both (9 ∷ [])) (asks both (2 ∷ 3 ∷ 5 ∷ 4 ∷ 6 ∷ 3 ∷ []) ++ asks tags (5 ∷ [])) .answers
 
 abbrev six-then : (number : ℕ) → List Reply
 six-then number = taken ∷ taken ∷ taken ∷ taken ∷ taken ∷ taken ∷ denied number 5 ∷ []
 
-both-tags : collision (0b0001_0100 ∷ []) ≡ six-then 22
+both-tags : collision both ≡ six-then 22
 unfolding circuit-open
 both-tags = refl
 
@@ -167,18 +171,3 @@ loops-run = refl
 loops-reads : ReadsTo mult (5 ∷ 1 ∷ 0 ∷ []) 5 44
 unfolding circuit-open
 loops-reads = reads mult untagged (5 ∷ 1 ∷ 0 ∷ []) (loops ++ stops) 43 5 refl loops-run
-
--- what start is turned back for: a bad table, tags of another length, a tag past N, a tag at no call, an argument too many
-starts-refused : (startOf nested (0 ∷ []) (9 ∷ []) ≡ turned 9 2) × (startOf pair [] (9 ∷ []) ≡ turned 10 0)
-    × (startOf pair (0b0100_0000 ∷ []) (9 ∷ []) ≡ turned 10 0) × (startOf pair (0b0000_0110 ∷ []) (9 ∷ []) ≡ turned 10 2)
-    × (startOf mult (0 ∷ 0b0000_0010 ∷ 0 ∷ []) (3 ∷ 0 ∷ 7 ∷ []) ≡ turned 10 10) × (startOf pair (0 ∷ []) (9 ∷ 9 ∷ []) ≡ turned 11 0)
-unfolding circuit-open
-starts-refused = (refl, refl, refl, refl, refl, refl)
-
--- a step under tags that are not taken is refused, and changes nothing
-steps-refused : playsOf pair (from pair (0 ∷ []) (9 ∷ []))
-    (record { tags = []; node = 2 } ∷ record { tags = 0 ∷ []; node = 2 } ∷ record { tags = 0b0000_0010 ∷ []; node = 3 }
-    ∷ record { tags = 0b0000_0100 ∷ []; node = 3 } ∷ []) .answers
-    ≡ denied 10 0 ∷ taken ∷ denied 10 2 ∷ taken ∷ []
-unfolding circuit-open
-steps-refused = refl

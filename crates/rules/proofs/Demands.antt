@@ -1,17 +1,17 @@
 -- the third demand, and what holds under any tags, of every table, tags and arguments that start takes
 use Prim.Native.Nat.{ℕ, _≤_}
-use mathlib.Core.Bool.{Bool, true, false, _&&_, not, true≢false}
+use mathlib.Core.Bool.{Bool, true, false, not, true≢false}
 use mathlib.Core.Path.{_≡_, refl, subst, sym, ap, _∙_}
 use mathlib.Core.Logic.{inl, inr, ⊎-elim}
 use mathlib.Core.List.{List, [], _∷_}
 use native.Mathlib.Omega.{arith}
-use lib.Dec.{T, eqb, eqb→eq}
+use lib.Dec.{T}
 use lib.ListN.{length, take}
 use Rattle.rules.specs.State.{State512, In, view}
 use Rattle.rules.specs.Step.{denied, over, circuitStep}
-use Rattle.rules.specs.Play.{Ask, asks, Log, IsTaken, played, count}
+use Rattle.rules.specs.Play.{Ask, asks, Log, IsTaken, played}
 use Rattle.rules.specs.Arithmetic.{arithmetic}
-use Rattle.rules.specs.Circuit.{opening, started, checkStart, startAfter, startOf, circuitOf, stepAfter, stepOf, playsOf, playOf}
+use Rattle.rules.specs.Circuit.{opening, started, startOf, circuitOf, stepAfter, stepOf, playsOf, playOf}
 use Rattle.rules.specs.Circuit.{entriesOf}
 use Rattle.rules.specs.Circuit.{leavingsOf, Possible}
 use Rattle.rules.specs.Demand.{Answers, DemandThree, ThirdDemand, ReadingUnique}
@@ -23,12 +23,13 @@ use Rattle.table.specs.Naming.{owner}
 use Rattle.table.specs.Check.{Verdict, accepted, stage, checkOf, refused}
 use Rattle.table.specs.Expressions.{exprAt, bodyOf}
 use Rattle.table.specs.Well.{Laid}
-use Rattle.table.proofs.Passed.{passes, passed, goes-on, params-small}
+use Rattle.table.proofs.Passed.{passed, goes-on, params-small}
 use Rattle.table.proofs.LaidOut.{laid}
-use Rattle.list.specs.Tags.{tagged, after, tagLength, nonePast, tagsRefusal, checkWith, Holding}
+use Rattle.list.specs.Tags.{tagged, after, checkWith, Holding}
 use Rattle.list.specs.CallSets.{Listed}
 use Rattle.list.proofs.Callees.{listed-exactly}
 use Rattle.list.proofs.TagFacts.{listed-call}
+use Rattle.rules.proofs.Starts.{start-passes}
 use Rattle.rules.proofs.Levels.{fixed, into}
 use Rattle.rules.proofs.Unique.{readings-unique}
 use Rattle.rules.proofs.Logs.{begin, logged, more, plays, plays-alike}
@@ -37,42 +38,6 @@ use Rattle.rules.proofs.Kept.{kept-main-free, kept-lively, kept-phases,
 use Rattle.rules.proofs.StepFacts.{Good}
 use Rattle.rules.proofs.Bounded.{over-none, status-bound, occupant-bound}
 use Rattle.rules.proofs.Kept as Lists
-
--- what a start that was taken has passed
-pub record Passes (t tags args : List ℕ) (s : State512) : Type 0 where
-  pub check : checkOf t ≡ accepted (functions t) (nodes t)
-  pub check-tags : checkWith t tags ≡ accepted (functions t) (nodes t)
-  pub count : length args ≡ params t (functions t)
-  pub state : s ≡ opening t args
-
-pub after-both : (c : Verdict) (rest : Unit {0} → Verdict) (F N : ℕ) → after c rest ≡ accepted F N
-    → ((F′ N′ : ℕ) × (c ≡ accepted F′ N′)) × (rest tt ≡ accepted F N)
-unfolding after
-after-both (accepted F′ N′) rest F N e = ((F′, N′, refl), e)
-after-both (refused k p) rest F N e = absurd (let z : _≡_ {A = ℕ} 0 1 = cc in omega arith)
-
-start-both : (c : Verdict) (s r : State512) → startAfter c s ≡ started r → ((F N : ℕ) × (c ≡ accepted F N)) × (r ≡ s)
-unfolding startAfter
-start-both (accepted F N) s r e = ((F, N, refl), cc)
-start-both (refused k p) s r e = absurd (let z : _≡_ {A = ℕ} 0 1 = cc in omega arith)
-
-own-size : (t : List ℕ) (F N : ℕ) → checkOf t ≡ accepted F N → checkOf t ≡ accepted (functions t) (nodes t)
-own-size t F N e = let p = passed t F N e in e ∙ sym (λ i. accepted (p .1 i) (p .2 i))
-
-pub start-passes : (t tags args : List ℕ) (s : State512) → startOf t tags args ≡ started s → Passes t tags args s
-unfolding startOf checkStart checkWith tagsRefusal
-start-passes t tags args s e =
-    let a = start-both (checkStart t tags args) (opening t args) s e in
-    let b = after-both (checkWith t tags) _ (a .0 .0) (a .0 .1) (a .0 .2) in
-    let c = after-both (checkOf t) _ (b .0 .0) (b .0 .1) (b .0 .2) in
-    let d = passes 11 (eqb (length args) (params t (functions t))) 0 _ (a .0 .0) (a .0 .1) (b .1) in
-    let f = passes 10 (eqb (length tags) (tagLength t) && nonePast t tags) _ _ (b .0 .0) (b .0 .1) (c .1) in
-    record {
-      check = own-size t (c .0 .0) (c .0 .1) (c .0 .2);
-      check-tags = b .0 .2 ∙ sym (f .2);
-      count = eqb→eq (length args) (params t (functions t)) (d .0);
-      state = a .1;
-    }
 
 -- what a query and the runs look at once the check is passed: 24
 abbrev pub ranges : (t : List ℕ) → State512 → Unit {0} → Verdict
@@ -155,6 +120,13 @@ module _ (t : List ℕ) (F N : ℕ) (check : checkOf t ≡ accepted F N) where
         (plays-alike (stepOf t) s₀ asked)
         (plays-kept (begin s₀) (start-kept (arithmetic t) lay args (main-few args number)) asked)
 
+    -- under tags that hold the list, a step after any list of steps is not refused 23
+    silent : (tags : List ℕ) (F N : ℕ) → checkWith t tags ≡ accepted F N → Holding t tags → (l : Log) → KeptFrom l → (n p : ℕ)
+        → denied 23 p ≡ stepOf t tags (l .state) n .answer → ⊥
+    silent tags F N taken holds l k n p e =
+        kept-silent (arithmetic t) lay (tagged tags) (holding-tags tags holds) (view s₀) l k n p
+        (e ∙ ap (λ r. r .answer) (step-same tags F N taken (l .state) n))
+
     any-tags : (asked : List (Ask (List ℕ))) → UnderAnyTags t args s₀ asked
     unfolding entriesOf leavingsOf playsOf
     any-tags asked = record {
@@ -166,6 +138,7 @@ module _ (t : List ℕ) (F N : ℕ) (check : checkOf t ≡ accepted F N) where
       lively = λ F N tags c.
           ⊎-elim inl (λ x. inr (x .0, subst (λ r. IsTaken (r .answer)) (sym (step-same tags F N c (l .state) (x .0))) (x .1)))
           (kept-lively (arithmetic t) lay (view s₀) l k (tagged tags));
+      arbitrated = λ F N tags c holds n p e. silent tags F N c holds l k n p (sym e);
       stands = λ F N tags c. stands-well tags F N c (l .state) (k .good);
       main-free = kept-main-free (arithmetic t) lay (view s₀) l k;
       right = right;
@@ -185,18 +158,12 @@ module _ (t : List ℕ) (F N : ℕ) (check : checkOf t ≡ accepted F N) where
 
     -- under the tags of the start
     module _ (tags : List ℕ) (F′ N′ : ℕ) (taken : checkWith t tags ≡ accepted F′ N′) where
-      -- where the tags hold the list, a step after any list of steps is not refused 23
-      silent : Holding t tags → (l : Log) → KeptFrom l → (n p : ℕ) → denied 23 p ≡ stepOf t tags (l .state) n .answer → ⊥
-      silent holds l k n p e =
-          kept-silent (arithmetic t) lay (tagged tags) (holding-tags tags holds) (view s₀) l k n p
-          (e ∙ ap (λ r. r .answer) (step-same tags F′ N′ taken (l .state) n))
-
       plays-silent : Holding t tags → (l : Log) → KeptFrom l → ((p : ℕ) → In (denied 23 p) (l .answers) → ⊥) → (ns : List ℕ)
           → (p : ℕ) → In (denied 23 p) (plays (stepOf t) l (asks tags ns) .answers) → ⊥
       plays-silent holds l k h [] p i = h p i
       plays-silent holds l k h (n ∷ ns) p i =
           let a : Ask (List ℕ) = record { tags = tags; node = n } in
-          plays-silent holds (more (stepOf t) l a) (more-kept l k a) (λ q. ⊎-elim (silent holds l k n q) (h q)) ns p i
+          plays-silent holds (more (stepOf t) l a) (more-kept l k a) (λ q. ⊎-elim (silent tags F′ N′ taken holds l k n q) (h q)) ns p i
 
       no-23 : Holding t tags → (ns : List ℕ) (p : ℕ) → In (denied 23 p) (playOf t tags s₀ ns .answers) → ⊥
       unfolding playOf
@@ -218,15 +185,15 @@ module _ (t : List ℕ) (F N : ℕ) (check : checkOf t ≡ accepted F N) where
           l : Log
           l = played (stepOf t) s₀ (asks tags ns)
 
--- the third demand: of every table, tags and arguments that start takes, the tags holding the list, and every list of asked numbers
+-- the third demand: of every table, tags and arguments that start takes, and every list of asked numbers
 pub demand : ThirdDemand
-demand t tags args s e holds ns =
+demand t tags args s e ns =
     let p = start-passes t tags args s e in
     let F = functions t in
     let N = nodes t in
     subst (λ r. DemandThree t tags args r ns) (sym (p .state))
     (from-start t F N (p .check) args (p .count) tags F N (p .check-tags) ns
-    (no-23 t F N (p .check) args (p .count) tags F N (p .check-tags) holds ns))
+    (no-23 t F N (p .check) args (p .count) tags F N (p .check-tags) (p .holding) ns))
 
 -- and its companion
 pub under-any-tags : (t tags args : List ℕ) (s : State512) → startOf t tags args ≡ started s → (asked : List (Ask (List ℕ)))

@@ -1,13 +1,10 @@
 -- two hands on small designs: steps in either order, rivals, and three premises without which the statement is false
 use Prim.Native.Nat.{ℕ}
-use mathlib.Core.Path.{_≡_, refl, subst, ap}
+use mathlib.Core.Path.{_≡_, refl, ap}
 use mathlib.Core.List.{List, [], _∷_}
 use native.Mathlib.Omega.{arith}
 use Rattle.table.specs.Check.{accepted}
 use Rattle.table.specs.Designs.{twice, pair, fir}
-use Rattle.list.specs.Tags.{Holding}
-use Rattle.list.proofs.TagFacts.{tags-hold}
-use Rattle.list.proofs.Designs.{twice-list, pair-list, fir-list}
 use Rattle.rules.specs.State.{State512, Sized, entry}
 use Rattle.rules.specs.Step.{does, begins, finishes, enters, taken, answered, denied}
 use Rattle.rules.specs.Circuit.{started, startOf, stepOf, playOf, Possible}
@@ -26,18 +23,6 @@ both-tags = 0b0001_0100 ∷ []
 
 abbrev fir-tags : List ℕ
 fir-tags = 0 ∷ 0 ∷ 0 ∷ 0 ∷ 0 ∷ []
-
-twice-holds : Holding twice no-tags
-unfolding circuit-open
-twice-holds = subst (Holding twice) twice-list (tags-hold twice 2 4 refl)
-
-pair-holds : Holding pair both-tags
-unfolding circuit-open
-pair-holds = subst (Holding pair) pair-list (tags-hold pair 2 6 refl)
-
-fir-holds : Holding fir fir-tags
-unfolding circuit-open
-fir-holds = subst (Holding fir) fir-list (tags-hold fir 5 37 refl)
 
 -- the state after steps at ns
 abbrev pair-after : List ℕ → State512
@@ -59,7 +44,7 @@ one-callee f g vs ws e = cc
 -- the two parameters, once both calls have begun
 arguments : EitherOrder pair both-tags (pair-after (2 ∷ 3 ∷ 5 ∷ [])) 4 6
 unfolding circuit-open
-arguments = either-order-reached pair both-tags (9 ∷ []) _ refl pair-holds (2 ∷ 3 ∷ 5 ∷ []) 4 6 (record {
+arguments = either-order-reached pair both-tags (9 ∷ []) _ refl (2 ∷ 3 ∷ 5 ∷ []) 4 6 (record {
   two = record { different = λ e. omega arith; a-steps = tt; b-steps = tt };
   no-rivals = λ r. not-finishes 9 (r .1 .0) (r .0) (r .1 .1);
 })
@@ -67,7 +52,7 @@ arguments = either-order-reached pair both-tags (9 ∷ []) _ refl pair-holds (2 
 -- one call enters f while the other's parameter is read
 entering : EitherOrder pair both-tags (pair-after (2 ∷ 3 ∷ 5 ∷ 4 ∷ [])) 3 6
 unfolding circuit-open
-entering = either-order-reached pair both-tags (9 ∷ []) _ refl pair-holds (2 ∷ 3 ∷ 5 ∷ 4 ∷ []) 3 6 (record {
+entering = either-order-reached pair both-tags (9 ∷ []) _ refl (2 ∷ 3 ∷ 5 ∷ 4 ∷ []) 3 6 (record {
   two = record { different = λ e. omega arith; a-steps = tt; b-steps = tt };
   no-rivals = λ r. not-finishes 9 (r .2 .0) (r .0) (r .2 .1);
 })
@@ -78,7 +63,7 @@ to-calls = 9 ∷ 10 ∷ 13 ∷ 11 ∷ 12 ∷ 14 ∷ 15 ∷ []
 
 two-resources : EitherOrder fir fir-tags (fir-after to-calls) 10 13
 unfolding circuit-open
-two-resources = either-order-reached fir fir-tags (1 ∷ 2 ∷ 3 ∷ 4 ∷ []) _ refl fir-holds to-calls 10 13 (record {
+two-resources = either-order-reached fir fir-tags (1 ∷ 2 ∷ 3 ∷ 4 ∷ []) _ refl to-calls 10 13 (record {
   two = record { different = λ e. omega arith; a-steps = tt; b-steps = tt };
   no-rivals = λ r. omega (arith, one-callee 1 (r .0) _ _ (r .1 .1), one-callee 2 (r .0) _ _ (r .2 .1));
 })
@@ -94,18 +79,18 @@ unfolding circuit-open
 second-waits = (refl, refl)
 
 -- "not both entering one resource" is needed ..
-needs-no-rivals : ((t tags args : List ℕ) (s : State512) → startOf t tags args ≡ started s → Holding t tags → (ns : List ℕ) (a b : ℕ)
+needs-no-rivals : ((t tags args : List ℕ) (s : State512) → startOf t tags args ≡ started s → (ns : List ℕ) (a b : ℕ)
     → TwoSteps t tags (playOf t tags s ns .state) a b → EitherOrder t tags (playOf t tags s ns .state) a b) → ⊥
 unfolding circuit-open
-needs-no-rivals wrong = refused-second (wrong pair both-tags (9 ∷ []) _ refl pair-holds (2 ∷ 3 ∷ 5 ∷ 4 ∷ 6 ∷ []) 3 5
+needs-no-rivals wrong = refused-second (wrong pair both-tags (9 ∷ []) _ refl (2 ∷ 3 ∷ 5 ∷ 4 ∷ 6 ∷ []) 3 5
     (record { different = λ e. omega arith; a-steps = tt; b-steps = tt }) .a-then-b)
 
 -- .. "different" too: node 2 of a start steps, and then has no step ..
-needs-different : ((t tags args : List ℕ) (s : State512) → startOf t tags args ≡ started s → Holding t tags → (ns : List ℕ) (a b : ℕ)
+needs-different : ((t tags args : List ℕ) (s : State512) → startOf t tags args ≡ started s → (ns : List ℕ) (a b : ℕ)
     → Possible t tags (playOf t tags s ns .state) a → Possible t tags (playOf t tags s ns .state) b
     → (Rivals t (playOf t tags s ns .state) a b → ⊥) → EitherOrder t tags (playOf t tags s ns .state) a b) → ⊥
 unfolding circuit-open
-needs-different wrong = refused-second (wrong twice no-tags (9 ∷ []) _ refl twice-holds [] 2 2 tt tt
+needs-different wrong = refused-second (wrong twice no-tags (9 ∷ []) _ refl [] 2 2 tt tt
     (λ r. not-begins (3 ∷ []) (r .1 .0) (r .0) (r .1 .1)) .a-then-b)
 
 -- .. and the start: in a state of the right size and in range, where 2 and its child 3 are both open, both orders are taken and end apart

@@ -16,7 +16,8 @@ use Rattle.rules.specs.Arithmetic.{arithmetic}
 use Rattle.rules.specs.Circuit.{started, startOf, stepOf, playsOf, playOf, Possible}
 use Rattle.rules.specs.EitherOrder.{Rivals, TwoSteps, TwoHands, EitherOrder, SecondWaits, WhoGoesFirst, EitherOrderReached}
 use Rattle.rules.proofs.StepFacts.{Good, step}
-use Rattle.rules.proofs.Demands.{start-passes, after-both, ranges, standing-by, lay, step-same, holding-tags, table-kept}
+use Rattle.rules.proofs.Starts.{start-passes, after-both}
+use Rattle.rules.proofs.Demands.{ranges, standing-by, lay, step-same, holding-tags, table-kept}
 use Rattle.rules.proofs.FirstFacts.{possible-node, possible-stands, possible-move}
 use Rattle.rules.proofs.Kept.{waits-listed}
 use Rattle.rules.proofs.Mover.{mover}
@@ -163,4 +164,4 @@ either-order t tags₀ args s start asked tags =
 -- under the tags of the start
 pub either-order-reached : EitherOrderReached
 unfolding playOf playsOf
-either-order-reached t tags args s start holds ns = either-order t tags args s start (asks tags ns) tags .either
+either-order-reached t tags args s start ns = either-order t tags args s start (asks tags ns) tags .either

@@ -25,7 +25,8 @@ use Rattle.rules.specs.First.{isTaken, firstOf}
 use Rattle.rules.specs.Sets.{goes, sort, barredBy, setsOf, ready, firstIn}
 use Rattle.rules.proofs.ActCases.{by-pick, by-state}
 use Rattle.rules.proofs.StepCases.{Cause, no-node, bad-status, bad-occupant, main-done, no-move, occupied, step-cases}
-use Rattle.rules.proofs.Demands.{after-both, step-same}
+use Rattle.rules.proofs.Starts.{after-both}
+use Rattle.rules.proofs.Demands.{step-same}
 use Rattle.table.proofs.LowestLaws.{lowest-same}
 
 module _ (units : Arithmetic) (body : ℕ → Expr) (h : ℕ) (s : View) where

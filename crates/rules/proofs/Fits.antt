@@ -29,7 +29,7 @@ use Rattle.rules.specs.Companions.{Word, Words, Bytes, Fits}
 use Rattle.rules.proofs.Narrow.{narrow-less}
 use Rattle.rules.proofs.ActCases.{by-pick, by-state}
 use Rattle.rules.proofs.StepCases.{step-cases}
-use Rattle.rules.proofs.Demands.{start-passes}
+use Rattle.rules.proofs.Starts.{start-passes}
 use Rattle.rules.proofs.AnyState.{by-check}
 
 pick-word : (b : Bool) (x y : ℕ) → Word x → Word y → Word (pick b x y)

@@ -1,6 +1,7 @@
 -- for a reader: the theorems, then closed cases
 pub mod Theorems
 pub mod Cases
+pub mod StartCases
 pub mod OddStates
 pub mod OperationCases
 pub mod WidthCases
@@ -8,8 +9,8 @@ pub mod FirstCases
 pub mod ReachCases
 pub mod EitherCases
 -- from bytes to the abstract circuit: the demand over tables, the own list, any state, the runs, 32-bit values, two hands
+pub mod Starts
 pub mod Demands
-pub mod OwnList
 pub mod AnyState
 pub mod RunFacts
 pub mod TakenSteps

@@ -20,7 +20,8 @@ use Rattle.rules.specs.Widths.{FunctionBelow, ReadingBelow, AnswerBelow}
 use Rattle.rules.proofs.Narrow.{narrow-below}
 use Rattle.rules.proofs.MetFacts.{round-met}
 use Rattle.rules.proofs.LaidFacts.{fn-main}
-use Rattle.rules.proofs.Demands.{start-passes, under-any-tags}
+use Rattle.rules.proofs.Starts.{start-passes}
+use Rattle.rules.proofs.Demands.{under-any-tags}
 
 module _ (bitsOf : ℕ → ℕ) (body : ℕ → Expr) where
   -- one function, whatever its callees read to and whatever is said of that

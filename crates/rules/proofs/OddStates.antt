@@ -1,13 +1,16 @@
 -- states that no start leads to: the rules to the letter, on f(x) = x, main(x) = f(f(x)) and on mult
 use Prim.Native.Nat.{ℕ}
-use mathlib.Core.Path.{_≡_, refl}
+use mathlib.Core.Path.{_≡_, refl, ap}
 use mathlib.Core.List.{List, [], _∷_}
 use mathlib.Core.Bool.{true}
 use Rattle.rules.specs.State.{State512, entry, write}
 use Rattle.rules.specs.Step.{Reply, taken, answered, denied, with-status, with-second, with-occupant}
-use Rattle.rules.specs.Circuit.{playOf, stepOf}
+use Rattle.list.proofs.TagFacts.{tags-hold}
+use Rattle.rules.specs.Play.{Ask}
+use Rattle.rules.specs.Circuit.{started, startOf, playsOf, playOf, stepOf}
 use Rattle.rules.specs.Runs.{whole, stopped, runOf}
 use Rattle.table.specs.Designs.{twice, mult}
+use Rattle.rules.proofs.Demands.{under-any-tags}
 use Rattle.rules.proofs.Cases.{from, circuit-open}
 
 -- a state with another status at node n, another phase, another occupant
@@ -76,3 +79,19 @@ self-call = refl
 self-stays : entry (stepOf mult (0 ∷ 0 ∷ 0 ∷ []) ready 10 .state .occupant) 0 1 ≡ 10
 unfolding circuit-open
 self-stays = refl
+
+-- 23 though the tags hold the list, which is empty: call 2 has its argument, and call 3, which is done, still occupies the callee
+abbrev held-up : State512
+held-up = occupant-at 1 3 (status-at 3 3 (status-at 2 2 start))
+
+waits : (says held-up (2 ∷ []) ≡ denied 23 2 ∷ []) × (playOf twice (0b0000_0110 ∷ []) held-up (2 ∷ []) .answers ≡ denied 22 2 ∷ [])
+unfolding circuit-open
+waits = (refl, refl)
+
+-- so no start leads there, whatever is asked under whatever tags
+not-reached : (tags args : List ℕ) (s : State512) → startOf twice tags args ≡ started s → (asked : List (Ask (List ℕ)))
+    → playsOf twice s asked .state ≡ held-up → ⊥
+unfolding circuit-open
+not-reached tags args s e asked q =
+    under-any-tags twice tags args s e asked .arbitrated 2 4 (0 ∷ []) refl (tags-hold twice 2 4 refl) 2 2
+    (ap (λ z. stepOf twice (0 ∷ []) z 2 .answer) q)

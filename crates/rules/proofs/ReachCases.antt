@@ -6,8 +6,9 @@ use lib.ListN.{replicate}
 use Rattle.list.specs.Tags.{tagsOf}
 use Rattle.list.specs.ReachDesigns.{uncalled, spareTwin}
 use Rattle.rules.specs.Step.{Reply, taken, answered, denied}
-use Rattle.rules.specs.Circuit.{turned, startOf}
-use Rattle.rules.proofs.Cases.{says, circuit-open}
+use Rattle.rules.specs.Play.{asks}
+use Rattle.rules.specs.Circuit.{turned, startOf, playsOf}
+use Rattle.rules.proofs.Cases.{from, says, circuit-open}
 
 -- g's calls of f are 3 and 5, main is node 7: the start is the same, and so is each step, 21 at the nodes of f and g
 same-start : startOf uncalled (0b0001_0100 ∷ []) (9 ∷ []) ≡ startOf uncalled (tagsOf uncalled) (9 ∷ [])
@@ -48,7 +49,12 @@ rivals-beside : rivals (0b1001_0100 ∷ 0b0000_0010 ∷ []) ≡ held-then-nine 2
 unfolding circuit-open
 rivals-beside = refl
 
--- and the tags of g alone are none for main
-rivals-untagged : rivals (0b0001_0100 ∷ 0b0000_0000 ∷ []) ≡ held-then-nine 23
+-- the tags of g alone are none for main: a start lacks 8, and under them the second call waits without an arbiter
+abbrev spare : List ℕ
+spare = 0b0001_0100 ∷ 0b0000_0000 ∷ []
+
+rivals-untagged : (startOf spareTwin spare (9 ∷ []) ≡ turned 26 8)
+    × (playsOf spareTwin (from spareTwin (tagsOf spareTwin) (9 ∷ []))
+    (asks (tagsOf spareTwin) (7 ∷ 8 ∷ 10 ∷ 9 ∷ 11 ∷ 8 ∷ []) ++ asks spare (10 ∷ [])) .answers ≡ replicate 6 taken ++ denied 23 10 ∷ [])
 unfolding circuit-open
-rivals-untagged = refl
+rivals-untagged = (refl, refl)

@@ -17,7 +17,8 @@ use Rattle.rules.specs.Runs.{barred, Driven, Says, Picks, DrivesAfter, D
 use Rattle.rules.specs.Demand.{Answers}
 use Rattle.rules.specs.Companions.{UnderAnyTags, RunDemand, DriveDemand, AfterSteps}
 use Rattle.rules.proofs.Logs.{played-state, played-nodes, asks-join}
-use Rattle.rules.proofs.Demands.{Passes, start-passes, under-any-tags}
+use Rattle.rules.proofs.Starts.{Passes, start-passes}
+use Rattle.rules.proofs.Demands.{under-any-tags}
 use Rattle.rules.proofs.AnyState.{refused-unchanged, done-none}
 
 module _ (t tags : List ℕ) where

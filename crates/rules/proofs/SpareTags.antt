@@ -1,7 +1,7 @@
 -- from a start on, a body that main doesn't reach has no step, so no tag in it is asked for
 use Prim.Native.Nat.{ℕ}
-use mathlib.Core.Bool.{Bool, true, false}
-use mathlib.Core.Path.{_≡_, refl, subst, sym, ap, _∙_}
+use mathlib.Core.Bool.{Bool, true, false, _||_, not}
+use mathlib.Core.Path.{_≡_, refl, subst, sym, ap, ap₂, _∙_}
 use mathlib.Core.Logic.{⊎-elim}
 use mathlib.Core.List.{List, [], _∷_, _++_}
 use native.Mathlib.Omega.{arith}
@@ -17,7 +17,9 @@ use Rattle.table.specs.Expressions.{exprAt, bodyOf}
 use Rattle.table.specs.Well.{Fn, Laid}
 use Rattle.table.specs.Reach.{Reached, InReach}
 use Rattle.table.proofs.SyntaxLaws.{node-id, sub-node, every-node}
-use Rattle.list.specs.Tags.{tagged, after, checkWith}
+use Rattle.table.proofs.LowestLaws.{lowest-same}
+use Rattle.list.specs.Tags.{tagged, listed, after, checkWith, holdsAt, missing}
+use Rattle.list.proofs.HoldingLaws.{holds-other}
 use Rattle.list.proofs.Theorems.{listed-reached, order-taken}
 use Rattle.rules.specs.Arithmetic.{Arithmetic, arithmetic}
 use Rattle.rules.specs.State.{State512, View, view}
@@ -35,7 +37,8 @@ use Rattle.rules.proofs.Invariant.{active?, Sound}
 use Rattle.rules.proofs.ActiveReached.{active-reached}
 use Rattle.rules.proofs.Acting.{stepping}
 use Rattle.rules.proofs.Logs.{played-state}
-use Rattle.rules.proofs.Demands.{start-passes, table-kept, lay}
+use Rattle.rules.proofs.Starts.{start-passes}
+use Rattle.rules.proofs.Demands.{table-kept, lay}
 
 -- a node that is idle or done has no step
 still-stuck : (units : Arithmetic) (body : ℕ → Expr) (h : ℕ) (s : View) (u : Expr) → Still s (id u) → act units body h s u ≡ stuck
@@ -168,13 +171,24 @@ module _ (t tags args : List ℕ) (s : State512) (e : startOf t tags args ≡ st
     alike = λ tags tags′ a. same-asked tags tags′ a asked;
   }
 
--- of the tags a start sees the check's verdict alone
+-- they lack the same of the list, which main reaches
+missing-alike : (t tags tags′ : List ℕ) (F N : ℕ) → checkOf t ≡ accepted F N → AlikeInReach t tags tags′
+    → missing t tags ≡ missing t tags′
+unfolding missing holdsAt
+missing-alike t tags tags′ F N e a = lowest-same (holdsAt (listed t) tags) (holdsAt (listed t) tags′) (nodes t) (λ n r. go n r (listed t n) refl)
+  where
+    go : (n : ℕ) → Range (nodes t) n → (b : Bool) → listed t n ≡ b → holdsAt (listed t) tags n ≡ holdsAt (listed t) tags′ n
+    go n r true l = ap (λ x. not (listed t n) || x) (a .tag n r (listed-reached t F N e n l))
+    go n r false l = holds-other (listed t) tags n l ∙ sym (holds-other (listed t) tags′ n l)
+
+-- of the tags a start sees the check's verdict, and what they lack
 pub spare-tags : (t tags tags′ args : List ℕ) (F N : ℕ) → checkOf t ≡ accepted F N → AlikeInReach t tags tags′ → SpareTags t tags tags′ args
 unfolding startOf checkStart
 spare-tags t tags tags′ args F N e a = record {
-  start = ap (λ c. startAfter (after c argued) (opening t args)) (checks-alike t tags tags′ F N e a);
+  start = ap₂ (λ c m. startAfter (after c (argued m)) (opening t args)) (checks-alike t tags tags′ F N e a)
+      (missing-alike t tags tags′ F N e a);
   holding = λ h n r l. sym (a .tag n r (listed-reached t F N e n l)) ∙ h n r l;
 }
   where
-    argued : Unit {0} → Verdict
-    argued _ = stage 11 (eqb (length args) (params t (functions t))) 0 λ _. accepted (functions t) (nodes t)
+    argued : ℕ → Unit {0} → Verdict
+    argued m _ = stage 11 (eqb (length args) (params t (functions t))) 0 λ _. stage 26 true m λ _. accepted (functions t) (nodes t)

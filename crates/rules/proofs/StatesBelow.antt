@@ -30,7 +30,8 @@ use Rattle.rules.specs.Circuit.{opening, stepOf, playsOf}
 use Rattle.rules.specs.Widths.{FitsWidths, StepNarrow, StatesBelow}
 use Rattle.rules.proofs.ActCases.{by-pick, by-state}
 use Rattle.rules.proofs.AnyState.{by-check}
-use Rattle.rules.proofs.Demands.{start-passes, main-few}
+use Rattle.rules.proofs.Starts.{start-passes}
+use Rattle.rules.proofs.Demands.{main-few}
 use Rattle.rules.proofs.MetFacts.{map-all}
 use Rattle.rules.proofs.Narrow.{narrow-below}
 use Rattle.rules.proofs.Performed.{Fair, perform-sized}

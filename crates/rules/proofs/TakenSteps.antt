@@ -5,7 +5,6 @@ use mathlib.Core.Logic.{inl, inr}
 use mathlib.Core.List.{List, [], _∷_, _++_}
 use native.Mathlib.Omega.{arith}
 use lib.ListN.{length, take}
-use Rattle.list.specs.Tags.{Holding}
 use Rattle.rules.specs.State.{State512, In}
 use Rattle.rules.specs.Step.{Reply, taken, answered, denied}
 use Rattle.rules.specs.Play.{noted}
@@ -100,9 +99,9 @@ module _ (t tags : List ℕ) where
   next-answer s [] n = inl refl
   next-answer s (m ∷ ns) n = inr (next-answer (stepOf t tags s m .state) ns n)
 
--- after any steps from a start, the tags holding the list, a step is not refused 23
-pub never-held : (t tags args : List ℕ) (s : State512) → startOf t tags args ≡ started s → Holding t tags → (ns : List ℕ) (n place : ℕ)
+-- after any steps from a start, a step under its tags is not refused 23
+pub never-held : (t tags args : List ℕ) (s : State512) → startOf t tags args ≡ started s → (ns : List ℕ) (n place : ℕ)
     → stepOf t tags (playOf t tags s ns .state) n .answer ≡ denied 23 place → ⊥
-never-held t tags args s start holds ns n place e =
-    demand t tags args s start holds (ns ++ n ∷ []) .arbitrated place
+never-held t tags args s start ns n place e =
+    demand t tags args s start (ns ++ n ∷ []) .arbitrated place
     (subst (λ x. In x (playOf t tags s (ns ++ n ∷ []) .answers)) e (next-answer t tags s ns n))

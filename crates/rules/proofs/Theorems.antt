@@ -7,14 +7,15 @@ use Rattle.rules.specs.State.{State512}
 use Rattle.rules.specs.Play.{Ask}
 use Rattle.rules.specs.Circuit.{started, startOf, playsOf}
 use Rattle.rules.specs.Demand.{ThirdDemand, ReadingUnique}
-use Rattle.rules.specs.Companions.{UnderAnyTags, OwnStart, OwnList, ReadingFixed, ReadingWord, FitsFromStart, InAnyState, AfterSteps}
+use Rattle.rules.specs.Companions.{UnderAnyTags, OwnStart, ReadingFixed, ReadingWord, FitsFromStart, InAnyState, AfterSteps}
 use Rattle.rules.specs.Companions.{FirstDemand}
+use Rattle.rules.specs.Starts.{StartsExactly}
 use Rattle.rules.specs.SpareTags.{AlikeInReach, SpareBodies, SpareTags}
 use Rattle.rules.specs.EitherOrder.{WhoGoesFirst, EitherOrderReached}
 use Rattle.rules.specs.First.{FirstSteps}
 use Rattle.rules.specs.Widths.{NarrowFirst, FunctionBelow, ReadingBelow, AnswerBelow, StepNarrow, StatesBelow}
 use Rattle.rules.proofs.Demands as Demands
-use Rattle.rules.proofs.OwnList as OwnLists
+use Rattle.rules.proofs.Starts as Starts
 use Rattle.rules.proofs.EveryState as EveryState
 use Rattle.rules.proofs.SpareTags as SpareTags
 use Rattle.rules.proofs.EitherOrder as EitherOrder
@@ -25,8 +26,8 @@ use Rattle.rules.proofs.Narrow as Narrow
 use Rattle.rules.proofs.MetBelow as Meets
 use Rattle.rules.proofs.StatesBelow as StatesBelow
 
--- Demand 3, "one claim about the whole list of steps": for every table, tags and arguments that start takes, the tags holding the
--- arbiter list, and every list ns of asked numbers, which "may be empty or go on past the answer", "0 and above N too"
+-- Demand 3, "one claim about the whole list of steps": for every table, tags and arguments that start takes, and every list ns of asked
+-- numbers, which "may be empty or go on past the answer", "0 and above N too"
 pub demand : ThirdDemand
 demand = Demands.demand
 
@@ -34,12 +35,13 @@ demand = Demands.demand
 pub reading-unique : ReadingUnique
 reading-unique = Demands.reading-unique
 
--- the table's own list starts it, and the demand holds with no premise on the list
-pub own-start : OwnStart
-own-start = OwnLists.own-start
+-- a start (document 02, Q-7): it takes exactly what passes the table, 10, 11 and 26, so that its tags hold the list
+pub starts-exactly : (t tags args : List ℕ) → StartsExactly t tags args
+starts-exactly = Starts.starts-exactly
 
-pub own-list : OwnList
-own-list = OwnLists.own-list
+-- and the table's own list starts it
+pub own-start : OwnStart
+own-start = Starts.own-start
 
 -- the plain reading: each function's is its body's, and its value is a word
 pub reading-fixed : (t : List ℕ) (F N : ℕ) → checkOf t ≡ accepted F N → ReadingFixed t

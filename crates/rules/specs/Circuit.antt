@@ -1,5 +1,6 @@
 -- start, step and play over the bytes of a table and of tags, with the refusals in document 01's order
 use Prim.Native.Nat.{ℕ}
+use mathlib.Core.Bool.{true}
 use mathlib.Core.List.{List}
 use lib.Dec.{eqb}
 use lib.ListN.{length}
@@ -11,17 +12,18 @@ use Rattle.table.specs.Bytes.{functions, nodes, params}
 use Rattle.table.specs.Naming.{owner}
 use Rattle.table.specs.Check.{Verdict, accepted, refused, stage}
 use Rattle.table.specs.Expressions.{exprAt, bodyOf}
-use Rattle.list.specs.Tags.{tagged, after, checkWith}
+use Rattle.list.specs.Tags.{tagged, after, checkWith, missing}
 
 -- a start's answer
 pub data Started : Type 0 where
   started : State512 → Started
   turned : (number place : ℕ) → Started
 
--- what a start looks at: the table, its tags, then 11, one argument for each of main's parameters
+-- what a start looks at: the table, its tags, then 11, one argument for each of main's parameters, and last 26, a tag at each listed call
 unfoldable pub checkStart : List ℕ → List ℕ → List ℕ → Verdict
 checkStart t tags args = after (checkWith t tags) λ _.
     stage 11 (eqb (length args) (params t (functions t))) 0 λ _.
+    stage 26 true (missing t tags) λ _.
     accepted (functions t) (nodes t)
 
 unfoldable pub startAfter : Verdict → State512 → Started

@@ -11,7 +11,7 @@ use Rattle.table.specs.Pick.{pick, Range}
 use Rattle.table.specs.Bytes.{functions, nodes, params}
 use Rattle.table.specs.Check.{accepted, checkOf}
 use Rattle.table.specs.Expressions.{exprAt, bodyOf}
-use Rattle.list.specs.Tags.{checkWith, tagsOf}
+use Rattle.list.specs.Tags.{checkWith, tagsOf, Holding}
 use Rattle.rules.specs.Arithmetic.{arithmetic}
 use Rattle.rules.specs.Reading.{Readings, Rounds, readingsOf, ReadsTo}
 use Rattle.rules.specs.State.{State512, Sized, View, entry, view}
@@ -21,7 +21,7 @@ use Rattle.rules.specs.Circuit.{started, opening, startOf, stepOf, plays
 use Rattle.rules.specs.Runs.{MainDone, mainValue, standing, gave, atRest, barred, Driven, Ran, runOf, RunPlays, Drives, Found}
 use Rattle.rules.specs.Runs.{nothing, Finds}
 use Rattle.rules.specs.First.{firstsOf, queryOf, driveOf}
-use Rattle.rules.specs.Demand.{Answers, DemandThree}
+use Rattle.rules.specs.Demand.{Answers}
 
 -- x is what the next step does at a call of function f, k of the call's steps taken before: it is the (k + 1)st
 pub record Phases (x : Act) (f k : ℕ) : Type 0 where
@@ -32,7 +32,8 @@ pub record Phases (x : Act) (f k : ℕ) : Type 0 where
   pub leaving : k % 3 ≡ 2 → (v : ℕ) × (x ≡ does (leaves f v))
   pub left : (g v : ℕ) → x ≡ does (leaves g v) → (k % 3 ≡ 2) × (g ≡ f)
 
--- under any tags, changing at every step, and the start's table at each; s is the state of a start with these arguments
+-- under any tags, other ones than the start's too and changing at every step, and the start's table at each; s is the state of a start with
+-- these arguments
 pub record UnderAnyTags (t args : List ℕ) (s : State512) (asked : List (Ask (List ℕ))) : Type 0 where
   -- a function was entered once more than it was left while it has an occupant, else as often
   pub balance : (f : ℕ) → 1 ≤ f → f ≤ functions t → entriesOf t f (playsOf t s asked .nodes)
@@ -48,6 +49,9 @@ pub record UnderAnyTags (t args : List ℕ) (s : State512) (asked : List (Ask (L
   -- main has answered, or some step would be taken next
   pub lively : (F N : ℕ) (tags : List ℕ) → checkWith t tags ≡ accepted F N
       → ((v : ℕ) × Answers (playsOf t s asked) v) ⊎ ((n : ℕ) × Possible t tags (playsOf t s asked .state) n)
+  -- a step whose own tags hold the arbiter list is not refused 23, whatever the tags before it were
+  pub arbitrated : (F N : ℕ) (tags : List ℕ) → checkWith t tags ≡ accepted F N → Holding t tags → (n place : ℕ)
+      → stepOf t tags (playsOf t s asked .state) n .answer ≡ denied 23 place → ⊥
   -- 24 is never met
   pub stands : (F N : ℕ) (tags : List ℕ) → checkWith t tags ≡ accepted F N
       → standing t tags (playsOf t s asked .state) ≡ accepted (functions t) (nodes t)
@@ -113,14 +117,10 @@ pub record Fits (s : State512) : Type 0 where
   pub value : Words (s .value)
   pub registers : Words (s .registers)
 
--- every accepted table starts with its own list and main's number of arguments ..
+-- every accepted table starts with its own list and main's number of arguments
 abbrev pub OwnStart : Type 0
 OwnStart = (t args : List ℕ) (F N : ℕ) → checkOf t ≡ accepted F N → length args ≡ params t (functions t)
     → startOf t (tagsOf t) args ≡ started (opening t args)
-
--- .. and the demand holds of that circuit, with no premise on the list
-abbrev pub OwnList : Type 0
-OwnList = (t args : List ℕ) (s : State512) → startOf t (tagsOf t) args ≡ started s → (ns : List ℕ) → DemandThree t (tagsOf t) args s ns
 
 -- under K, the reading of each function is its body's, read with what K says of the callees, whichever they are
 abbrev pub ByBodies : (t : List ℕ) → Readings → Type 0

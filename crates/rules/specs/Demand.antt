@@ -5,7 +5,6 @@ use mathlib.Core.Logic.{_⊎_}
 use mathlib.Core.List.{List}
 use lib.ListN.{length, take}
 use Rattle.table.specs.Bytes.{functions}
-use Rattle.list.specs.Tags.{Holding}
 use Rattle.rules.specs.Reading.{ReadsTo}
 use Rattle.rules.specs.State.{State512, In}
 use Rattle.rules.specs.Step.{answered, denied}
@@ -28,10 +27,9 @@ pub record DemandThree (t tags args : List ℕ) (s : State512) (ns : List ℕ) :
   -- main's value is the reading's, and the reading's count is the number of steps taken
   pub right : (v : ℕ) → Answers (playOf t tags s ns) v → ReadsTo t args v (length (playOf t tags s ns .nodes))
 
--- the whole demand: its premises are that start takes table, tags and arguments, and that the tags hold the arbiter list
+-- the whole demand: its one premise is that start takes table, tags and arguments
 abbrev pub ThirdDemand : Type 0
 ThirdDemand = (t tags args : List ℕ) (s : State512) → startOf t tags args ≡ started s
-    → Holding t tags
     → (ns : List ℕ) → DemandThree t tags args s ns
 
 -- what `right` names is one value and one count: a table and its arguments have no other reading

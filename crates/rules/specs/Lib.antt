@@ -10,6 +10,7 @@ pub mod Sets
 pub mod Reading
 pub mod Met
 pub mod Demand
+pub mod Starts
 pub mod Companions
 pub mod SpareTags
 pub mod EitherOrder

@@ -1,4 +1,4 @@
--- `begin::start` meets its contract, by the number of arguments.
+-- `begin::start` meets its contract, by the number of arguments and what the tags lack.
 use native.Mathlib.Omega.{arith}
 use mathlib.Core.Path.{_≡_, refl, sym, ap, subst, _∙_}
 use Rattle.table.specs.Bytes.{functions, params}
@@ -8,7 +8,7 @@ use Rattle.rules.specs.State.{State512}
 use Rattle.rules.specs.Circuit.{started}
 use Rattle.circuit.specs.Meaning.{OpenedAs, stateAs}
 use Rattle.circuit.proofs.ChainLaws.{ok}
-use Rattle.circuit.proofs.BeginLaws.{start-count, start-goes}
+use Rattle.circuit.proofs.BeginLaws.{start-count, start-short, start-goes}
 use borrow.Author.Needs.{needs}
 use Rattle.circuit.proofs.begin.start.Statement.{statement}
 use Rattle.circuit.proofs.begin.start.Tie as tie
@@ -44,22 +44,32 @@ returns : tie.Need-returns
 returns c =
     let p : tie.After-params = search in
     let s = begin (main-read p) in
-    λ tags e. subst (OpenedAs _ _ _) (start-count _ _ _ (record { fair = s .pre .taken; tagging = e }) _ (count p) (c .if1 .taken))
+    λ tags e m. subst (OpenedAs _ _ _) (start-count _ _ _ (record { fair = s .pre .taken; tagging = e }) _ (count p) (c .if1 .taken))
     (record { answer = refl; state = refl })
-
-open-main-requires : tie.Need-open-main-requires
-open-main-requires c κs = search needs
 
 returns-2 : tie.Need-returns-2
 returns-2 c =
     let right : tie.Else1 = search in
     let p : tie.After-params = search in
     let s = begin (main-read p) in
+    λ tags e m. subst (OpenedAs _ _ _)
+    (start-short _ _ _ (record { fair = s .pre .taken; tagging = e }) _ (count p) (right .if1 .left) _ m (c .if2 .taken))
+    (record { answer = refl; state = refl })
+
+open-main-requires : tie.Need-open-main-requires
+open-main-requires c κs = search needs
+
+returns-3 : tie.Need-returns-3
+returns-3 c =
+    let whole : tie.Else2 = search in
+    let right : tie.Else1 = search in
+    let p : tie.After-params = search in
+    let s = begin (main-read p) in
     let e = c .open-main .ensures in
-    λ tags q.
-    let goes = start-goes _ _ _ (record { fair = s .pre .taken; tagging = q }) _ (count p) (right .if1 .left) in
+    λ tags q m.
+    let goes = start-goes _ _ _ (record { fair = s .pre .taken; tagging = q }) _ (count p) (right .if1 .left) _ m (whole .if2 .left) in
     subst (OpenedAs (state s) _ _) goes (record { answer = ap started e; state = e })
 
 pub start-spec : {M : Type 1} → statement M
 start-spec =
-    tie.close (tie.spec main-requires params-requires cast-if1 returns open-main-requires returns-2)
+    tie.close (tie.spec main-requires params-requires cast-if1 returns returns-2 open-main-requires returns-3)
