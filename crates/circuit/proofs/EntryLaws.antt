@@ -1,18 +1,18 @@
 -- the entries: occupants as numbers, 24, and the steps of a run
 use Prim.Native.Nat.{ℕ, suc, _+_, _≤_, _<_}
-use mathlib.Core.Bool.{Bool, true, false, _&&_, _||_, not}
+use mathlib.Core.Bool.{Bool, true, false, _||_, not}
 use mathlib.Core.Path.{_≡_, refl, subst, sym, ap, _∙_}
 use mathlib.Core.List.{List, [], _∷_, map}
 use native.Mathlib.Omega.{arith}
 use native.Mathlib.Numerals.{add-one}
-use lib.Dec.{T, eqb}
+use lib.Dec.{T}
 use lib.ListN.{length, getD, drop, drop-of-length-le}
 use lib.Seq.{drop-cons}
 use Rattle.table.specs.Bytes.{functions, nodes}
-use Rattle.table.specs.Check.{accepted, refused, stage, checkOf}
+use Rattle.table.specs.Check.{accepted, refused, stage}
 use Rattle.table.specs.declared.Node.{Node}
 use Rattle.table.proofs.Passed.{passes}
-use Rattle.list.specs.Tags.{after, tagLength, nonePast, tagsRefusal, checkWith}
+use Rattle.list.specs.Tags.{after, checkWith}
 use Rattle.rules.specs.State.{State512}
 use Rattle.rules.specs.Step.{Reply, taken, answered, denied, Stepped, refusal, over}
 use Rattle.rules.specs.Circuit.{circuitOf, stepOf}

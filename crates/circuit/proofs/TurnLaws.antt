@@ -12,11 +12,10 @@ use Rattle.table.specs.Pick.{pick}
 use Rattle.table.specs.Syntax.{id}
 use Rattle.table.specs.Bytes.{functions, nodes, root}
 use Rattle.table.specs.Naming.{owner}
-use Rattle.table.specs.Check.{accepted, checkOf}
+use Rattle.table.specs.Check.{accepted}
 use Rattle.table.specs.Expressions.{bodyOf, exprAt}
 use Rattle.table.specs.Working.{IsNode}
 use Rattle.table.proofs.Bodies.{id-body}
-use Rattle.table.proofs.Passed.{passed}
 use Rattle.list.specs.Tags.{tagged, checkWith}
 use Rattle.rules.specs.State.{State512, view, entry}
 use Rattle.rules.specs.Step.{Act, stuck, blocked, does, Reply, taken, answered, denied, Stepped, refusal, done, told, outcome}
@@ -26,7 +25,6 @@ use Rattle.rules.specs.Circuit.{actOf, circuitOf, stepAfter, stepOf}
 use Rattle.table.specs.Working.{Taken}
 use Rattle.circuit.specs.declared.plan.Plan.{Plan}
 use Rattle.circuit.specs.Working.{Planned, performed, Stands, whyNot}
-use Rattle.rules.proofs.Starts.{after-both}
 use Rattle.circuit.proofs.StandsLaws.{kept, stands-parts}
 use Rattle.circuit.proofs.ChainLaws.{ok}
 use Rattle.table.specs.Check as TableCheck

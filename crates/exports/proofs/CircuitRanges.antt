@@ -10,7 +10,7 @@ use Rattle.table.specs.Naming.{owner}
 use Rattle.table.specs.Check.{Verdict, accepted, refused}
 use Rattle.table.specs.Expressions.{exprAt, bodyOf}
 use Rattle.table.specs.Syntax.{id}
-use Rattle.list.specs.Tags.{tagged, checkWith}
+use Rattle.list.specs.Tags.{tagged, listed, checkWith, holdsAt, missing}
 use Rattle.list.proofs.NodeLaws.{few}
 use Rattle.rules.specs.Arithmetic.{arithmetic}
 use Rattle.rules.specs.State.{State512, View, entry, view}
@@ -24,9 +24,28 @@ use Rattle.rules.specs.Companions.{Bytes, Words, Fits}
 use Rattle.rules.proofs.StepCases.{Cause, step-cases, number, place, no-node, bad-status, bad-occupant, main-done, no-move, occupied}
 use Rattle.rules.proofs.Fits.{step-fits, plays-fit}
 use Rattle.exports.specs.Numbers.{Refusable, Valued, FitsVerdict, FitsReply, FitsFound, FitsHalt, FitsEnded, verdictOfStart}
-use Rattle.exports.proofs.Ranges.{refusable, stage-fits, after-fits, with-fits}
+use Rattle.exports.proofs.Ranges.{refusable, stage-fits, after-fits, with-fits, lowest-within}
+use Rattle.exports.specs.Answers.{missingOf}
+use Rattle.rules.specs.First.{foundAt, queryAfter}
 
--- a start: the table, its tags, 11
+-- what tags lack is a node's number
+missing-few : (t tags : List ℕ) (F N : ℕ) → checkWith t tags ≡ accepted F N → missing t tags ≤ 512
+unfolding missing
+missing-few t tags F N e =
+    omega (arith, lowest-within (holdsAt (listed t) tags) (nodes t), few t (fair-from t tags F N e) .1)
+
+pub missing-fits : (t tags : List ℕ) → FitsFound (missingOf t tags)
+missing-fits t tags = go (checkWith t tags) refl (with-fits t tags)
+  where
+    by : (n : ℕ) → n ≤ 512 → FitsFound (foundAt n)
+    by zero h = tt
+    by (suc n) h = omega (arith, h)
+
+    go : (v : Verdict) → checkWith t tags ≡ v → FitsVerdict v → FitsFound (queryAfter v (missing t tags))
+    go (accepted F N) e f = by (missing t tags) (missing-few t tags F N e)
+    go (refused k p) e f = f
+
+-- a start: the table, its tags, 11, 26
 by-start : (v : Verdict) (s : State512) → FitsVerdict v → FitsVerdict (verdictOfStart (startAfter v s))
 unfolding startAfter
 by-start (accepted F N) s f = tt
@@ -35,7 +54,8 @@ by-start (refused k p) s f = f
 pub start-fits : (t tags args : List ℕ) → FitsVerdict (verdictOfStart (startOf t tags args))
 unfolding startOf checkStart
 start-fits t tags args = by-start _ _ (after-fits _ _ (with-fits t tags) (λ F N e.
-    stage-fits 11 _ 0 _ (omega arith) (omega arith) (omega arith) (λ _. tt)))
+    stage-fits 11 _ 0 _ (omega arith) (omega arith) (omega arith) (λ _.
+    stage-fits 26 _ _ _ (omega arith) (omega arith) (missing-few t tags F N e) (λ _. tt))))
 
 -- what is checked before a query and before a run
 pub standing-fits : (t tags : List ℕ) (s : State512) → FitsVerdict (standing t tags s)

@@ -44,7 +44,7 @@ unfolding after
 after-fits (accepted F N) rest b f = f F N refl
 after-fits (refused k p) rest b f = b
 
-lowest-within : (p : ℕ → Bool) (k : ℕ) → lowest p k ≤ k
+pub lowest-within : (p : ℕ → Bool) (k : ℕ) → lowest p k ≤ k
 unfolding lowest
 lowest-within p zero = omega arith
 lowest-within p (suc k) = go (lowest p k) (lowest-within p k) (eqb (lowest p k) 0) (p (suc k))

@@ -32,6 +32,7 @@ answers-fit t tags s = record {
   filled = Ranges.fill-fits t;
   records = Ranges.records-fit t;
   item = Ranges.item-fits t;
+  missing = CircuitRanges.missing-fits t tags;
   counts = Ranges.counts-fit;
   extent = Ranges.extent-fits t;
   start = CircuitRanges.start-fits t tags;

@@ -1,14 +1,17 @@
--- from what the entries promise to what the C functions promise: of the sheet's number, and of the circuit's lent arrays
-use Prim.Native.Nat.{ℕ}
-use mathlib.Core.Path.{_≡_, sym, ap, _∙_}
+-- from what the entries promise to what the C functions promise: of the sheet's number, of what tags lack, and of the circuit's lent arrays
+use Prim.Native.Nat.{ℕ, zero, suc}
+use mathlib.Core.Path.{_≡_, refl, sym, ap, _∙_}
 use mathlib.Core.List.{List}
 use lib.ListN.{length}
 use Rattle.table.specs.Check.{accepted, refused, checkOf}
+use Rattle.list.specs.Tags.{checkWith, missing, missingWith}
+use Rattle.list.proofs.HoldingLaws.{missing-told}
 use Rattle.pages.specs.Sheet.{sheetBytes}
 use Rattle.rules.specs.State.{State512}
 use Rattle.rules.specs.Step.{Stepped}
 use Rattle.rules.specs.Circuit.{Started}
 use Rattle.rules.specs.Runs as Runs
+use Rattle.rules.specs.First.{foundAt, queryAfter}
 use Rattle.circuit.specs.declared.types.Opening.{Opening}
 use Rattle.circuit.specs.declared.types.Answer.{Answer}
 use Rattle.circuit.specs.declared.types.Halt.{Halt}
@@ -16,7 +19,7 @@ use Rattle.circuit.specs.declared.types.Ended.{Ended}
 use Rattle.circuit.specs.declared.types.Found.{Found}
 use Rattle.circuit.specs.Meaning.{openingOf, OpenedAs, replyOf, steppedAs, haltOf, RanLent, endedOf, DrivenLent, foundOf}
 use Rattle.exports.specs.Codes.{valueCode, refusalCode, extentAfter, extentOf, extentCode}
-use Rattle.exports.specs.Answers.{startCode, replyCode, haltCode, endedCode, foundCode}
+use Rattle.exports.specs.Answers.{startCode, replyCode, haltCode, endedCode, foundCode, missingOf}
 use Rattle.exports.specs.Answers.{StartTold, StepTold, RunTold, DriveTold}
 
 -- a sheet's number, by what the check of the table says
@@ -26,6 +29,21 @@ module _ (t : List ℕ) where
 
   pub sheet-printed : (F N : ℕ) → checkOf t ≡ accepted F N → valueCode (length (sheetBytes t)) ≡ extentCode (extentOf t)
   sheet-printed F N e = sym (ap (λ v. extentCode (extentAfter v (length (sheetBytes t)))) e)
+
+-- a node's number is what names it
+pub node-named : (n : ℕ) → (n ≡ 0 → ⊥) → valueCode n ≡ foundCode (foundAt n)
+node-named zero h = absurd (h refl)
+node-named (suc n) h = refl
+
+-- what tags lack, by what the check of both says
+module _ (t tags : List ℕ) where
+  pub missing-refused : (k p : ℕ) → checkWith t tags ≡ refused k p → refusalCode k p ≡ foundCode (missingOf t tags)
+  missing-refused k p e = sym (ap (λ v. foundCode (queryAfter v (missing t tags))) e)
+
+  pub missing-named : (F N : ℕ) → checkWith t tags ≡ accepted F N → (n : ℕ) → n ≡ missingWith t tags
+      → foundCode (foundAt n) ≡ foundCode (missingOf t tags)
+  missing-named F N e n q =
+      ap (λ m. foundCode (foundAt m)) (q ∙ sym (missing-told t tags F N e)) ∙ sym (ap (λ v. foundCode (queryAfter v (missing t tags))) e)
 
 -- s is the state that was lent, s′ the one left in the arrays
 pub start-told : (x : Started) (s : State512) (a : Opening) (s′ : State512) {r : ℕ} → OpenedAs s a s′ x → r ≡ startCode (openingOf a s′)

@@ -1,4 +1,4 @@
--- the circuit's answers as one number, and what each of its C functions returns and leaves
+-- the circuit's answers and what tags lack as one number, and what each of the circuit's C functions returns and leaves
 use Prim.Native.Nat.{ℕ}
 use mathlib.Core.Path.{_≡_}
 use mathlib.Core.List.{List}
@@ -7,8 +7,9 @@ use Rattle.rules.specs.Step.{Reply, taken, answered, denied, Stepped}
 use Rattle.rules.specs.Circuit.{Started, started, turned, stateOf}
 use Rattle.rules.specs.Runs.{Halt, whole, stopped, standing, runOf, Ended, gave, atRest, spent, barred}
 use Rattle.rules.specs.Runs.{Found, names, nothing, unasked}
-use Rattle.rules.specs.First.{driveOf}
+use Rattle.rules.specs.First.{queryAfter, driveOf}
 use Rattle.table.specs.Check.{ifAccepted}
+use Rattle.list.specs.Tags.{checkWith, missing}
 use Rattle.exports.specs.Codes.{refusalCode, valueCode}
 
 abbrev pub startCode : Started → ℕ
@@ -24,6 +25,10 @@ abbrev pub foundCode : Found → ℕ
 foundCode nothing = 0
 foundCode (names n) = valueCode n
 foundCode (unasked number place) = refusalCode number place
+
+-- what list_missing finds: the lowest listed call without a tag, or nothing; table and tags come first
+abbrev pub missingOf : (t tags : List ℕ) → Found
+missingOf t tags = queryAfter (checkWith t tags) (missing t tags)
 
 abbrev pub haltCode : Halt → ℕ
 haltCode whole = 0

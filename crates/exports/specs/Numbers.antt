@@ -15,7 +15,7 @@ use Rattle.rules.specs.First.{queryOf, driveOf}
 use Rattle.rules.specs.Companions.{Bytes, Fits}
 use Rattle.exports.specs.Codes.{codeOf, countsCode, Item, item, past, unlisted, itemOf, itemCode}
 use Rattle.exports.specs.Codes.{Extent, bytes, unprinted, extentOf, extentCode}
-use Rattle.exports.specs.Answers.{startCode, replyCode, foundCode, haltCode, endedCode}
+use Rattle.exports.specs.Answers.{startCode, replyCode, foundCode, missingOf, haltCode, endedCode}
 
 -- what an answer holds where its number is its own: a refusal's number from 1 up in a byte, a place in 16 bits, a value in 32
 abbrev pub Refusable : (number place : ℕ) → Type 0
@@ -85,7 +85,7 @@ pub record NumbersTell : Type 0 where
   -- circuit_start
   pub starts : (x y : Started) → FitsVerdict (verdictOfStart x) → FitsVerdict (verdictOfStart y) → startCode x ≡ startCode y
       → verdictOfStart x ≡ verdictOfStart y
-  -- circuit_step, circuit_query, circuit_run, circuit_drive
+  -- circuit_step, circuit_query and list_missing, circuit_run, circuit_drive
   pub replies : Tells replyCode FitsReply
   pub founds : Tells foundCode FitsFound
   pub halts : Tells haltCode FitsHalt
@@ -99,6 +99,8 @@ pub record AnswersFit (t tags : List ℕ) (s : State512) : Type 0 where
   pub filled : (len : ℕ) → FitsVerdict (fillVerdict t len)
   pub records : (len : ℕ) → FitsVerdict (recordsVerdict t len)
   pub item : (i : ℕ) → FitsItem (itemOf t i)
+  -- list_missing
+  pub missing : FitsFound (missingOf t tags)
   -- table_operation_counts
   pub counts : (op : ℕ) → FitsCounts (operationCounts op)
   -- sheet_fill

@@ -7,6 +7,7 @@ use circuit::types::Opening;
 use table::Node;
 ghost use mathlib.Core.Path.{_≡_};
 ghost use Rattle.rules.specs.State.{State512};
+ghost use Rattle.rules.specs.First.{foundAt};
 ghost use Rattle.circuit.specs.Meaning.{openingOf, replyOf, foundOf, haltOf, endedOf};
 ghost use Rattle.exports.specs.Codes.{refusalCode, valueCode};
 ghost use Rattle.exports.specs.Answers.{startCode, replyCode, foundCode, haltCode, endedCode};
@@ -21,6 +22,16 @@ fn value(v: u32) -> u64
     ensures { λ r. ⌜ r ≡ valueCode v ⌝ }
 {
     4294967296 + (v as u64)
+}
+
+// A node, or none where its number is 0.
+pub(crate) fn node(n: Node) -> u64
+    ensures { λ r. ⌜ r ≡ foundCode (foundAt (n .0)) ⌝ }
+{
+    if n.0 == 0 {
+        return 0;
+    }
+    value(n.0 as u32)
 }
 
 pub(crate) fn opening(a: Opening) -> u64

@@ -13,6 +13,7 @@ ghost use Prim.Native.Nat.{_%_, _^_, _<_};
 ghost use lib.ListN.{length, getD};
 ghost use Rattle.list.specs.Tags.{checkWith, fillVerdict, filledTags, bitsSet};
 ghost use Rattle.exports.specs.Codes.{codeOf, countsCode, valueCode, recordCode, itemOf, itemCode};
+ghost use Rattle.exports.specs.Answers.{foundCode, missingOf};
 ghost use Rattle.list.specs.Records.{noRecord, recordsVerdict, filledRecords};
 
 // 0 for accepted, else the refusal's number * 65536 + its place.
@@ -57,6 +58,21 @@ pub extern "C" fn list_check_tags(bytes: &[u8], tags: &[u8]) -> u32
     ensures { λ r. ⌜ r ≡ codeOf (checkWith (now (bytes .entry)) (now (tags .entry))) ⌝ }
 {
     code(list::check_tags(bytes, tags))
+}
+
+// The lowest listed call without a tag, which a start is refused 26 for, or none; the table's refusals, then 10.
+#[no_mangle]
+pub extern "C" fn list_missing(bytes: &[u8], tags: &[u8]) -> u64
+    ensures { λ r. ⌜ r ≡ foundCode (missingOf (now (bytes .entry)) (now (tags .entry))) ⌝ }
+{
+    let mut cells = [0u16; 3270];
+    let told = list::survey_tags(bytes, tags, &mut cells);
+    let checked = told.checked;
+    let missing = told.missing;
+    match checked {
+        Checked::Refused(number, place) => codes::refusal(number, place),
+        Checked::Accepted(_, _) => codes::node(missing),
+    }
 }
 
 // The number of bits set in a tag list.

@@ -138,10 +138,10 @@ module _ (t : List ℕ) (ok : Taken t) (tags : List ℕ) (F N : ℕ) (fit : chec
       past n a true e = absurd (omega (arith, a, listed-call t (functions t) (nodes t) ok n e .0 .1))
       past n a false e = holds-other (listed t) tags n e
 
-  -- what is told then, and on a refusal
-  pub missing-told : missing t tags ≡ missingWith t tags
-  unfolding missingWith
-  missing-told = sym (ap (λ v. ifAccepted v (missing t tags) 0) fit)
+-- what is told of it beside the check of table and tags
+pub missing-told : (t tags : List ℕ) (F N : ℕ) → checkWith t tags ≡ accepted F N → missing t tags ≡ missingWith t tags
+unfolding missingWith
+missing-told t tags F N e = sym (ap (λ v. ifAccepted v (missing t tags) 0) e)
 
 pub missing-refused : (t tags : List ℕ) (number place : ℕ) → checkWith t tags ≡ refused number place → 0 ≡ missingWith t tags
 unfolding missingWith

@@ -74,9 +74,9 @@ reads t tags args ns k v s e =
 
 -- what closed evaluation has to see through
 unfoldable pub circuit-open : Unit {0}
-unfolding list-open check-open tagged nonePast tagFits tagsRefusal after checkWith holdsAt missing checkStart startAfter startOf circuitOf
-    stepAfter stepOf playsOf playOf circuitStep circuitStart over entry write register alter fill clear opened blank lastValue wrap operate narrow
-    standing runFrom runOf
+unfolding list-open check-open tagged nonePast tagFits tagsRefusal after checkWith holdsAt missing checkStart startAfter startOf
+    circuitOf stepAfter stepOf playsOf playOf circuitStep circuitStart over entry write register alter fill clear opened blank lastValue
+    wrap operate narrow standing runFrom runOf
 circuit-open = tt
 
 -- "f(x)=x; main(x)=f(f(x)) .. argument 9 gives 9 in 9 steps"

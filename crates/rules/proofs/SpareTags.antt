@@ -175,7 +175,8 @@ module _ (t tags args : List ℕ) (s : State512) (e : startOf t tags args ≡ st
 missing-alike : (t tags tags′ : List ℕ) (F N : ℕ) → checkOf t ≡ accepted F N → AlikeInReach t tags tags′
     → missing t tags ≡ missing t tags′
 unfolding missing holdsAt
-missing-alike t tags tags′ F N e a = lowest-same (holdsAt (listed t) tags) (holdsAt (listed t) tags′) (nodes t) (λ n r. go n r (listed t n) refl)
+missing-alike t tags tags′ F N e a =
+    lowest-same (holdsAt (listed t) tags) (holdsAt (listed t) tags′) (nodes t) (λ n r. go n r (listed t n) refl)
   where
     go : (n : ℕ) → Range (nodes t) n → (b : Bool) → listed t n ≡ b → holdsAt (listed t) tags n ≡ holdsAt (listed t) tags′ n
     go n r true l = ap (λ x. not (listed t n) || x) (a .tag n r (listed-reached t F N e n l))

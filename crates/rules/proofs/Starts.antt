@@ -15,7 +15,7 @@ use Rattle.list.specs.Tags.{Holding, after, tagLength, nonePast, tagsRefusal, t
 use Rattle.list.proofs.TagFacts.{order-taken, goes-order, tags-hold, tags-taken}
 use Rattle.list.proofs.HoldingLaws.{none-missing, missing-exactly}
 use Rattle.rules.specs.State.{State512}
-use Rattle.rules.specs.Circuit.{Started, started, turned, opening, checkStart, startAfter, startOf}
+use Rattle.rules.specs.Circuit.{started, turned, opening, checkStart, startAfter, startOf}
 use Rattle.rules.specs.Starts.{Fitting, StartsExactly}
 use Rattle.rules.specs.Companions.{OwnStart}
 
@@ -124,12 +124,15 @@ with-under t tags = after-under 26 _ _
 lacks-from : (t tags args : List ℕ) (n : ℕ) → startOf t tags args ≡ turned 26 n
     → ((F N : ℕ) × (checkWith t tags ≡ accepted F N)) × (length args ≡ params t (functions t)) × (missing t tags ≡ n) × (1 ≤ n)
 unfolding startOf checkStart after startAfter stage
-lacks-from t tags args n = go (checkWith t tags) refl (with-under t tags)
+lacks-from t tags args n = go (checkWith t tags) (with-under t tags)
   where
-    told : (b : Bool) (m : ℕ) → Started
-    told b m = startAfter (stage 11 b 0 (λ _. stage 26 true m (λ _. accepted (functions t) (nodes t)))) (opening t args)
+    told : (b : Bool) (m : ℕ) → Unit {0} → Verdict
+    told b m _ = stage 11 b 0 (λ _. stage 26 true m (λ _. accepted (functions t) (nodes t)))
 
-    by : (b : Bool) (m : ℕ) → eqb (length args) (params t (functions t)) ≡ b → missing t tags ≡ m → told b m ≡ turned 26 n
+    counted : Bool
+    counted = eqb (length args) (params t (functions t))
+
+    by : (b : Bool) (m : ℕ) → counted ≡ b → missing t tags ≡ m → startAfter (told b m tt) (opening t args) ≡ turned 26 n
         → (length args ≡ params t (functions t)) × (missing t tags ≡ n) × (1 ≤ n)
     by false m q w e = absurd (let z : _≡_ {A = ℕ} 11 26 = cc in omega (arith, z))
     by true zero q w e = absurd (let z : _≡_ {A = ℕ} 0 1 = cc in omega arith)
@@ -137,26 +140,23 @@ lacks-from t tags args n = go (checkWith t tags) refl (with-under t tags)
         let z : suc m ≡ n = cc in
         (eqb→eq (length args) (params t (functions t)) (true-T _ q), w ∙ z, omega (arith, z))
 
-    go : (c : Verdict) → checkWith t tags ≡ c → Under 26 c
-        → startAfter (after c (λ _. stage 11 (eqb (length args) (params t (functions t))) 0 (listing t tags))) (opening t args) ≡ turned 26 n
+    go : (c : Verdict) → Under 26 c → startAfter (after c (told counted (missing t tags))) (opening t args) ≡ turned 26 n
         → ((F N : ℕ) × (c ≡ accepted F N)) × (length args ≡ params t (functions t)) × (missing t tags ≡ n) × (1 ≤ n)
-    go (accepted F N) w u e =
-        let x = by (eqb (length args) (params t (functions t))) (missing t tags) refl refl e in
-        ((F, N, refl), x .0, x .1, x .2)
-    go (refused k p) w u e = absurd (let z : _≡_ {A = ℕ} k 26 = cc in omega (arith, z, u))
+    go (accepted F N) u e = let x = by counted (missing t tags) refl refl e in ((F, N, refl), x .0, x .1, x .2)
+    go (refused k p) u e = absurd (let z : _≡_ {A = ℕ} k 26 = cc in omega (arith, z, u))
 
 pub starts-exactly : (t tags args : List ℕ) → StartsExactly t tags args
 starts-exactly t tags args = record {
   taken = λ s. (
     λ e. let p = start-passes t tags args s e in (fits (functions t) (nodes t) (p .check-tags) (p .count), p .holding, p .state),
     λ x. let o = order-taken t (functions t) (nodes t) (x .0 .table) tags .1 (x .0 .order) in
-    start-taken t tags args _ _ o (x .0 .count) (none-missing t tags .1 (x .1)) ∙ ap started (sym (x .2)),
+        start-taken t tags args _ _ o (x .0 .count) (none-missing t tags .1 (x .1)) ∙ ap started (sym (x .2)),
   );
   lacking = λ n. (
     λ e. let f = lacks-from t tags args n e in
-    (fits (f .0 .0) (f .0 .1) (f .0 .2) (f .1), missing-exactly t tags n (f .3) .0 (f .2)),
+        (fits (f .0 .0) (f .0 .1) (f .0 .2) (f .1), missing-exactly t tags n (f .3) .0 (f .2)),
     λ x. let o = order-taken t (functions t) (nodes t) (x .0 .table) tags .1 (x .0 .order) in
-    start-lacks t tags args _ _ o (x .0 .count) n (x .1 .there .0) (missing-exactly t tags n (x .1 .there .0) .1 (x .1)),
+        start-lacks t tags args _ _ o (x .0 .count) n (x .1 .there .0) (missing-exactly t tags n (x .1 .there .0) .1 (x .1)),
   );
 }
   where

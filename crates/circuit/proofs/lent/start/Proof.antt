@@ -50,7 +50,7 @@ returns-2 : tie.Need-returns-2
 returns-2 c =
     let is : tie.After-enum-told = search in
     let a = agreed is in
-    c .start .ensures _ (a .tagging) (found is .survey-tags .ensures .1 ∙ sym (missing-told _ (a .fair) _ _ _ (a .tagging)))
+    c .start .ensures _ (a .tagging) (found is .survey-tags .ensures .1 ∙ sym (missing-told _ _ _ _ (a .tagging)))
 
 pub start-spec : {M : Type 1} → statement M
 start-spec =

@@ -52,9 +52,11 @@ returns-2 c =
     let is : tie.After-checked2 = search in
     let set : tie.After-arbiters = search in
     let s = start (found is) in
-    let e = taken is in
-    (sym e, c .lowest-missing .ensures ∙ missing-found _ (s .pre .taken) _ _ _ e _ (set .arbiters .ensures .2)
-    ∙ missing-told _ (s .pre .taken) _ _ _ e)
+    let e = taken is in (
+      sym e,
+      c .lowest-missing .ensures ∙ missing-found _ (s .pre .taken) _ _ _ e _ (set .arbiters .ensures .2)
+          ∙ missing-told _ _ _ _ e,
+    )
 
 pub compare-spec : {M : Type 1} → statement M
 compare-spec =
