@@ -83,8 +83,12 @@ struct safl_record {
    as they were: 10 at place 0 where their number is not (N + 7) / 8. */
 uint32_t list_fill_tags(const uint8_t *table, size_t table_len, uint8_t *tags, size_t tags_len);
 
-/* 0 for tags that fit the table, or a refusal. They need not be its own list. */
+/* 0 for tags that fit the table, or a refusal. They need not hold its list: list_missing looks at that. */
 uint32_t list_check_tags(const uint8_t *table, size_t table_len, const uint8_t *tags, size_t tags_len);
+
+/* The lowest listed call without a tag, which circuit_start refuses 26 for. SAFL_PLAIN: each listed call has a tag; SAFL_VALUE: that call's
+   node; SAFL_REFUSED: the table, then 10. Nothing is written. */
+uint64_t list_missing(const uint8_t *table, size_t table_len, const uint8_t *tags, size_t tags_len);
 
 /* How many bits are set, modulo 2^64: of a table's own list, how many records it has. */
 uint64_t list_total(const uint8_t *tags, size_t tags_len);
@@ -103,8 +107,8 @@ uint32_t list_fill_records(const uint8_t *table, size_t table_len, struct safl_r
    SAFL_VALUE: the number of its bytes; SAFL_REFUSED, by the table alone, the text as it was. */
 uint64_t sheet_fill(const uint8_t *table, size_t table_len, uint8_t text[SAFL_SHEET_BYTES]);
 
-/* ---- The circuit under a tag list. The refusals of table and tags, 1 to 9, 25 and 10, come first; then 11 of a start; 12, 24, 20, and 21,
-   22 or 23 of a step; 24 of a query and of a run, whose steps follow. */
+/* ---- The circuit under a tag list. The refusals of table and tags, 1 to 9, 25 and 10, come first; then 11 and 26 of a start; 12, 24, 20,
+   and 21, 22 or 23 of a step; 24 of a query and of a run, whose steps follow. */
 
 /* A circuit's state: five arrays, each lent by itself. Node n is at n - 1; the registers of function f are at 8 * (f - 1) to 8 * f - 1, its
    occupant is at f - 1. A start fills all of it; before one, zeros will do. */
@@ -119,7 +123,8 @@ struct safl_state {
 /* The five arrays of a struct safl_state, as the functions below take them. */
 #define SAFL_LENT(state) (state)->status, (state)->second, (state)->value, (state)->registers, (state)->occupant
 
-/* Starts main with these arguments, each reduced to main's width. SAFL_PLAIN: started; SAFL_REFUSED, the state as it was. */
+/* Starts main with these arguments, each reduced to main's width. SAFL_PLAIN: started, and the tags hold the table's list; SAFL_REFUSED,
+   the state as it was: 26 at the lowest listed call without a tag comes last. */
 uint64_t circuit_start(const uint8_t *table, size_t table_len, const uint8_t *tags, size_t tags_len, uint8_t status[SAFL_NODES],
                        bool second[SAFL_NODES], uint32_t value[SAFL_NODES], uint32_t registers[SAFL_REGISTERS],
                        uint16_t occupant[SAFL_FUNCTIONS], const uint32_t *args, size_t args_len);

@@ -1,5 +1,5 @@
-// What is checked before a step, a query or a run: the table, its tags, and 24. Their tables are decoded here and nowhere else; a start has
-// its own decoded by `list`, which looks at the arbiter list too.
+// What is checked before a step, a query or a run: the table, its tags, and 24. Tables are decoded here and nowhere else; a start needs
+// none decoded, and has `list` check its own.
 use crate::standing;
 use table::Checked;
 use table::Node;

@@ -32,15 +32,13 @@ pub fn start(
         r (stateAs (now (status .exit)) (now (second .exit)) (now (value .exit)) (now (registers .exit)) (now (occupant .exit)))
         (startOf (now (table .entry)) (now (tags .entry)) (now (args .entry))) ⌝ }
 {
-    let mut cells = [0u16; 3270];
-    let told = list::survey_tags(table, tags, &mut cells);
+    let told = list::check_coverage(table, tags);
     let checked = told.checked;
     let lacking = told.missing;
     match checked {
         Checked::Refused(number, place) => Opening::Refused(number, place),
         Checked::Accepted(_, _) => begin::start(
             table,
-            &cells,
             status,
             second,
             value,

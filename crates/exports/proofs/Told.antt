@@ -1,4 +1,5 @@
--- from what the entries promise to what the C functions promise: of the sheet's number, of what tags lack, and of the circuit's lent arrays
+-- from what the entries promise to what the C functions promise: of the sheet's number, of the call that tags lack, and of the circuit's
+-- lent arrays
 use Prim.Native.Nat.{ℕ, zero, suc}
 use mathlib.Core.Path.{_≡_, refl, sym, ap, _∙_}
 use mathlib.Core.List.{List}

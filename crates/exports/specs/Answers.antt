@@ -1,4 +1,4 @@
--- the circuit's answers and what tags lack as one number, and what each of the circuit's C functions returns and leaves
+-- the circuit's answers, and which call tags lack, as one number; and what each of the circuit's C functions returns and leaves
 use Prim.Native.Nat.{ℕ}
 use mathlib.Core.Path.{_≡_}
 use mathlib.Core.List.{List}

@@ -60,13 +60,12 @@ pub extern "C" fn list_check_tags(bytes: &[u8], tags: &[u8]) -> u32
     code(list::check_tags(bytes, tags))
 }
 
-// The lowest listed call without a tag, which a start is refused 26 for, or none; the table's refusals, then 10.
+// The lowest listed call without a tag, or none, after the table's refusals and 10; a start that gets past 11 is refused 26 there.
 #[no_mangle]
 pub extern "C" fn list_missing(bytes: &[u8], tags: &[u8]) -> u64
     ensures { λ r. ⌜ r ≡ foundCode (missingOf (now (bytes .entry)) (now (tags .entry))) ⌝ }
 {
-    let mut cells = [0u16; 3270];
-    let told = list::survey_tags(bytes, tags, &mut cells);
+    let told = list::check_coverage(bytes, tags);
     let checked = told.checked;
     let missing = told.missing;
     match checked {

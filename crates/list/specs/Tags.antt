@@ -1,4 +1,5 @@
--- tag lists (document 01, "The arbiter list"): the bits of a tag list, a table's arbiter list and its tag bytes, refusal 10
+-- tag lists (document 01, "The arbiter list"): the bits of a tag list, a table's arbiter list and its tag bytes, refusal 10; and what 26
+-- looks for (document 02, Q-7)
 use Prim.Native.Nat.{ℕ, zero, suc, _+_, _-_, _*_, _/_, _%_, _^_, _≤_, _<_}
 use mathlib.Core.Bool.{Bool, _&&_, _||_, not, true, false}
 use mathlib.Core.List.{List, [], _∷_}

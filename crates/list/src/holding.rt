@@ -12,12 +12,7 @@ ghost use Rattle.table.specs.Survey.{verdictOf};
 ghost use Rattle.table.specs.Working.{Read};
 ghost use Rattle.list.specs.Tags.{tagged, checkWith, holdsAt, missingWith};
 
-// The cells have their length: of a lent array that is no fact, of one by value it is. Compiled, nothing is left of this.
-pub(crate) fn whole(cells: Cells)
-    ensures { λ _. ⌜ length cells ≡ 3270 ⌝ }
-{}
-
-// How many bytes of a set, from the front, have no bit that the tags lack.
+// Some bytes of a set, from the front, none of which has a bit that the tags lack: all of them up to the first that has one.
 fn covered(set: &[u8; 64], tags: &[u8]) -> usize
     requires { ⌜ length (now tags) ≤ 64 ⌝ }
     ensures { λ r. ⌜ (r ≤ length (now (tags .entry))) × (lowest (holdsAt (tagged (now (set .entry))) (now (tags .entry))) (8 * r) ≡ 0) ⌝ }
@@ -26,7 +21,7 @@ fn covered(set: &[u8; 64], tags: &[u8]) -> usize
     while i < tags.len() {
         let x = set[i];
         let y = tags[i];
-        if x | y != y {
+        if (x | y) != y {
             return i;
         }
         i += 1;
@@ -52,7 +47,7 @@ fn lowest_missing(set: &[u8; 64], tags: &[u8]) -> Node
     Node(0)
 }
 
-// The tags of a table that was decoded: 10, then what they lack of its list.
+// The tags of a table that was decoded: 10, then the lowest listed call that they lack.
 pub(crate) fn compare(table: &[u8], cells: &Cells, tags: &[u8]) -> Coverage
     requires { ⌜ Read (now table) (now cells) ⌝ }
     ensures { λ r. ⌜ (verdictOf (r .checked) ≡ checkWith (now (table .entry)) (now (tags .entry)))

@@ -91,23 +91,23 @@ twice-reads : ReadsTo twice (9 ∷ []) 9 9
 unfolding circuit-open
 twice-reads = reads twice (0 ∷ []) (9 ∷ []) inside-out 8 9 refl twice-run
 
--- "main(x)=beside(f(x), f(x)) .. 12 steps"
+-- "main(x)=beside(f(x), f(x)) .. 12 steps", with the tags {3, 5}
+abbrev pub both : List ℕ
+both = 0b0001_0100 ∷ []
+
 abbrev one-by-one : List ℕ
 one-by-one = 2 ∷ 3 ∷ 4 ∷ 3 ∷ 1 ∷ 3 ∷ 5 ∷ 6 ∷ 5 ∷ 1 ∷ 5 ∷ 2 ∷ []
 
-pair-run : says pair (0b0001_0100 ∷ []) (9 ∷ []) one-by-one ≡ ends 11 9
+pair-run : says pair both (9 ∷ []) one-by-one ≡ ends 11 9
 unfolding circuit-open
 pair-run = refl
 
 pair-reads : ReadsTo pair (9 ∷ []) 9 12
 unfolding circuit-open
-pair-reads = reads pair (0b0001_0100 ∷ []) (9 ∷ []) one-by-one 11 9 refl pair-run
+pair-reads = reads pair both (9 ∷ []) one-by-one 11 9 refl pair-run
 
 -- "Steps 2, 3, 5, 4, 6, 3, then 5: 22 with both tags, 22 with 5 alone, 23 with none or 3 alone": the start has both tags, and so have the
 -- first six steps (document 02, Q-7)
-abbrev pub both : List ℕ
-both = 0b0001_0100 ∷ []
-
 abbrev collision : List ℕ → List Reply
 collision tags = playsOf pair (from pair both (9 ∷ [])) (asks both (2 ∷ 3 ∷ 5 ∷ 4 ∷ 6 ∷ 3 ∷ []) ++ asks tags (5 ∷ [])) .answers
 
@@ -137,7 +137,7 @@ unfolding circuit-open
 past-answer = refl
 
 -- a run over a list goes on past the answer into 20, and stops there
-run-past : runOf pair (0b0001_0100 ∷ []) (from pair (0b0001_0100 ∷ []) (9 ∷ [])) (one-by-one ++ 2 ∷ 0 ∷ []) .halt ≡ stopped 20 2
+run-past : runOf pair both (from pair both (9 ∷ [])) (one-by-one ++ 2 ∷ 0 ∷ []) .halt ≡ stopped 20 2
 unfolding circuit-open
 run-past = refl
 

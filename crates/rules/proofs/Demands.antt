@@ -29,7 +29,7 @@ use Rattle.list.specs.Tags.{tagged, after, checkWith, Holding}
 use Rattle.list.specs.CallSets.{Listed}
 use Rattle.list.proofs.Callees.{listed-exactly}
 use Rattle.list.proofs.TagFacts.{listed-call}
-use Rattle.rules.proofs.Starts.{start-passes}
+use Rattle.rules.proofs.Starts.{Not, with-not, start-passes}
 use Rattle.rules.proofs.Levels.{fixed, into}
 use Rattle.rules.proofs.Unique.{readings-unique}
 use Rattle.rules.proofs.Logs.{begin, logged, more, plays, plays-alike}
@@ -127,6 +127,19 @@ module _ (t : List ℕ) (F N : ℕ) (check : checkOf t ≡ accepted F N) where
         kept-silent (arithmetic t) lay (tagged tags) (holding-tags tags holds) (view s₀) l k n p
         (e ∙ ap (λ r. r .answer) (step-same tags F N taken (l .state) n))
 
+    -- tags that are not taken are refused by other numbers
+    untold : (tags : List ℕ) → Holding t tags → (l : Log) → KeptFrom l → (n p : ℕ) → stepOf t tags (l .state) n .answer ≡ denied 23 p → ⊥
+    unfolding stepOf stepAfter
+    untold tags holds l k n p e = go (checkWith t tags) refl (with-not t tags 23 (omega arith) (λ z. omega (arith, z)))
+      where
+        same-number : (i j k p : ℕ) → denied i j ≡ denied k p → i ≡ k
+        same-number i j k p z = cc
+
+        go : (c : Verdict) → checkWith t tags ≡ c → Not 23 c → ⊥
+        go (accepted F N) q u = silent tags F N q holds l k n p (sym e)
+        go (refused i j) q u =
+            u (same-number i j 23 p (sym (ap (λ c. stepAfter c (l .state) (circuitOf t tags (l .state) n) .answer) q) ∙ e))
+
     any-tags : (asked : List (Ask (List ℕ))) → UnderAnyTags t args s₀ asked
     unfolding entriesOf leavingsOf playsOf
     any-tags asked = record {
@@ -138,7 +151,7 @@ module _ (t : List ℕ) (F N : ℕ) (check : checkOf t ≡ accepted F N) where
       lively = λ F N tags c.
           ⊎-elim inl (λ x. inr (x .0, subst (λ r. IsTaken (r .answer)) (sym (step-same tags F N c (l .state) (x .0))) (x .1)))
           (kept-lively (arithmetic t) lay (view s₀) l k (tagged tags));
-      arbitrated = λ F N tags c holds n p e. silent tags F N c holds l k n p (sym e);
+      arbitrated = λ tags holds n p e. untold tags holds l k n p e;
       stands = λ F N tags c. stands-well tags F N c (l .state) (k .good);
       main-free = kept-main-free (arithmetic t) lay (view s₀) l k;
       right = right;

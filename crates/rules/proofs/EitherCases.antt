@@ -10,7 +10,7 @@ use Rattle.rules.specs.Step.{does, begins, finishes, enters, taken, answ
 use Rattle.rules.specs.Circuit.{started, startOf, stepOf, playOf, Possible}
 use Rattle.rules.specs.Runs.{standing}
 use Rattle.rules.specs.EitherOrder.{Rivals, TwoSteps, TwoHands, EitherOrder}
-use Rattle.rules.proofs.Cases.{from, circuit-open}
+use Rattle.rules.proofs.Cases.{both, from, circuit-open}
 use Rattle.rules.proofs.OddStates.{status-at, second-at}
 use Rattle.rules.proofs.EitherOrder.{refused-second, either-order-reached}
 
@@ -18,15 +18,12 @@ use Rattle.rules.proofs.EitherOrder.{refused-second, either-order-reach
 abbrev no-tags : List ℕ
 no-tags = 0 ∷ []
 
-abbrev both-tags : List ℕ
-both-tags = 0b0001_0100 ∷ []
-
 abbrev fir-tags : List ℕ
 fir-tags = 0 ∷ 0 ∷ 0 ∷ 0 ∷ 0 ∷ []
 
 -- the state after steps at ns
 abbrev pair-after : List ℕ → State512
-pair-after ns = playOf pair both-tags (from pair both-tags (9 ∷ [])) ns .state
+pair-after ns = playOf pair both (from pair both (9 ∷ [])) ns .state
 
 abbrev fir-after : List ℕ → State512
 fir-after ns = playOf fir fir-tags (from fir fir-tags (1 ∷ 2 ∷ 3 ∷ 4 ∷ [])) ns .state
@@ -42,17 +39,17 @@ one-callee : (f g : ℕ) (vs ws : List ℕ) → does (enters f vs) ≡ does (ent
 one-callee f g vs ws e = cc
 
 -- the two parameters, once both calls have begun
-arguments : EitherOrder pair both-tags (pair-after (2 ∷ 3 ∷ 5 ∷ [])) 4 6
+arguments : EitherOrder pair both (pair-after (2 ∷ 3 ∷ 5 ∷ [])) 4 6
 unfolding circuit-open
-arguments = either-order-reached pair both-tags (9 ∷ []) _ refl (2 ∷ 3 ∷ 5 ∷ []) 4 6 (record {
+arguments = either-order-reached pair both (9 ∷ []) _ refl (2 ∷ 3 ∷ 5 ∷ []) 4 6 (record {
   two = record { different = λ e. omega arith; a-steps = tt; b-steps = tt };
   no-rivals = λ r. not-finishes 9 (r .1 .0) (r .0) (r .1 .1);
 })
 
 -- one call enters f while the other's parameter is read
-entering : EitherOrder pair both-tags (pair-after (2 ∷ 3 ∷ 5 ∷ 4 ∷ [])) 3 6
+entering : EitherOrder pair both (pair-after (2 ∷ 3 ∷ 5 ∷ 4 ∷ [])) 3 6
 unfolding circuit-open
-entering = either-order-reached pair both-tags (9 ∷ []) _ refl (2 ∷ 3 ∷ 5 ∷ 4 ∷ []) 3 6 (record {
+entering = either-order-reached pair both (9 ∷ []) _ refl (2 ∷ 3 ∷ 5 ∷ 4 ∷ []) 3 6 (record {
   two = record { different = λ e. omega arith; a-steps = tt; b-steps = tt };
   no-rivals = λ r. not-finishes 9 (r .2 .0) (r .0) (r .2 .1);
 })
@@ -73,8 +70,8 @@ rivals : Rivals pair (pair-after (2 ∷ 3 ∷ 5 ∷ 4 ∷ 6 ∷ [])) 3 5
 unfolding circuit-open
 rivals = (1, (9 ∷ [], refl), (9 ∷ [], refl))
 
-second-waits : (playOf pair both-tags (pair-after (2 ∷ 3 ∷ 5 ∷ 4 ∷ 6 ∷ [])) (3 ∷ 5 ∷ []) .answers ≡ taken ∷ denied 22 5 ∷ [])
-    × (playOf pair both-tags (pair-after (2 ∷ 3 ∷ 5 ∷ 4 ∷ 6 ∷ [])) (5 ∷ 3 ∷ []) .answers ≡ taken ∷ denied 22 3 ∷ [])
+second-waits : (playOf pair both (pair-after (2 ∷ 3 ∷ 5 ∷ 4 ∷ 6 ∷ [])) (3 ∷ 5 ∷ []) .answers ≡ taken ∷ denied 22 5 ∷ [])
+    × (playOf pair both (pair-after (2 ∷ 3 ∷ 5 ∷ 4 ∷ 6 ∷ [])) (5 ∷ 3 ∷ []) .answers ≡ taken ∷ denied 22 3 ∷ [])
 unfolding circuit-open
 second-waits = (refl, refl)
 
@@ -82,7 +79,7 @@ second-waits = (refl, refl)
 needs-no-rivals : ((t tags args : List ℕ) (s : State512) → startOf t tags args ≡ started s → (ns : List ℕ) (a b : ℕ)
     → TwoSteps t tags (playOf t tags s ns .state) a b → EitherOrder t tags (playOf t tags s ns .state) a b) → ⊥
 unfolding circuit-open
-needs-no-rivals wrong = refused-second (wrong pair both-tags (9 ∷ []) _ refl (2 ∷ 3 ∷ 5 ∷ 4 ∷ 6 ∷ []) 3 5
+needs-no-rivals wrong = refused-second (wrong pair both (9 ∷ []) _ refl (2 ∷ 3 ∷ 5 ∷ 4 ∷ 6 ∷ []) 3 5
     (record { different = λ e. omega arith; a-steps = tt; b-steps = tt }) .a-then-b)
 
 -- .. "different" too: node 2 of a start steps, and then has no step ..
@@ -117,15 +114,15 @@ needs-start wrong = ends-apart (ap (λ s. entry (s .status) 0 3) (wrong twice no
 -- further states that no start leads to: a call in its second phase, 5 of `pair` or 2 of `twice`, that doesn't occupy f
 abbrev inside : State512
 inside =
-    let s = from pair both-tags (9 ∷ []) in
+    let s = from pair both (9 ∷ []) in
     second-at 5 (status-at 1 3 (status-at 2 2 (status-at 3 2 (status-at 4 3 (status-at 5 2 (status-at 6 3 s))))))
 
 abbrev leaving : State512
 leaving = second-at 2 (status-at 1 3 (status-at 2 2 (status-at 3 2 (status-at 4 3 (from twice no-tags (9 ∷ []))))))
 
 -- one order is refused: 3 makes f new, whose root 5 needs done ..
-one-refused : (playOf pair both-tags inside (3 ∷ 5 ∷ []) .answers ≡ taken ∷ denied 21 5 ∷ [])
-    × (playOf pair both-tags inside (5 ∷ 3 ∷ []) .answers ≡ taken ∷ taken ∷ [])
+one-refused : (playOf pair both inside (3 ∷ 5 ∷ []) .answers ≡ taken ∷ denied 21 5 ∷ [])
+    × (playOf pair both inside (5 ∷ 3 ∷ []) .answers ≡ taken ∷ taken ∷ [])
 unfolding circuit-open
 one-refused = (refl, refl)
 

@@ -88,10 +88,10 @@ waits : (says held-up (2 ∷ []) ≡ denied 23 2 ∷ []) × (playOf twice (0b000
 unfolding circuit-open
 waits = (refl, refl)
 
--- so no start leads there, whatever is asked under whatever tags
+-- so no start of this table leads there, whatever is asked under whatever tags
 not-reached : (tags args : List ℕ) (s : State512) → startOf twice tags args ≡ started s → (asked : List (Ask (List ℕ)))
     → playsOf twice s asked .state ≡ held-up → ⊥
 unfolding circuit-open
 not-reached tags args s e asked q =
-    under-any-tags twice tags args s e asked .arbitrated 2 4 (0 ∷ []) refl (tags-hold twice 2 4 refl) 2 2
+    under-any-tags twice tags args s e asked .arbitrated (0 ∷ []) (tags-hold twice 2 4 refl) 2 2
     (ap (λ z. stepOf twice (0 ∷ []) z 2 .answer) q)

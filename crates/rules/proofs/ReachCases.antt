@@ -38,23 +38,24 @@ wrong-tag = refl
 abbrev rivals : List ℕ → List Reply
 rivals tags = says spareTwin tags (9 ∷ []) (7 ∷ 8 ∷ 10 ∷ 9 ∷ 11 ∷ 8 ∷ 10 ∷ 3 ∷ 1 ∷ 8 ∷ 10 ∷ 1 ∷ 10 ∷ 7 ∷ [])
 
-abbrev held-then-nine : (number : ℕ) → List Reply
-held-then-nine number = replicate 6 taken ++ denied number 10 ∷ denied 21 3 ∷ replicate 5 taken ++ answered 9 ∷ []
+abbrev held-then-nine : List Reply
+held-then-nine = replicate 6 taken ++ denied 22 10 ∷ denied 21 3 ∷ replicate 5 taken ++ answered 9 ∷ []
 
-own-rivals : rivals (tagsOf spareTwin) ≡ held-then-nine 22
+own-rivals : rivals (tagsOf spareTwin) ≡ held-then-nine
 unfolding circuit-open
 own-rivals = refl
 
-rivals-beside : rivals (0b1001_0100 ∷ 0b0000_0010 ∷ []) ≡ held-then-nine 22
+rivals-beside : rivals (0b1001_0100 ∷ 0b0000_0010 ∷ []) ≡ held-then-nine
 unfolding circuit-open
 rivals-beside = refl
 
--- the tags of g alone are none for main: a start lacks 8, and under them the second call waits without an arbiter
+-- the tags of g alone are none for main, and no tag at all lacks main's calls alone: 26 is at 8, not at 3. Under them the second call waits
+-- without an arbiter
 abbrev spare : List ℕ
 spare = 0b0001_0100 ∷ 0b0000_0000 ∷ []
 
-rivals-untagged : (startOf spareTwin spare (9 ∷ []) ≡ turned 26 8)
+rivals-untagged : (startOf spareTwin spare (9 ∷ []) ≡ turned 26 8) × (startOf spareTwin (0 ∷ 0 ∷ []) (9 ∷ []) ≡ turned 26 8)
     × (playsOf spareTwin (from spareTwin (tagsOf spareTwin) (9 ∷ []))
     (asks (tagsOf spareTwin) (7 ∷ 8 ∷ 10 ∷ 9 ∷ 11 ∷ 8 ∷ []) ++ asks spare (10 ∷ [])) .answers ≡ replicate 6 taken ++ denied 23 10 ∷ [])
 unfolding circuit-open
-rivals-untagged = (refl, refl)
+rivals-untagged = (refl, refl, refl)

@@ -13,13 +13,18 @@ starts-refused : (startOf nested (0 ∷ []) (9 ∷ []) ≡ turned 9 2) × (start
 unfolding circuit-open
 starts-refused = (refl, refl, refl, refl, refl, refl)
 
--- a step under tags that are not taken is refused, and changes nothing
+-- a step under tags that are not in order is refused, and changes nothing
 steps-refused : playsOf pair (from pair both (9 ∷ []))
     (record { tags = []; node = 2 } ∷ record { tags = 0 ∷ []; node = 2 } ∷ record { tags = 0b0000_0010 ∷ []; node = 3 }
     ∷ record { tags = 0b0000_0100 ∷ []; node = 3 } ∷ []) .answers
     ≡ denied 10 0 ∷ taken ∷ denied 10 2 ∷ taken ∷ []
 unfolding circuit-open
 steps-refused = refl
+
+-- the table before its tags, and both before the number of arguments
+tags-first : (startOf nested [] [] ≡ turned 9 2) × (startOf pair (0b0000_0010 ∷ []) (9 ∷ 9 ∷ []) ≡ turned 10 2)
+unfolding circuit-open
+tags-first = (refl, refl)
 
 -- 26 at the lowest listed call without a tag: with none, with 3 alone, with 5 alone
 starts-lacking : (startOf pair (0 ∷ []) (9 ∷ []) ≡ turned 26 3) × (startOf pair (0b0000_0100 ∷ []) (9 ∷ []) ≡ turned 26 5)

@@ -6,6 +6,7 @@ use mathlib.Core.List.{List}
 use native.Mathlib.Omega.{arith}
 use lib.Dec.{eqb, eqb→eq}
 use lib.ListN.{length}
+use borrow.Author.Tests.{ne-eqb}
 use Rattle.table.specs.Bytes.{functions, nodes, params}
 use Rattle.table.specs.Check.{Verdict, accepted, refused, stage, checkOf}
 use Rattle.table.proofs.Tests.{true-T}
@@ -68,6 +69,16 @@ start-passes t tags args s e =
       state = a .1;
     }
 
+-- table and tags come first, then 11
+pub start-first : (t tags args : List ℕ) (k p : ℕ) → checkWith t tags ≡ refused k p → startOf t tags args ≡ turned k p
+unfolding startOf startAfter checkStart after
+start-first t tags args k p e = rw e refl
+
+pub start-second : (t tags args : List ℕ) (F N : ℕ) → checkWith t tags ≡ accepted F N → (length args ≡ params t (functions t) → ⊥)
+    → startOf t tags args ≡ turned 11 0
+unfolding startOf startAfter checkStart after stage
+start-second t tags args F N e d = rw (e, ne-eqb (length args) (params t (functions t)) d) refl
+
 -- what is left to look at once 11 is passed
 module _ (t tags : List ℕ) where
   abbrev listing : Unit {0} → Verdict
@@ -94,37 +105,40 @@ module _ (t tags : List ℕ) where
   start-lacks args F N e c (suc n) l z =
       start-listed args F N e c ∙ ap (λ m. startAfter (stage 26 true m (λ _. accepted (functions t) (nodes t))) (opening t args)) z
 
--- no refusal has a number of m or more
-abbrev Under : ℕ → Verdict → Type 0
-Under m (accepted F N) = Unit {0}
-Under m (refused k p) = k < m
+-- no refusal has the number m
+abbrev pub Not : ℕ → Verdict → Type 0
+Not m (accepted F N) = Unit {0}
+Not m (refused k p) = k ≡ m → ⊥
 
-stage-under : (m k : ℕ) (b : Bool) (p : ℕ) (rest : Unit {0} → Verdict) → k < m → Under m (rest tt) → Under m (stage k b p rest)
+stage-not : (m k : ℕ) (b : Bool) (p : ℕ) (rest : Unit {0} → Verdict) → (k ≡ m → ⊥) → Not m (rest tt) → Not m (stage k b p rest)
 unfolding stage
-stage-under m k false p rest l f = l
-stage-under m k true zero rest l f = f
-stage-under m k true (suc p) rest l f = l
+stage-not m k false p rest d f = d
+stage-not m k true zero rest d f = f
+stage-not m k true (suc p) rest d f = d
 
-after-under : (m : ℕ) (c : Verdict) (rest : Unit {0} → Verdict) → Under m c → Under m (rest tt) → Under m (after c rest)
+after-not : (m : ℕ) (c : Verdict) (rest : Unit {0} → Verdict) → Not m c → Not m (rest tt) → Not m (after c rest)
 unfolding after
-after-under m (accepted F N) rest x y = y
-after-under m (refused k p) rest x y = x
+after-not m (accepted F N) rest x y = y
+after-not m (refused k p) rest x y = x
 
--- 26 is neither a table's nor a tag list's
-with-under : (t tags : List ℕ) → Under 26 (checkWith t tags)
+-- table and tags are refused by 1 to 10 and 25 alone
+pub with-not : (t tags : List ℕ) (m : ℕ) → 10 < m → (m ≡ 25 → ⊥) → Not m (checkWith t tags)
 unfolding checkWith checkOf tagsRefusal
-with-under t tags = after-under 26 _ _
-    (stage-under 26 1 _ _ _ (omega arith) (stage-under 26 2 _ _ _ (omega arith) (stage-under 26 3 _ _ _ (omega arith)
-    (stage-under 26 4 _ _ _ (omega arith) (stage-under 26 5 _ _ _ (omega arith) (stage-under 26 6 _ _ _ (omega arith)
-    (stage-under 26 7 _ _ _ (omega arith) (stage-under 26 8 _ _ _ (omega arith) (stage-under 26 9 _ _ _ (omega arith)
-    (stage-under 26 25 _ _ _ (omega arith) tt))))))))))
-    (stage-under 26 10 _ _ _ (omega arith) tt)
+with-not t tags m h d = after-not m _ _
+    (stage-not m 1 _ _ _ (low 1 (omega arith)) (stage-not m 2 _ _ _ (low 2 (omega arith)) (stage-not m 3 _ _ _ (low 3 (omega arith))
+    (stage-not m 4 _ _ _ (low 4 (omega arith)) (stage-not m 5 _ _ _ (low 5 (omega arith)) (stage-not m 6 _ _ _ (low 6 (omega arith))
+    (stage-not m 7 _ _ _ (low 7 (omega arith)) (stage-not m 8 _ _ _ (low 8 (omega arith)) (stage-not m 9 _ _ _ (low 9 (omega arith))
+    (stage-not m 25 _ _ _ (λ e. d (sym e)) tt))))))))))
+    (stage-not m 10 _ _ _ (low 10 (omega arith)) tt)
+  where
+    low : (k : ℕ) → k < 11 → k ≡ m → ⊥
+    low k l e = omega (arith, e, h, l)
 
 -- so a start that is turned back by 26 got that far
 lacks-from : (t tags args : List ℕ) (n : ℕ) → startOf t tags args ≡ turned 26 n
     → ((F N : ℕ) × (checkWith t tags ≡ accepted F N)) × (length args ≡ params t (functions t)) × (missing t tags ≡ n) × (1 ≤ n)
 unfolding startOf checkStart after startAfter stage
-lacks-from t tags args n = go (checkWith t tags) (with-under t tags)
+lacks-from t tags args n = go (checkWith t tags) (with-not t tags 26 (omega arith) (λ e. omega (arith, e)))
   where
     told : (b : Bool) (m : ℕ) → Unit {0} → Verdict
     told b m _ = stage 11 b 0 (λ _. stage 26 true m (λ _. accepted (functions t) (nodes t)))
@@ -140,13 +154,15 @@ lacks-from t tags args n = go (checkWith t tags) (with-under t tags)
         let z : suc m ≡ n = cc in
         (eqb→eq (length args) (params t (functions t)) (true-T _ q), w ∙ z, omega (arith, z))
 
-    go : (c : Verdict) → Under 26 c → startAfter (after c (told counted (missing t tags))) (opening t args) ≡ turned 26 n
+    go : (c : Verdict) → Not 26 c → startAfter (after c (told counted (missing t tags))) (opening t args) ≡ turned 26 n
         → ((F N : ℕ) × (c ≡ accepted F N)) × (length args ≡ params t (functions t)) × (missing t tags ≡ n) × (1 ≤ n)
     go (accepted F N) u e = let x = by counted (missing t tags) refl refl e in ((F, N, refl), x .0, x .1, x .2)
-    go (refused k p) u e = absurd (let z : _≡_ {A = ℕ} k 26 = cc in omega (arith, z, u))
+    go (refused k p) u e = absurd (u (let z : _≡_ {A = ℕ} k 26 = cc in z))
 
 pub starts-exactly : (t tags args : List ℕ) → StartsExactly t tags args
 starts-exactly t tags args = record {
+  first = start-first t tags args;
+  second = start-second t tags args;
   taken = λ s. (
     λ e. let p = start-passes t tags args s e in (fits (functions t) (nodes t) (p .check-tags) (p .count), p .holding, p .state),
     λ x. let o = order-taken t (functions t) (nodes t) (x .0 .table) tags .1 (x .0 .order) in

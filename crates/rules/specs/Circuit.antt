@@ -1,4 +1,4 @@
--- start, step and play over the bytes of a table and of tags, with the refusals in document 01's order
+-- start, step and play over the bytes of a table and of tags, with the refusals in document 01's order, and 26 where document 02 has it
 use Prim.Native.Nat.{ℕ}
 use mathlib.Core.Bool.{true}
 use mathlib.Core.List.{List}

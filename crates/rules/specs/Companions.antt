@@ -50,7 +50,7 @@ pub record UnderAnyTags (t args : List ℕ) (s : State512) (asked : List (Ask (L
   pub lively : (F N : ℕ) (tags : List ℕ) → checkWith t tags ≡ accepted F N
       → ((v : ℕ) × Answers (playsOf t s asked) v) ⊎ ((n : ℕ) × Possible t tags (playsOf t s asked .state) n)
   -- a step whose own tags hold the arbiter list is not refused 23, whatever the tags before it were
-  pub arbitrated : (F N : ℕ) (tags : List ℕ) → checkWith t tags ≡ accepted F N → Holding t tags → (n place : ℕ)
+  pub arbitrated : (tags : List ℕ) → Holding t tags → (n place : ℕ)
       → stepOf t tags (playsOf t s asked .state) n .answer ≡ denied 23 place → ⊥
   -- 24 is never met
   pub stands : (F N : ℕ) (tags : List ℕ) → checkWith t tags ≡ accepted F N

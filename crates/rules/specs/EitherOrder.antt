@@ -53,7 +53,7 @@ pub record WhoGoesFirst (t tags : List ℕ) (s : State512) : Type 0 where
   -- and where the tags hold the arbiter list, both have a tag, so it meets 22
   pub arbitrated : Holding t tags → (a b : ℕ) → TwoSteps t tags s a b → Rivals t s a b → (tagged tags a ≡ true) × (tagged tags b ≡ true)
 
--- the request's sentence with its premises, the start's table and tags at every step: that these tags hold the arbiter list, start sees to
+-- the request's sentence, the start's table and tags at every step; that tags hold the arbiter list, which it asks for, every start sees to
 abbrev pub EitherOrderReached : Type 0
 EitherOrderReached = (t tags args : List ℕ) (s : State512) → startOf t tags args ≡ started s
     → (ns : List ℕ) (a b : ℕ) → TwoHands t tags (playOf t tags s ns .state) a b → EitherOrder t tags (playOf t tags s ns .state) a b

@@ -4,7 +4,6 @@ use mathlib.Core.Path.{_≡_, sym, ap, subst, _∙_}
 use lib.ListN.{replicate}
 use Rattle.table.specs.Bytes.{functions, root}
 use Rattle.table.specs.Working.{IsFunction}
-use Rattle.table.proofs.Reading.{told-main, told-root}
 use Rattle.rules.specs.Arithmetic.{keepAll, arithmetic}
 use Rattle.rules.specs.State.{fill}
 use Rattle.circuit.proofs.ChainLaws.{ok}
@@ -13,25 +12,22 @@ use borrow.Author.Needs.{needs}
 use Rattle.circuit.proofs.begin.open_main.Statement.{statement}
 use Rattle.circuit.proofs.begin.open_main.Tie as tie
 
-abbrev begin : tie.After-main → tie.Start
+abbrev begin : tie.After-functions → tie.Start
 begin c = search
 
-main-is : (c : tie.After-main) → c .main .result .0 ≡ functions (begin c .args .table .now)
-main-is c = told-main _ _ (begin c .pre) _ (c .main .ensures)
+main-in : (c : tie.After-functions) → IsFunction (begin c .args .table .now) (functions (begin c .args .table .now))
+main-in c = (ok _ (begin c .pre) .F-low, omega arith)
 
-main-in : (c : tie.After-main) → IsFunction (begin c .args .table .now) (functions (begin c .args .table .now))
-main-in c = (ok _ (begin c .pre .taken) .F-low, omega arith)
-
-abbrev main-read : tie.After-root → tie.After-main
+abbrev main-read : tie.After-root → tie.After-functions
 main-read c = search
 
 top : (c : tie.After-root) → let t = begin (main-read c) .args .table .now in c .root .result .0 ≡ root t (functions t)
 top c =
     let m = main-read c in
-    told-root _ _ (begin m .pre) _ (subst (IsFunction _) (sym (main-is m)) (main-in m)) _ (c .root .ensures) ∙ ap (root _) (main-is m)
+    c .root .ensures ∙ ap (root (begin m .args .table .now)) (m .functions .ensures)
 
-main-requires : tie.Need-main-requires
-main-requires c κs = search needs
+functions-requires : tie.Need-functions-requires
+functions-requires c κs = search needs
 
 root-requires : tie.Need-root-requires
 root-requires c κs = search needs
@@ -40,13 +36,13 @@ set-status-requires : tie.Need-set-status-requires
 set-status-requires c κs =
     let r : tie.After-root = search in
     let s = begin (main-read r) in
-    let p = ok _ (s .pre .taken) in
+    let p = ok _ (s .pre) in
     omega (arith, top r, p .linking .roots _ (main-in (main-read r)) .1, p .N-high)
 
 fill-main-requires : tie.Need-fill-main-requires
 fill-main-requires c κs =
-    let m : tie.After-main = search in
-    (begin m .pre, subst (IsFunction _) (sym (main-is m)) (main-in m))
+    let m : tie.After-functions = search in
+    (begin m .pre, subst (IsFunction _) (sym (m .functions .ensures)) (main-in m))
 
 returns : tie.Need-returns
 returns c =
@@ -54,10 +50,10 @@ returns c =
     let r : tie.After-root = search in
     let m = main-read r in
     let s = begin m in
-    start-is _ (s .args .args .now) (s .pre .taken) _ _ _ (top r) (status .set-status .ensures)
+    start-is _ (s .args .args .now) (s .pre) _ _ _ (top r) (status .set-status .ensures)
     (c .fill-main .ensures ∙ ap (λ f. fill f (keepAll (arithmetic (s .args .table .now)) f (s .args .args .now)) (replicate 256 0))
-    (main-is m))
+    (m .functions .ensures))
 
 pub open-main-spec : {M : Type 1} → statement M
 open-main-spec =
-    tie.close (tie.spec main-requires root-requires set-status-requires fill-main-requires returns)
+    tie.close (tie.spec functions-requires root-requires set-status-requires fill-main-requires returns)

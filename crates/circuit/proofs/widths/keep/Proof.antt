@@ -1,37 +1,25 @@
--- `widths::keep` meets its contract: a width is at most 32, so that 64 bits hold 2^w.
+-- `widths::keep` meets its contract: by the width that is read of the function's cells.
 use borrow.Author.Needs.{needs}
-use Prim.Native.Nat.{_*_, _%_, _^_}
-use native.Mathlib.Omega.{arith}
-use native.Mathlib.Nat.{mod-le}
-use Rattle.circuit.proofs.WidthLaws.{few, over-some, keep-is}
+use mathlib.Core.Path.{ap, _∙_}
+use Rattle.rules.specs.Arithmetic.{narrow}
+use Rattle.circuit.proofs.WidthLaws.{is-width, few}
 use Rattle.circuit.proofs.widths.keep.Statement.{statement}
 use Rattle.circuit.proofs.widths.keep.Tie as tie
 
 width-requires : tie.Need-width-requires
 width-requires c κs = search needs
 
-cast-over : tie.Need-cast-over
-cast-over c = search needs
-
-shl-over : tie.Need-shl-over
-shl-over c =
+cut-requires : tie.Need-cut-requires
+cut-requires c κs =
     let s : tie.Start = search in
-    omega (arith, few _ _ (s .pre .0) _ (s .pre .1) _ (c .width .ensures))
-
-rem-result : tie.Need-rem-result
-rem-result c =
-    let s : tie.Start = search in
-    over-some _ _ (s .pre .0) _ (s .pre .1) _ (c .width .ensures)
-
-cast-result : tie.Need-cast-result
-cast-result c =
-    let s : tie.Start = search in
-    omega (arith, mod-le (s .args .v) (1 * 2 ^ c .width .result % 2 ^ 64))
+    let w : tie.After-width = search in
+    few _ _ (s .pre .0) _ (s .pre .1) _ (w .width .ensures)
 
 returns : tie.Need-returns
 returns c =
     let s : tie.Start = search in
-    keep-is _ _ (s .pre .0) _ (s .pre .1) _ (c .width .ensures) (s .args .v)
+    let w : tie.After-width = search in
+    c .cut .ensures ∙ ap (λ k. narrow k (s .args .v)) (is-width _ _ (s .pre .0) _ (s .pre .1) _ (w .width .ensures))
 
 pub keep-spec : {M : Type 1} → statement M
-keep-spec = tie.close (tie.spec width-requires cast-over shl-over rem-result cast-result returns)
+keep-spec = tie.close (tie.spec width-requires cut-requires returns)
