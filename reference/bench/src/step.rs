@@ -35,7 +35,8 @@ pub fn section(ratios: &mut Ratios) {
         ratios.add(&format!("one step, {size} nodes"), times.ratios[0], BOUND);
     }
     println!();
-    let section = Section::new("one start, medians; table and tags are checked in each", "nodes", &COLUMNS);
+    let title = "one start, medians; table, tags and that they hold the list are checked in each";
+    let section = Section::new(title, "nodes", &COLUMNS);
     for (size, jobs) in &by_size {
         let times = medians(jobs, 0, [&starts_proved, &starts_in_place, &starts_copied]);
         let nanos = times.nanos.map(|nanos| nanos / f64::from(STARTS));

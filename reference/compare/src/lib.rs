@@ -8,6 +8,7 @@ mod raw {
         pub fn table_operation_counts(op: u8) -> u32;
         pub fn list_fill_tags(table: *const u8, len: usize, tags: *mut u8, tags_len: usize) -> u32;
         pub fn list_check_tags(table: *const u8, len: usize, tags: *const u8, tags_len: usize) -> u32;
+        pub fn list_missing(table: *const u8, len: usize, tags: *const u8, tags_len: usize) -> u64;
         pub fn list_total(tags: *const u8, len: usize) -> u64;
         pub fn list_record(table: *const u8, len: usize, index: usize) -> u64;
         pub fn list_fill_records(table: *const u8, len: usize, records: *mut super::Record, records_len: usize) -> u32;
@@ -49,6 +50,12 @@ pub fn list_fill_tags(table: &[u8], tags: &mut [u8]) -> u32 {
 pub fn list_check_tags(table: &[u8], tags: &[u8]) -> u32 {
     // The library only reads, and within the lengths it is told.
     unsafe { raw::list_check_tags(table.as_ptr(), table.len(), tags.as_ptr(), tags.len()) }
+}
+
+/// The lowest call of the arbiter list without a tag: 2^32 + its node; 0 if each has one; 2 * 2^32 + refusal.
+pub fn list_missing(table: &[u8], tags: &[u8]) -> u64 {
+    // The library only reads, and within the lengths it is told.
+    unsafe { raw::list_missing(table.as_ptr(), table.len(), tags.as_ptr(), tags.len()) }
 }
 
 /// Bits set.

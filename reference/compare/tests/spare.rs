@@ -3,7 +3,8 @@
 
 use std::collections::BTreeMap;
 
-use compare::{list_check_tags, list_fill_records, list_fill_tags, list_record, sheet_fill, table_check, Record};
+use compare::{list_check_tags, list_fill_records, list_fill_tags, list_missing, list_record};
+use compare::{sheet_fill, table_check, Record};
 use design::asm::assemble;
 use design::check;
 use design::damage::damaged_spare;
@@ -29,8 +30,8 @@ fn all_refuse(bytes: &[u8], refusal: u32) -> Outcome {
     let mut records = [Record { callee: 0, caller: 0, node: 0 }; MOST_NODES];
     let found =
         [list_check_tags(bytes, &tags), list_fill_tags(bytes, &mut tags), list_fill_records(bytes, &mut records)];
-    let told_apart = [list_record(bytes, 0), sheet_fill(bytes, &mut [0; SHEET_BYTES])];
-    let as_wanted = found == [refusal; 3] && told_apart == [2 << 32 | u64::from(refusal); 2];
+    let told_apart = [list_record(bytes, 0), list_missing(bytes, &tags), sheet_fill(bytes, &mut [0; SHEET_BYTES])];
+    let as_wanted = found == [refusal; 3] && told_apart == [2 << 32 | u64::from(refusal); 3];
     ensure(as_wanted, || format!("{found:x?}, {told_apart:x?}, wanted {}: {}", told(refusal), shown(bytes)))
 }
 

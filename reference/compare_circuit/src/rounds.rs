@@ -6,9 +6,9 @@ use design::circuit::{self, check_state, first, possible, step_with, Answer, End
 use design::difference::{ensure, shown, unrefused, Outcome};
 use design::generator::{accepted, accepted_of, accepted_sharing, accepted_sharing_of};
 use design::kinds::Kinds;
-use design::list::tags_of;
+use design::list::{missing, tags_of};
 use design::random::Random;
-use design::states::{any_state, arguments, damage_state, tags};
+use design::states::{any_state, arguments, damage_state, holding_tags, tags};
 use design::width_kinds::{is_narrow, width_kinds};
 use design::{Node, Refusal, Tree};
 
@@ -84,7 +84,7 @@ impl Round {
         let round = if random.once_in(2) {
             seen.note("from a start");
             let arguments = arguments(random, &tree);
-            Round::started(bytes, tags, &arguments)?
+            Round::begun(random, bytes, tags, &arguments)?
         } else {
             seen.note("from any state");
             let mut state = any_state(random, &tree);
@@ -98,16 +98,25 @@ impl Round {
         Ok(round)
     }
 
-    /// From a start with these arguments.
+    /// From a start with these arguments, and then under these tags, which need not hold the list. The start has tags
+    /// that do: mostly the same, if they do.
+    pub fn begun(random: &mut Random, bytes: Vec<u8>, tags: Vec<u8>, arguments: &[u32]) -> Result<Round, String> {
+        let tree = tree_of(&bytes)?;
+        let of_start = match missing(&tree, &tags) {
+            None if !random.once_in(4) => tags.clone(),
+            _ => holding_tags(random, &tree),
+        };
+        Ok(Round { tags, ..Round::started(bytes, of_start, arguments)? })
+    }
+
+    /// From a start with these tags and arguments, which has to be possible.
     pub fn started(bytes: Vec<u8>, tags: Vec<u8>, arguments: &[u32]) -> Result<Round, String> {
         let mut before = State::zero();
         before.nodes.fill(circuit::NodeState { status: 9, second: true, value: 7 });
         before.functions.fill(circuit::FunctionState { registers: [5; 8], occupant: Node(600) });
-        let mut round = Round::standing(bytes, tags, before)?;
-        let wanted = circuit::start(&round.bytes, &round.tags, arguments, &mut round.own);
-        let found = crate::start(&round.bytes, &round.tags, arguments, &mut round.lent)?;
-        round.expect(found == wanted, || format!("start said {found:?}, wanted {wanted:?} with {arguments:?}"))?;
-        round.same_state("start")?;
+        let mut round = Round::standing(bytes, tags.clone(), before)?;
+        let told = round.start(&tags, arguments)?;
+        round.expect(told.is_ok(), || format!("start with {arguments:?} said {told:?}"))?;
         Ok(round)
     }
 
@@ -126,10 +135,6 @@ impl Round {
     pub fn told(&self, message: String) -> String {
         let (table, tags) = (shown(&self.bytes), shown(&self.tags));
         format!("{message}\ntable {table}\ntags {tags}\nreference's state {}", standing(&self.tree, &self.own))
-    }
-
-    fn same_state(&self, what: &str) -> Outcome {
-        self.lent.same_as(&self.own).map_err(|difference| self.told(format!("after {what}: {difference}")))
     }
 
     /// How the tags stand to the arbiter list.
@@ -191,6 +196,15 @@ impl Round {
         }
         self.own = before;
         Err(self.told(format!("{} said {found:?}, wanted {wanted:?}; {fine:?}", what())))
+    }
+
+    /// Asks both for a start with these tags and compares; a refused one keeps the state, whatever it is.
+    pub fn start(&mut self, tags: &[u8], arguments: &[u32]) -> Result<Result<(), Refusal>, String> {
+        let before = self.own.clone();
+        let wanted = circuit::start(&self.bytes, tags, arguments, &mut self.own);
+        self.expect(wanted.is_ok() || self.own == before, || format!("the reference changed with {wanted:?}"))?;
+        let found = crate::start(&self.bytes, tags, arguments, &mut self.lent)?;
+        self.agreed(before, found, wanted, || format!("start with tags {} and {arguments:?}", shown(tags)))
     }
 
     /// Asks both for a step and compares answers and states.

@@ -42,7 +42,7 @@ fn drives_from_a_start() -> Outcome {
         let tags = some_tags(&mut random, &bytes)?;
         let arguments = arguments(&mut random, &tree);
         let reading = read(&tree, &arguments, LIMIT);
-        let round = Round::started(bytes, tags, &arguments)?;
+        let round = Round::begun(&mut random, bytes, tags, &arguments)?;
         seen.note(round.tagging()?);
         seen.note_if(NARROW, is_narrow(&tree));
         let told = drive_on(&mut random, &mut seen, round, reading);

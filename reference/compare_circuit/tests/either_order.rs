@@ -17,7 +17,7 @@ use design::pair_cases::{astray, rivals, same_node, DESIGNS};
 use design::pair_kinds::{CAUSES, HARMLESS, HIGH, MOVES_BESIDE, PLACED, RIVALS};
 use design::pairs::{every_pair, Moment, Pair};
 use design::random::Random;
-use design::states::{arguments, every_call, fill_past, tags};
+use design::states::{arguments, every_call, fill_past, holding_tags, tags};
 use design::{examples, reach_cases, width_cases, Kind, Node, Tree};
 use numbers::BUSY;
 
@@ -43,7 +43,8 @@ const BY_OTHERS: &str = "others than at the start tagged";
 struct Circuit {
     tree: Tree,
     round: Round,
-    /// How the tags of the start are called; none where the two steps are asked for under others.
+    tags_of_start: Vec<u8>,
+    /// How they are called; none where the two steps are asked for under others.
     tagging: Option<&'static str>,
     /// Calls that have begun mostly go on only where nothing else is possible, so that many of them meet.
     patient: bool,
@@ -57,19 +58,20 @@ impl Circuit {
             true => (BY_EVERY_CALL, tag_bytes(&tree, &every_call(&tree))),
             false => (BY_LIST, unrefused(tags_of(&bytes), &bytes)?),
         };
-        let mut round = Round::started(bytes, tags, arguments)?;
+        let mut round = Round::started(bytes, tags.clone(), arguments)?;
         if random.once_in(2) {
             fill_past(random, &tree, &mut round.own);
             round.lent = Lent::of(&round.own);
         }
-        Ok(Circuit { tree, round, tagging: Some(tagging), patient: random.once_in(2) })
+        Ok(Circuit { tree, round, tags_of_start: tags, tagging: Some(tagging), patient: random.once_in(2) })
     }
 
-    /// With any tags, and others at the two steps.
+    /// With tags that hold the list, any tags on the way, and others than at the start at the two steps.
     fn with_others(random: &mut Random, bytes: Vec<u8>, arguments: &[u32]) -> Result<Circuit, String> {
-        let (tree, tags) = (tree_of(&bytes)?, some_tags(random, &bytes)?);
-        let round = Round::started(bytes, tags, arguments)?;
-        Ok(Circuit { tree, round, tagging: None, patient: random.once_in(2) })
+        let tree = tree_of(&bytes)?;
+        let (tags, on_the_way) = (holding_tags(random, &tree), some_tags(random, &bytes)?);
+        let round = Round { tags: on_the_way, ..Round::started(bytes, tags.clone(), arguments)? };
+        Ok(Circuit { tree, round, tags_of_start: tags, tagging: None, patient: random.once_in(2) })
     }
 
     /// A node to ask at next.
@@ -86,7 +88,7 @@ impl Circuit {
 
     /// The tags of the two steps, and how they are called.
     fn tags_of_two(&self, random: &mut Random) -> (&'static str, Vec<u8>) {
-        let begun = &self.round.tags;
+        let begun = &self.tags_of_start;
         if let Some(tagging) = self.tagging {
             return (tagging, begun.clone());
         }

@@ -91,7 +91,7 @@ fn started(random: &mut Random) -> Result<Round, String> {
     let tree = tree_of(&bytes)?;
     let tags = some_tags(random, &bytes)?;
     let arguments = arguments(random, &tree);
-    Round::started(bytes, tags, &arguments)
+    Round::begun(random, bytes, tags, &arguments)
 }
 
 /// What a start leads to never comes to the ways that are odd.

@@ -160,7 +160,7 @@ fn runs_to_the_answer() -> Outcome {
             continue;
         };
         let tags = some_tags(&mut random, &bytes)?;
-        let mut round = Round::started(bytes, tags, &arguments)?;
+        let mut round = Round::begun(&mut random, bytes, tags, &arguments)?;
         seen.note(round.tagging()?);
         seen.note_if(NARROW, is_narrow(&tree));
         let nodes = good_nodes(&mut random, &round, usize::MAX);

@@ -1,20 +1,22 @@
 //! Starts of the proved circuit against the reference, and what every entry does with a bad table or bad tags.
 
+use compare::list_missing;
 use compare_circuit::lent::Lent;
 use compare_circuit::seen::Seen;
 use compare_circuit::{drive, query, run, start, step};
 use design::circuit::{self, Answer, State};
-use design::damage::{damaged, too_wide};
 use design::difference::{ensure, shown, Outcome};
-use design::generator::accepted;
+use design::kinds::Kinds;
 use design::list::tag_length;
 use design::random::Random;
-use design::states::{any_state, damage_state, damaged_tags, tags};
+use design::start_cases::cases;
+use design::starts::{nodes_of, parameters_of, Start, ALONE, ORDER};
+use design::states::{any_state, damage_state};
 use design::table::narrow;
+use design::tag_kinds::{HELD, MISSED};
 use design::{Function, Node, Refusal, Table, Tree};
-use numbers::MOST_NODES;
 
-const STARTS: usize = 8_000;
+const STARTS: usize = 16_000;
 
 /// A state with something in every part, past N and F too.
 fn noise(random: &mut Random) -> State {
@@ -29,50 +31,6 @@ fn noise(random: &mut Random) -> State {
         function.occupant.0 = random.number() as u16;
     }
     state
-}
-
-/// Tags for this table: mostly in order, else with a fault; for a refused table any bytes.
-fn some_tags(random: &mut Random, bytes: &[u8]) -> Vec<u8> {
-    match Tree::read(bytes) {
-        Ok(tree) if random.once_in(3) => damaged_tags(random, &tree),
-        Ok(tree) => tags(random, &tree),
-        // Such as would do if the table did.
-        Err(_) if random.once_in(3) => vec![0; nodes_of(bytes).div_ceil(8)],
-        Err(_) => {
-            let length = random.below(66);
-            random.bytes(length)
-        }
-    }
-}
-
-/// N, if it is within its limits.
-fn nodes_of(bytes: &[u8]) -> usize {
-    usize::from(Table::new(bytes).node_count()).min(MOST_NODES)
-}
-
-fn some_table(random: &mut Random) -> Vec<u8> {
-    match random.below(30) {
-        0..=8 => damaged(random),
-        9 => too_wide(random),
-        _ => accepted(random),
-    }
-}
-
-/// Mostly as many as main has parameters, for a refused table in half of the cases.
-fn some_arguments(random: &mut Random, bytes: &[u8]) -> Vec<u32> {
-    let count = match Tree::read(bytes) {
-        Ok(_) if !random.once_in(4) => parameters_of(bytes),
-        // Such as would do if the table did.
-        Err(_) if random.once_in(2) => parameters_of(bytes),
-        _ => random.below(11),
-    };
-    (0..count).map(|_| random.word()).collect()
-}
-
-/// What main's record says of its parameters, whether the table is in order or not.
-fn parameters_of(bytes: &[u8]) -> usize {
-    let table = Table::new(bytes);
-    table.parameter_count(Function(table.function_count())).into()
 }
 
 /// Which of the causes of 10 it is, and whether 4 and 5 name a node.
@@ -113,43 +71,71 @@ fn note_start(seen: &mut Seen, told: Result<(), Refusal>, bytes: &[u8], tags: &[
 
 /// What `note_refusal` tells apart, each of it wanted this often.
 const CAUSES: [(&str, usize); 7] = [
-    ("4 at a root out of range", 45),
-    ("4 at a node", 200),
-    ("5 at a function record", 45),
-    ("5 at a node", 110),
-    ("10 for a tag past N", 260),
-    ("10 for the length", 450),
-    ("10 at a node", 340),
+    ("4 at a root out of range", 80),
+    ("4 at a node", 450),
+    ("5 at a function record", 90),
+    ("5 at a node", 220),
+    ("10 for a tag past N", 350),
+    ("10 for the length", 700),
+    ("10 at a node", 450),
 ];
 
-/// A start makes the whole state anew; a refused one keeps all of it.
+/// A start from a state full of noise, past N and F too: both say the same, and it makes all of the state anew, or
+/// keeps all of it if it is refused. What the search for a call without a tag says fits.
+fn same_start(random: &mut Random, case: &Start) -> Result<Result<(), Refusal>, String> {
+    let Start { bytes, tags, arguments } = case;
+    let before = noise(random);
+    let (mut own, mut lent) = (before.clone(), Lent::of(&before));
+    let wanted = circuit::start(bytes, tags, arguments, &mut own);
+    let found = start(bytes, tags, arguments, &mut lent)?;
+    let with = || format!("table {}, tags {}, arguments {arguments:?}", shown(bytes), shown(tags));
+    ensure(found == wanted, || format!("said {found:?}, wanted {wanted:?}: {}", with()))?;
+    if wanted.is_err() {
+        own = before;
+    }
+    lent.same_as(&own).map_err(|difference| format!("after {wanted:?} {difference}: {}", with()))?;
+    let missing = list_missing(bytes, tags);
+    let fits = match wanted {
+        Ok(()) => missing == 0,
+        Err(Refusal { number: 26, place }) => missing == 1 << 32 | u64::from(place.0),
+        Err(Refusal { number: 11, .. }) => missing < 2 << 32,
+        Err(refusal) => missing == 2 << 32 | u64::from(refusal.code()),
+    };
+    ensure(fits, || format!("{wanted:?}, but missing is {missing:#x}: {}", with()))?;
+    Ok(wanted)
+}
+
 #[test]
 fn starts() -> Outcome {
-    let (mut random, mut seen) = (Random::new(411), Seen::default());
+    let (mut random, mut seen, mut kinds) = (Random::new(411), Seen::default(), Kinds::default());
     for _ in 0..STARTS {
-        let bytes = some_table(&mut random);
-        let tags = some_tags(&mut random, &bytes);
-        let arguments = some_arguments(&mut random, &bytes);
-        let before = noise(&mut random);
-        let (mut own, mut lent) = (before.clone(), Lent::of(&before));
-        let wanted = circuit::start(&bytes, &tags, &arguments, &mut own);
-        let found = start(&bytes, &tags, &arguments, &mut lent)?;
-        let with = || format!("table {}, tags {}, arguments {arguments:?}", shown(&bytes), shown(&tags));
-        ensure(found == wanted, || format!("said {found:?}, wanted {wanted:?}: {}", with()))?;
-        note_start(&mut seen, wanted, &bytes, &tags, &arguments);
-        match wanted {
+        let case = Start::some(&mut random);
+        let told = same_start(&mut random, &case)?;
+        note_start(&mut seen, told, &case.bytes, &case.tags, &case.arguments);
+        match told {
             Ok(()) => seen.note("started"),
-            Err(refusal) => {
-                own = before;
-                note_refusal(&mut seen, refusal, &bytes, &tags);
-            }
+            Err(refusal) => note_refusal(&mut seen, refusal, &case.bytes, &case.tags),
         }
-        lent.same_as(&own).map_err(|difference| format!("after {wanted:?} {difference}: {}", with()))?;
+        kinds.note(case.kinds());
     }
     seen.often("starts", &CAUSES)?;
-    seen.at_least("starts", &[("started", 2000), ("refused 11", 500), ("an argument cut by the start", 650)])?;
-    seen.at_least("starts", &[("25 beside 10", 210), ("25 beside 11", 40), ("25 alone", 55)])?;
-    seen.refused_often("starts", (1..=11).chain([25]), 50)
+    seen.at_least("starts", &[("started", 4000), ("refused 11", 1000), ("an argument cut by the start", 1300)])?;
+    seen.at_least("starts", &[("25 beside 10", 210), ("25 beside 11", 100), ("25 alone", 150), ("refused 26", 1200)])?;
+    seen.refused_often("starts", (1..=11).chain([25, 26]), 120)?;
+    kinds.often(&[&ORDER[..], &ALONE, &HELD, &MISSED].concat(), 50)?;
+    kinds.at_least(&[("11 before 26", 300), ("10 before 26", 250), ("26 alone", 1_200), ("nothing is refused", 4_000)])
+}
+
+/// The starts that were worked out: which calls need a tag, and what comes before that.
+#[test]
+fn named_starts() -> Outcome {
+    let mut random = Random::new(413);
+    for case in cases() {
+        let handed = Start { bytes: case.bytes, tags: case.tags, arguments: case.arguments };
+        let told = same_start(&mut random, &handed).map_err(|message| format!("{}: {message}", case.name))?;
+        ensure(told == case.answer, || format!("{}: {told:?}, wanted {:?}", case.name, case.answer))?;
+    }
+    Ok(())
 }
 
 /// The refusals before any step: the table's, then the tags', then for a step 12, then 24. All keep the state, and
@@ -158,8 +144,7 @@ fn starts() -> Outcome {
 fn refused_before_any_step() -> Outcome {
     let (mut random, mut seen) = (Random::new(412), Seen::default());
     for _ in 0..STARTS {
-        let bytes = some_table(&mut random);
-        let tags = some_tags(&mut random, &bytes);
+        let Start { bytes, tags, .. } = Start::some(&mut random);
         let mut own = match Tree::read(&bytes) {
             Ok(tree) => any_state(&mut random, &tree),
             Err(_) => noise(&mut random),
@@ -181,9 +166,9 @@ fn refused_before_any_step() -> Outcome {
         });
     }
     seen.often("before any step", &CAUSES)?;
-    let wanted = ["for the table", "for the tags", "for the state"].map(|cause| (cause, 1000));
+    let wanted = ["for the table", "for the tags", "for the state"].map(|cause| (cause, 1500));
     seen.at_least("before any step", &wanted)?;
-    seen.refused_often("before any step", (1..=10).chain([24, 25]), 50)
+    seen.refused_often("before any step", (1..=10).chain([24, 25]), 120)
 }
 
 fn all_refused(random: &mut Random, bytes: &[u8], tags: &[u8], own: &State, refusal: Refusal) -> Outcome {

@@ -45,7 +45,7 @@ impl Schedule {
         let tree = tree_of(&bytes)?;
         let arguments = arguments(random, &tree);
         let reading = read(&tree, &arguments, LIMIT);
-        let round = Round::started(bytes, tags, &arguments)?;
+        let round = Round::begun(random, bytes, tags, &arguments)?;
         Ok(Schedule { round, arguments, reading, taken: 0, refused: 0, out_of_order: false })
     }
 
@@ -174,16 +174,18 @@ fn steps_from_any_state() -> Outcome {
     seen.refused_often("any state", [12, 20, 21, 22, 23, 24], 1000)
 }
 
-/// The steps of the rules: after 2, 3, 5, 4, 6, 3 the call at 5 has to wait.
+/// The steps of the rules: started with both tags, after 2, 3, 5, 4, 6, 3 under both the call at 5 has to wait, and the
+/// tags of that step alone tell how.
 #[test]
 fn two_calls_beside_each_other() -> Outcome {
     let bytes = assemble("fun f(x) = x  fun main(x) = beside(f(x), f(x))").map_err(|error| format!("{error:?}"))?;
     for (tags, number) in [(0b10100, 22), (0b10000, 22), (0, 23), (0b00100, 23)] {
-        let mut round = Round::started(bytes.clone(), vec![tags], &[5])?;
+        let mut round = Round::started(bytes.clone(), vec![0b10100], &[5])?;
         for node in [2, 3, 5, 4, 6, 3] {
             let answer = round.step(node)?;
             ensure(answer == Answer::Taken, || format!("{answer:?} at {node}"))?;
         }
+        round.tags = vec![tags];
         let answer = round.step(5)?;
         let fits = matches!(answer, Answer::Refused(refusal) if (refusal.number, refusal.place) == (number, Node(5)));
         ensure(fits, || format!("{answer:?} with tags {tags:#b}"))?;

@@ -76,8 +76,8 @@ pub enum Ending {
     Spent,
 }
 
-/// Puts the state at its start, or leaves it as it is and tells why. The tags have to hold the arbiter list; nothing that
-/// comes after a start looks at that again.
+/// Puts the state at its start, or leaves it as it is and tells why. The tags have to hold the arbiter list; nothing
+/// that comes after a start looks at that again.
 pub fn start(bytes: &[u8], tags: &[u8], arguments: &[u32], state: &mut State) -> Result<(), Refusal> {
     let tree = Tree::read(bytes)?;
     check_tags(&tree, tags)?;

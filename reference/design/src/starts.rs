@@ -4,7 +4,7 @@ use numbers::MOST_NODES;
 
 use crate::check::check;
 use crate::damage::{damaged, too_wide};
-use crate::generator::{accepted, accepted_sharing};
+use crate::generator::{accepted, accepted_sharing, accepted_sharing_of};
 use crate::list::{check_tags, missing, tag_length};
 use crate::places::width_at;
 use crate::random::Random;
@@ -47,13 +47,13 @@ impl Start {
     /// Its kinds: one of `ORDER` or `ALONE` unless the table is refused for something else, and what `tag_kinds` tells
     /// of tags that are in order.
     pub fn kinds(&self) -> Vec<&'static str> {
-        let (tree, is_wide) = match (Tree::read(&self.bytes), check(&self.bytes)) {
-            (Ok(tree), _) => (tree, false),
-            (Err(_), Err(Refusal { number: 25, .. })) => (widened(&self.bytes), true),
-            _ => return Vec::new(),
+        let (tree, is_wide) = match Tree::read(&self.bytes) {
+            Ok(tree) => (tree, false),
+            Err(Refusal { number: 25, .. }) => (widened(&self.bytes), true),
+            Err(_) => return Vec::new(),
         };
         let in_order = check_tags(&tree, &self.tags).is_ok();
-        // The list has a say beside a fault too, if there is a tag or none for each node.
+        // Beside a fault too a listed call may lack its tag, if there is a bit for each node.
         let misses = self.tags.len() == tag_length(&tree) && missing(&tree, &self.tags).is_some();
         let miscounts = self.arguments.len() != tree.parameters(tree.main());
         let mut found = vec![match (is_wide, in_order, miscounts, misses) {
@@ -91,25 +91,29 @@ fn some_table(random: &mut Random) -> Vec<u8> {
     match random.below(30) {
         0..=8 => damaged(random),
         9 => too_wide(random),
-        // Mostly with a list.
-        10..=19 => accepted_sharing(random),
+        // Mostly with a list, now and then with a long one.
+        10..=20 => accepted_sharing(random),
+        21 => {
+            let nodes = random.within(200, MOST_NODES);
+            accepted_sharing_of(random, nodes)
+        }
         _ => accepted(random),
     }
 }
 
-/// Tags for this table: mostly in order, and then holding its list or not; for a refused table often such as would do if
-/// the table did.
+/// Tags for this table: mostly in order, and then holding its list or not; for a refused table often such as would do
+/// if the table did.
 fn some_tags(random: &mut Random, bytes: &[u8]) -> Vec<u8> {
-    match (Tree::read(bytes), check(bytes)) {
-        (Ok(tree), _) => match random.below(9) {
-            0..=2 => damaged_tags(random, &tree),
-            3 => tags(random, &tree),
-            4..=5 => missing_tags(random, &tree).unwrap_or_else(|| holding_tags(random, &tree)),
+    match Tree::read(bytes) {
+        Ok(tree) => match random.below(9) {
+            0..=1 => damaged_tags(random, &tree),
+            2 => tags(random, &tree),
+            3..=5 => missing_tags(random, &tree).unwrap_or_else(|| holding_tags(random, &tree)),
             _ => holding_tags(random, &tree),
         },
-        (_, Err(Refusal { number: 25, .. })) if random.once_in(2) => tags(random, &widened(bytes)),
-        _ if random.once_in(3) => vec![0; nodes_of(bytes).div_ceil(8)],
-        _ => {
+        Err(Refusal { number: 25, .. }) if random.once_in(2) => tags(random, &widened(bytes)),
+        Err(_) if random.once_in(3) => vec![0; nodes_of(bytes).div_ceil(8)],
+        Err(_) => {
             let length = random.below(66);
             random.bytes(length)
         }

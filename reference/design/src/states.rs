@@ -63,9 +63,11 @@ pub fn missing_tags(random: &mut Random, tree: &Tree) -> Option<Vec<u8>> {
     Some(tag_bytes(tree, &marked))
 }
 
-/// A tag list with a fault: another length, a bit past N, or a bit at some node; by chance it may be in order.
+/// A tag list with a fault: another length, a bit past N, or a bit at some node; by chance it may be in order. In half
+/// of them some of the arbiter list is missing besides, if there is one.
 pub fn damaged_tags(random: &mut Random, tree: &Tree) -> Vec<u8> {
-    let mut bytes = tags(random, tree);
+    let missing = if random.once_in(2) { missing_tags(random, tree) } else { None };
+    let mut bytes = missing.unwrap_or_else(|| tags(random, tree));
     match random.below(5) {
         0 => bytes.push(0),
         1 => {

@@ -2,14 +2,14 @@
 
 use design::circuit::{check_state, query, run_budget, run_list, start, step, step_with, Answer, Ending, State};
 use design::generator::accepted;
-use design::list::tags_of;
 use design::random::Random;
 use design::reading::read;
-use design::states::{any_state, arguments, damage_state, tags};
+use design::states::{any_state, arguments, damage_state, holding_tags, tags};
 use design::{Node, Refusal, Tree};
 
 const LIMIT: u32 = 1500;
 
+/// Under the tags of the start, and under any others.
 #[test]
 fn runs_come_to_what_the_reading_says() {
     let mut random = Random::new(6);
@@ -17,16 +17,17 @@ fn runs_come_to_what_the_reading_says() {
     for _ in 0..400 {
         let bytes = accepted(&mut random);
         let tree = Tree::read(&bytes).expect("an accepted table");
-        let (tags, arguments) = (tags(&mut random, &tree), arguments(&mut random, &tree));
-        let mut state = State::zero();
-        start(&bytes, &tags, &arguments, &mut state).expect("a start");
-        let run = run_budget(&bytes, &tags, &mut state, LIMIT);
+        let (others, arguments) = (tags(&mut random, &tree), arguments(&mut random, &tree));
+        let own = holding_tags(&mut random, &tree);
+        let mut begun = State::zero();
+        start(&bytes, &own, &arguments, &mut begun).expect("a start");
+        let runs = [own, others].map(|tags| run_budget(&bytes, &tags, &mut begun.clone(), LIMIT));
         match read(&tree, &arguments, LIMIT.into()) {
             Some(reading) => {
-                assert_eq!(run, Ok((reading.count as u32, Ending::Answered(reading.value))));
+                assert_eq!(runs, [Ok((reading.count as u32, Ending::Answered(reading.value))); 2]);
                 ended += 1;
             }
-            None => assert_eq!(run, Ok((LIMIT, Ending::Spent))),
+            None => assert_eq!(runs, [Ok((LIMIT, Ending::Spent)); 2]),
         }
     }
     assert!(ended > 200, "{ended}");
@@ -35,7 +36,7 @@ fn runs_come_to_what_the_reading_says() {
 /// Asks at random nodes; counts steps and watches who enters and leaves.
 fn random_schedule(random: &mut Random, bytes: &[u8]) -> Option<()> {
     let tree = Tree::read(bytes).expect("an accepted table");
-    let tags = tags_of(bytes).expect("an accepted table");
+    let tags = holding_tags(random, &tree);
     let arguments = arguments(random, &tree);
     let reading = read(&tree, &arguments, 300)?;
     let mut state = State::zero();
@@ -48,7 +49,7 @@ fn random_schedule(random: &mut Random, bytes: &[u8]) -> Option<()> {
         let answer = step_with(&tree, &tags, &mut state, node);
         if let Answer::Refused(refusal) = answer {
             assert!(state == before);
-            // The arbiter list is enough: no untagged call ever has to wait.
+            // What a start asks of the tags is enough: no untagged call ever has to wait.
             assert!([12, 21, 22].contains(&refusal.number), "{refusal:?}");
             continue;
         }
@@ -143,6 +144,16 @@ fn order_of_the_refusals() {
     assert_eq!(start(&bytes, &[0], &[], &mut state), Err(refused(11, 0)));
     assert_eq!(start(&bytes, &[0], &[1, 2], &mut state), Err(refused(11, 0)));
     assert!(state == State::zero());
+    // With two calls on the list, which nothing but a start looks at; `start_cases.rs` has more of these.
+    let listed = design::asm::assemble("fun f(x) = x  fun main(x) = beside(f(x), f(x))").expect("a text in order");
+    assert_eq!(start(&listed, &[0b1], &[], &mut state), Err(refused(10, 1)));
+    assert_eq!(start(&listed, &[0b100], &[], &mut state), Err(refused(11, 0)));
+    assert_eq!(start(&listed, &[0b100], &[5], &mut state), Err(refused(26, 5)));
+    assert!(state == State::zero());
+    assert_eq!(query(&listed, &[0], &state), Ok(None));
+    assert_eq!(run_list(&listed, &[0], &mut state, &[]), Ok((0, None)));
+    assert_eq!(run_budget(&listed, &[0], &mut state, 0), Ok((0, Ending::AtRest)));
+    assert_eq!(step(&listed, &[0], &mut state, 3), Answer::Refused(refused(21, 3)));
     start(&bytes, &[0], &[5], &mut state).expect("a start");
     let mut broken = state.clone();
     broken.nodes[1].status = 4;

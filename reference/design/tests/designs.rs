@@ -59,14 +59,17 @@ fn beside() {
     answers(BESIDE, &[4], 4, 12);
 }
 
+/// Started with both tags, which the first six steps have too; the last one and those after it have others.
 #[test]
 fn beside_with_other_tags() {
     let bytes = table(BESIDE);
-    for (tags, number) in [([0b10100], 22), ([0b10000], 22), ([0], 23), ([0b100], 23)] {
+    let both = [0b10100];
+    for (tags, number) in [(both, 22), ([0b10000], 22), ([0], 23), ([0b100], 23)] {
         let mut state = State::zero();
-        start(&bytes, &tags, &[4], &mut state).expect("a start");
+        start(&bytes, &both, &[4], &mut state).expect("a start");
+        assert_eq!(run_list(&bytes, &both, &mut state, &[2, 3, 5, 4, 6, 3]), Ok((6, None)));
         let refusal = Refusal { number, place: Node(5) };
-        assert_eq!(run_list(&bytes, &tags, &mut state, &[2, 3, 5, 4, 6, 3, 5]), Ok((6, Some(refusal))));
+        assert_eq!(run_list(&bytes, &tags, &mut state, &[5]), Ok((0, Some(refusal))));
         let before = state.clone();
         assert_eq!(step(&bytes, &tags, &mut state, 5), Answer::Refused(refusal));
         assert!(state == before);
@@ -77,6 +80,21 @@ fn beside_with_other_tags() {
         assert_eq!(run_list(&bytes, &tags, &mut state, &[]), Ok((0, None)));
         let past = Refusal { number: 20, place: Node(1) };
         assert_eq!(run_list(&bytes, &tags, &mut state, &[1]), Ok((0, Some(past))));
+    }
+}
+
+/// All seven steps in one run under the tags of the start, and no start without both.
+#[test]
+fn beside_with_its_own_tags() {
+    let bytes = table(BESIDE);
+    let mut state = State::zero();
+    start(&bytes, &[0b10100], &[4], &mut state).expect("a start");
+    let refusal = Refusal { number: 22, place: Node(5) };
+    assert_eq!(run_list(&bytes, &[0b10100], &mut state, &[2, 3, 5, 4, 6, 3, 5]), Ok((6, Some(refusal))));
+    let before = state.clone();
+    for (tags, place) in [(0b10000, 3), (0, 3), (0b100, 5)] {
+        assert_eq!(start(&bytes, &[tags], &[4], &mut state), refused(26, place));
+        assert!(state == before);
     }
 }
 

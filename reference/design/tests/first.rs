@@ -8,7 +8,7 @@ use design::first_kinds::{first_kinds, ASTRAY, ENABLED, MOVES, NEVER, PICKED};
 use design::generator::{accepted_of, accepted_sharing_of};
 use design::kinds::Kinds;
 use design::random::Random;
-use design::states::{any_state, arguments, odd_state, tags};
+use design::states::{any_state, arguments, holding_tags, odd_state, tags};
 use design::{Node, Tree};
 use numbers::DONE;
 
@@ -81,7 +81,8 @@ fn first_steps_from_a_start() -> Outcome {
         let tree = Tree::read(&bytes).expect("an accepted table");
         let tags = tags(&mut random, &tree);
         let mut state = State::zero();
-        start(&bytes, &tags, &arguments(&mut random, &tree), &mut state).expect("a start");
+        let arguments = arguments(&mut random, &tree);
+        start(&bytes, &holding_tags(&mut random, &tree), &arguments, &mut state).expect("a start");
         // Some steps in any order before, so that calls meet.
         for _ in 0..random.below(60) {
             step_with(&tree, &tags, &mut state, random.within(1, tree.node_count()) as u16);

@@ -1,28 +1,24 @@
 //! Two steps in either order: from a start it matters for rivals alone.
 
+mod walks;
+
 use std::collections::HashSet;
 
-use design::asm::assemble;
-use design::circuit::{possible, start, step, step_with, Answer, FunctionState, NodeState, State};
+use design::circuit::{step, step_with, Answer, State};
 use design::difference::{ensure, unrefused, Outcome};
-use design::examples;
 use design::generator::{accepted_of, accepted_sharing_of};
 use design::kinds::Kinds;
 use design::list::tags_of;
-use design::pair_cases::{astray, rivals, same_node, PairCase, DESIGNS};
+use design::pair_cases::{astray, rivals, same_node, PairCase};
 use design::pair_kinds::{CAUSES, HARMLESS, HIGH, MOVES_BESIDE, PLACED, RIVALS};
 use design::pairs::{every_pair, Moment, Pair};
 use design::random::Random;
-use design::reach_cases::CASES;
 use design::states::{any_state, arguments, odd_state, tags};
 use design::{Node, Tree};
+use walks::{short, small_designs, Walk, MOST_NAMED};
 
-/// States that a walk through a named design looks at, which has fewer, and through one made by chance.
-const MOST_NAMED: usize = 20_000;
+/// States that a walk through a design made by chance looks at.
 const MOST_RANDOM: usize = 300;
-
-/// Examples of no more nodes are walked through.
-const SMALL: usize = 40;
 
 /// Both nodes have a step, and both orders come to the answers and ends that were worked out, which go against the rule.
 /// Tells whether the nodes are rivals, and their kinds.
@@ -91,74 +87,17 @@ fn each_pair(moment: &Moment, each: impl FnMut(&Pair<State>) -> Outcome) -> Outc
     every_pair(moment, moment.state, step, each)
 }
 
-/// The entries of a state up to N and F; past them nothing ever changes.
-type Short = (Vec<NodeState>, Vec<FunctionState>);
-
-fn short(tree: &Tree, state: &State) -> Short {
-    (state.nodes[..tree.node_count()].to_vec(), state.functions[..tree.function_count()].to_vec())
-}
-
-/// States that steps in any order lead to, and whether these are all.
-struct Walk {
-    found: HashSet<Short>,
-    is_all: bool,
-}
-
-/// Looks at every pair in every state that a start leads to, up to so many.
+/// Looks at every pair in every state that a start leads to, up to so many. The start has these tags and the list.
 fn walk(kinds: &mut Kinds, bytes: &[u8], tags: &[u8], arguments: &[u32], most: usize) -> Result<Walk, String> {
-    let tree = unrefused(Tree::read(bytes), bytes)?;
-    let mut state = State::zero();
-    unrefused(start(bytes, tags, arguments, &mut state), bytes)?;
-    let mut found = HashSet::from([short(&tree, &state)]);
-    let mut due = vec![state];
-    let mut is_all = true;
-    while let Some(state) = due.pop() {
+    walks::walk(bytes, tags, arguments, most, |tree, state| {
         kinds.note(vec!["states"]);
-        let moment = Moment { tree: &tree, tags, state: &state };
+        let moment = Moment { tree, tags, state };
         each_pair(&moment, |pair| {
             kinds.note(vec![if pair.rivals { "rivals" } else { "either way" }]);
             kinds.note(moment.kinds(pair.nodes));
             pair.settled(tags)
-        })?;
-        for node in possible(&tree, tags, &state) {
-            let mut next = state.clone();
-            step_with(&tree, tags, &mut next, node.0);
-            let next_short = short(&tree, &next);
-            if found.contains(&next_short) {
-                continue;
-            }
-            if found.len() == most {
-                is_all = false;
-                continue;
-            }
-            found.insert(next_short);
-            due.push(next);
-        }
-    }
-    Ok(Walk { found, is_all })
-}
-
-/// A table and main's arguments.
-type Start = (Vec<u8>, Vec<u32>);
-
-/// Designs small enough for all of their states.
-fn small_designs() -> Result<Vec<Start>, String> {
-    let mut found = Vec::new();
-    for (text, arguments) in DESIGNS {
-        found.push((assemble(text).map_err(|error| format!("{text}: {error:?}"))?, arguments.to_vec()));
-    }
-    let examples = examples::tables()?.into_iter().chain(CASES.iter().map(|case| case.bytes()));
-    for bytes in examples {
-        let Ok(tree) = Tree::read(&bytes) else {
-            continue;
-        };
-        if tree.node_count() <= SMALL {
-            for argument in [0, 1, 5] {
-                found.push((bytes.clone(), vec![argument; tree.parameters(tree.main())]));
-            }
-        }
-    }
-    Ok(found)
+        })
+    })
 }
 
 #[test]
@@ -174,7 +113,7 @@ fn every_state_of_small_designs() -> Outcome {
     kinds.never(&[&CAUSES[..], &HARMLESS].concat())
 }
 
-/// Under the list, under no tag and under others: tags tell only how a rival has to wait.
+/// Under the list, under no tag and under others after a start that had more: tags tell only how a rival has to wait.
 #[test]
 fn states_of_random_designs() -> Outcome {
     let (mut random, mut kinds) = (Random::new(81), Kinds::default());

@@ -9,7 +9,7 @@ use design::kinds::Kinds;
 use design::list::{arbiter_list, program, tags_of};
 use design::random::Random;
 use design::reading::{read, Reading};
-use design::states::{any_state, arguments, tags};
+use design::states::{any_state, arguments, holding_tags, tags};
 use design::table::{compute, narrow};
 use design::width_cases::{standings, CASES};
 use design::width_kinds::{is_narrow, width_kinds, ASTRAY, STARTED};
@@ -103,7 +103,7 @@ fn steps_from_a_start_keep_to_the_widths() -> Outcome {
         let tree = Tree::read(&bytes).expect("an accepted table");
         let (tags, arguments) = (tags(&mut random, &tree), arguments(&mut random, &tree));
         let mut state = State::zero();
-        start(&bytes, &tags, &arguments, &mut state).expect("a start");
+        start(&bytes, &holding_tags(&mut random, &tree), &arguments, &mut state).expect("a start");
         narrow += usize::from(is_narrow(&tree));
         cut_at_start += usize::from(state.function(tree.main()).registers[..arguments.len()] != arguments);
         for _ in 0..100 {

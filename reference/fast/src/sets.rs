@@ -6,6 +6,7 @@ use numbers::{MOST_FUNCTIONS, MOST_NODES};
 
 use crate::check::Survey;
 use crate::reach::{for_each, Reach};
+use crate::tags::words;
 use crate::{first, next, Functions, Parts};
 
 const WORDS: usize = MOST_NODES / 64;
@@ -39,6 +40,18 @@ pub fn list_by_sets(table: &[u8], tags: &mut [u8; 64]) -> u32 {
         bytes.copy_from_slice(&word.to_le_bytes());
     }
     0
+}
+
+/// The lowest call of the list that these tags, which are in order, leave out.
+pub(crate) fn untagged(parts: Parts, reached: Functions, tags: &[u8]) -> Option<u32> {
+    let mut walk = Walk::new(parts);
+    walk.reached(reached);
+    for (begin, (listed, tagged)) in (1..).step_by(64).zip(walk.listed.into_iter().zip(words(tags))) {
+        if listed & !tagged != 0 {
+            return Some(begin + (listed & !tagged).trailing_zeros());
+        }
+    }
+    None
 }
 
 pub(crate) struct Walk<'a> {

@@ -4,8 +4,10 @@ use numbers::{BOUND, CALL, CONSTANT, IF, LET, PARAMETER, PRIMITIVE};
 use numbers::{BUSY, OPEN};
 
 use crate::check::Survey;
+use crate::reach::Reach;
+use crate::sets::untagged;
 use crate::state::{Lent, State};
-use crate::tags::checked;
+use crate::tags::{checked, checked_reach};
 use crate::{compute, first, next, refusal, word, Parts};
 
 const ANSWERED: u64 = 1 << 32;
@@ -53,13 +55,18 @@ impl Begun<'_> {
     }
 }
 
+/// The list is made last, once nothing else is refused.
 fn begun<'a>(table: &[u8], tags: &[u8], arguments: &'a [u32]) -> Result<Begun<'a>, u32> {
-    let parts = checked(table, tags, &mut Survey::empty())?;
+    let mut reach = Reach::unknown();
+    let parts = checked_reach(table, tags, &mut Survey::empty(), &mut reach)?;
     let main = parts.functions();
     if arguments.len() != parts.parameters(main) {
         return Err(refusal(11, 0));
     }
-    Ok(Begun { main, root: parts.root(main), mask: parts.mask(main), arguments })
+    match untagged(parts, reach.reached, tags) {
+        None => Ok(Begun { main, root: parts.root(main), mask: parts.mask(main), arguments }),
+        Some(place) => Err(refusal(26, place)),
+    }
 }
 
 /// Asks for a step at a node, given by any number. 0 says taken; 2^32 and a value answered; 2 * 2^32 and a refusal

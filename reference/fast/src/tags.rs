@@ -3,6 +3,7 @@
 use numbers::CALL;
 
 use crate::check::{survey, Survey};
+use crate::reach::Reach;
 use crate::{refusal, word, Parts};
 
 /// 0 for an accepted table and a tag list in order for it, else the refusal.
@@ -12,9 +13,25 @@ pub fn check_tags(table: &[u8], tags: &[u8]) -> u32 {
 
 /// The parts of an accepted table with a tag list in order, and what was learnt of it, or the refusal.
 pub(crate) fn checked<'a>(table: &'a [u8], tags: &[u8], known: &mut Survey) -> Result<Parts<'a>, u32> {
-    match survey(table, known) {
-        0 => (),
-        refused => return Err(refused),
+    let refused = survey(table, known);
+    surveyed(table, tags, known, refused)
+}
+
+/// The same, and what main reaches.
+pub(crate) fn checked_reach<'a>(
+    table: &'a [u8],
+    tags: &[u8],
+    known: &mut Survey,
+    reach: &mut Reach,
+) -> Result<Parts<'a>, u32> {
+    let refused = reach.survey(table, known);
+    surveyed(table, tags, known, refused)
+}
+
+#[inline(always)]
+fn surveyed<'a>(table: &'a [u8], tags: &[u8], known: &Survey, refused: u32) -> Result<Parts<'a>, u32> {
+    if refused != 0 {
+        return Err(refused);
     }
     let parts = Parts::of(table);
     match untaggable(&parts, tags, known) {
@@ -29,11 +46,7 @@ fn untaggable(parts: &Parts, tags: &[u8], known: &Survey) -> Option<u32> {
     if tags.len() != nodes.div_ceil(8) || usize::from(*tags.last()?) >> ((nodes - 1) % 8 + 1) != 0 {
         return Some(0);
     }
-    for (begin, bytes) in (1..).step_by(64).zip(tags.chunks(8)) {
-        let mut tagged = 0;
-        for byte in bytes.iter().rev() {
-            tagged = tagged << 8 | u64::from(*byte);
-        }
+    for (begin, mut tagged) in (1..).step_by(64).zip(words(tags)) {
         while tagged != 0 {
             let node = begin + tagged.trailing_zeros() as usize;
             let record = parts.record(node);
@@ -44,4 +57,9 @@ fn untaggable(parts: &Parts, tags: &[u8], known: &Survey) -> Option<u32> {
         }
     }
     None
+}
+
+/// The tags of 64 nodes each.
+pub(crate) fn words(tags: &[u8]) -> impl Iterator<Item = u64> + '_ {
+    tags.chunks(8).map(|bytes| bytes.iter().rev().fold(0, |word, byte| word << 8 | u64::from(*byte)))
 }

@@ -1,4 +1,4 @@
-//! The fast baseline gives the same answers as the reference: the checks, the lists, a start and a step.
+//! The fast baseline gives the same answers as the reference: the checks, the lists and a step.
 
 mod states;
 
@@ -11,6 +11,7 @@ use design::list::{differs_over_all, tag_bytes, tags_of};
 use design::operation_cases::{large, small, WORDS};
 use design::random::Random;
 use design::reach_cases;
+use design::start_cases::waits;
 use design::states::{any_state, damage_state, damaged_tags, tags};
 use design::towers::{any_comb, any_deep, any_tower};
 use design::width_cases::standings;
@@ -182,45 +183,9 @@ fn named_steps_agree() {
     }
 }
 
-#[test]
-fn starts_agree() {
-    let mut random = Random::new(15);
-    let mut refused = [0; 26];
-    for _ in 0..3000 {
-        let bytes = match random.below(12) {
-            0..=4 => damaged(&mut random),
-            5 => too_wide(&mut random),
-            _ => accepted(&mut random),
-        };
-        let (tags, before) = match Tree::read(&bytes) {
-            Ok(tree) if random.once_in(2) => (damaged_tags(&mut random, &tree), any_state(&mut random, &tree)),
-            Ok(tree) => (tags(&mut random, &tree), any_state(&mut random, &tree)),
-            Err(_) => (vec![0], circuit::State::zero()),
-        };
-        // Mostly as many as main has parameters.
-        let count = match Tree::read(&bytes) {
-            Ok(tree) if !random.once_in(4) => tree.parameters(tree.main()),
-            _ => random.below(4),
-        };
-        let arguments: Vec<u32> = (0..count).map(|_| random.word()).collect();
-        let mut wanted = before.clone();
-        let answer = circuit::start(&bytes, &tags, &arguments, &mut wanted);
-        for start in STARTS {
-            let mut found = to_fast(&before);
-            assert_eq!(start(&bytes, &tags, &arguments, &mut found), code(answer));
-            assert!(found == to_fast(&wanted));
-        }
-        refused[answer.map_or_else(|refusal| usize::from(refusal.number), |()| 0)] += 1;
-    }
-    assert!(refused[0] > 200, "{refused:?}");
-    assert!([5, 9, 10, 11, 25].iter().all(|number| refused[*number] > 20), "{refused:?}");
-}
-
-type Start = fn(&[u8], &[u8], &[u32], &mut State) -> u32;
 type Step = fn(&[u8], &[u8], &mut State, u16) -> u64;
 
 /// In place, and on lent arrays.
-const STARTS: [Start; 2] = [fast::start, |t, g, arguments, s| fast::start_lent(t, g, arguments, &mut s.lend())];
 const STEPS: [Step; 2] = [fast::step, |t, g, s, node| fast::step_lent(t, g, &mut s.lend(), node)];
 
 fn answer_code(answer: Answer) -> u64 {
@@ -241,6 +206,31 @@ fn same_step(bytes: &[u8], tags: &[u8], begun: &circuit::State, node: u16) -> u6
         assert!(found == to_fast(&wanted), "{node}: {}", shown(bytes));
     }
     answer
+}
+
+/// In states that no start leads to a call waits without a tag, though the tags hold the list.
+#[test]
+fn named_waits_agree() {
+    for case in waits() {
+        let (bytes, tags) = case.table();
+        let answer = same_step(&bytes, &tags, &case.before, case.node);
+        assert_eq!(answer, 2 << 32 | 23 << 16 | u64::from(case.node), "{}", case.name);
+    }
+}
+
+/// Started with both tags, and six steps with them: the seventh is refused by its own.
+#[test]
+fn the_last_step_goes_by_its_own_tags() {
+    let bytes = assemble("fun f(x) = x  fun main(x) = beside(f(x), f(x))").expect("a text in order");
+    for (tags, number) in [(0b10100, 22), (0b10000, 22), (0, 23), (0b100, 23)] {
+        let mut state = circuit::State::zero();
+        circuit::start(&bytes, &[0b10100], &[4], &mut state).expect("a start");
+        for node in [2, 3, 5, 4, 6, 3] {
+            assert_eq!(same_step(&bytes, &[0b10100], &state, node), 0, "{node}");
+            circuit::step(&bytes, &[0b10100], &mut state, node);
+        }
+        assert_eq!(same_step(&bytes, &[tags], &state, 5), 2 << 32 | number << 16 | 5, "{tags:#b}");
+    }
 }
 
 #[test]

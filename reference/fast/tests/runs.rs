@@ -14,7 +14,7 @@ use design::kinds::Kinds;
 use design::list::tags_of;
 use design::random::Random;
 use design::reading::read;
-use design::states::{any_state, arguments, damage_state, odd_state, tags};
+use design::states::{any_state, arguments, damage_state, holding_tags, odd_state, tags};
 use design::towers::{any_comb, any_deep, any_tower};
 use design::width_cases::CASES;
 use design::width_kinds::{self, width_kinds, STARTED};
@@ -105,6 +105,7 @@ fn some_table(random: &mut Random) -> Vec<u8> {
     }
 }
 
+/// A start has tags that hold the list; runs from it have any.
 #[test]
 fn runs_from_a_start_agree() -> Outcome {
     let (mut random, mut done) = (Random::new(13), Done::default());
@@ -112,7 +113,7 @@ fn runs_from_a_start_agree() -> Outcome {
         let bytes = some_table(&mut random);
         let tree = Tree::read(&bytes).expect("an accepted table");
         let (tags, arguments) = (tags(&mut random, &tree), arguments(&mut random, &tree));
-        let begun = started(&bytes, &tags, &arguments);
+        let begun = started(&bytes, &holding_tags(&mut random, &tree), &arguments);
         let budget = if round % 4 == 0 { random.below(200) as u32 } else { 600 };
         let found = same_run(&mut done, &bytes, &tags, &begun, budget);
         match read(&tree, &arguments, budget.into()) {
@@ -135,7 +136,7 @@ fn runs_from_the_middle_agree() -> Outcome {
         let bytes = some_table(&mut random);
         let tree = Tree::read(&bytes).expect("an accepted table");
         let tags = tags(&mut random, &tree);
-        let mut begun = started(&bytes, &tags, &arguments(&mut random, &tree));
+        let mut begun = started(&bytes, &holding_tags(&mut random, &tree), &arguments(&mut random, &tree));
         for _ in 0..random.below(200) {
             step_with(&tree, &tags, &mut begun, random.within(1, tree.node_count()) as u16);
         }
