@@ -23,6 +23,7 @@ use Rattle.list.specs.Working.{bitAt, Bit}
 use Rattle.list.proofs.BitLaws.{or-bit, tagged-bit}
 use Rattle.list.proofs.NodeLaws.{few}
 use Rattle.list.proofs.TagFacts.{listed-call, goes-order}
+use Rattle.list.proofs.TagsFit.{or-yes}
 
 -- a number of a set, by its tag
 module _ (s : Test) (tags : List ℕ) (n : ℕ) where
@@ -33,10 +34,6 @@ module _ (s : Test) (tags : List ℕ) (n : ℕ) where
   pub holds-tagged : tagged tags n ≡ true → holdsAt s tags n ≡ true
   unfolding holdsAt
   holds-tagged e = ap (λ b. not (s n) || b) e ∙ or-yes (not (s n))
-    where
-      or-yes : (b : Bool) → b || true ≡ true
-      or-yes true = refl
-      or-yes false = refl
 
   pub holds-not : s n ≡ true → tagged tags n ≡ false → holdsAt s tags n ≡ false
   unfolding holdsAt

@@ -9,6 +9,10 @@ use Rattle.table.specs.Decoded.{cellAt, nodeSlot}
 use Rattle.table.proofs.Tests.{and-no}
 use Rattle.list.specs.Tags.{tagged, cellFits}
 
+pub or-yes : (b : Bool) → b || true ≡ true
+or-yes true = refl
+or-yes false = refl
+
 module _ (cells tags : List ℕ) (n : ℕ) where
   abbrev kind : ℕ
   kind = cellAt cells (nodeSlot n) 0
@@ -36,7 +40,3 @@ module _ (cells tags : List ℕ) (n : ℕ) where
   unfolding cellFits
   tag-call k w =
       ap₂ (λ a b. not (tagged tags n) || (a && not b)) (eq-eqb kind 4 k) (ne-eqb callee owner w) ∙ or-yes (not (tagged tags n))
-    where
-      or-yes : (b : Bool) → b || true ≡ true
-      or-yes true = refl
-      or-yes false = refl

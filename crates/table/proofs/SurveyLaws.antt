@@ -179,16 +179,11 @@ pub surveyed-out : (t cells : List ℕ) (k p : ℕ) → refused k p ≡ checkOf 
 unfolding surveyed
 surveyed-out t cells k p e = ap (λ v. ifAccepted v (decodedInto t cells) cells) e
 
--- what a survey leaves of an accepted table can be read
-pub surveyed-read : (t cells cells′ : List ℕ) → Taken t → length cells ≡ 3270 → cells′ ≡ surveyed t cells → Read t cells′
-unfolding surveyed
-surveyed-read t cells cells′ ok size q =
-    let into = q ∙ ap (λ v. ifAccepted v (decodedInto t cells) cells) ok in
-    record { taken = ok; told = subst (Decoded t) (sym into) (decoded-read t cells (taken-small t ok) size) }
-
--- what a survey says then
+-- what a survey says: an accepted table can be read
 pub survey-taken : (t cells cells′ : List ℕ) (r : Checked) (f : Function) (n : Node) → length cells ≡ 3270 → verdictOf r ≡ checkOf t
     → cells′ ≡ surveyed t cells → r ≡ Accepted f n → Read t cells′ × (f .0 ≡ functions t) × (n .0 ≡ nodes t)
+unfolding surveyed
 survey-taken t cells cells′ r f n size told q e =
     let k = taken-by t (f .0) (n .0) (sym (ap verdictOf e) ∙ told) in
-    (surveyed-read t cells cells′ (k .0) size q, k .1, k .2)
+    let into = q ∙ ap (λ v. ifAccepted v (decodedInto t cells) cells) (k .0) in
+    (record { taken = k .0; told = subst (Decoded t) (sym into) (decoded-read t cells (taken-small t (k .0)) size) }, k .1, k .2)
