@@ -13,7 +13,7 @@ use Rattle.table.specs.Bytes.{functions, nodes}
 use Rattle.table.specs.Find.{lowest}
 use Rattle.table.specs.Check.{accepted, refused, ifAccepted}
 use Rattle.table.specs.Working.{Taken}
-use Rattle.table.proofs.Tests.{T-true, true-T}
+use Rattle.table.proofs.Tests.{T-true, true-T, or-yes}
 use Rattle.table.proofs.FindLaws.{passes-lowest, lowest-passes}
 use Rattle.table.proofs.Loops.{lowest-found}
 use Rattle.table.proofs.LowestLaws.{Lowest, lowest-fails, lowest-same, lowest-past}
@@ -23,7 +23,6 @@ use Rattle.list.specs.Working.{bitAt, Bit}
 use Rattle.list.proofs.BitLaws.{or-bit, tagged-bit}
 use Rattle.list.proofs.NodeLaws.{few}
 use Rattle.list.proofs.TagFacts.{listed-call, goes-order}
-use Rattle.list.proofs.TagsFit.{or-yes}
 
 -- a number of a set, by its tag
 module _ (s : Test) (tags : List ℕ) (n : ℕ) where

@@ -1,17 +1,13 @@
 -- when a tag fits its node, from what was read of the node
 use Prim.Native.Nat.{ℕ}
-use mathlib.Core.Path.{_≡_, refl, ap, ap₂, _∙_}
-use mathlib.Core.Bool.{Bool, true, false, _&&_, _||_, not}
+use mathlib.Core.Path.{_≡_, ap, ap₂, _∙_}
+use mathlib.Core.Bool.{true, false, _&&_, _||_, not}
 use mathlib.Core.List.{List}
 use lib.Dec.{eqb}
 use borrow.Author.Tests.{eq-eqb, ne-eqb}
 use Rattle.table.specs.Decoded.{cellAt, nodeSlot}
-use Rattle.table.proofs.Tests.{and-no}
+use Rattle.table.proofs.Tests.{and-no, or-yes}
 use Rattle.list.specs.Tags.{tagged, cellFits}
-
-pub or-yes : (b : Bool) → b || true ≡ true
-or-yes true = refl
-or-yes false = refl
 
 module _ (cells tags : List ℕ) (n : ℕ) where
   abbrev kind : ℕ

@@ -35,7 +35,6 @@ pub mod Sorts
 pub mod SortSame
 pub mod Tells
 pub mod SetsSteady
-pub mod BoolLaws
 pub mod SetsOpening
 pub mod SetsEnding
 pub mod SetsRenewing

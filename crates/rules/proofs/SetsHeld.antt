@@ -9,7 +9,7 @@ use Rattle.table.specs.Syntax.{Expr, const, param, prim, call, self, cond, bind
 use Rattle.rules.specs.State.{View}
 use Rattle.rules.specs.Play.{calls}
 use Rattle.rules.specs.Sets.{barredBy}
-use Rattle.rules.proofs.BoolLaws.{or-yes, or-no, and-yes, and-no}
+use Rattle.table.proofs.Tests.{or-yes, or-no, and-yes, and-no}
 
 module _ (s s′ : View) where
   pub held-same : ((f : ℕ) → s′ .occupant f ≡ s .occupant f) → (u : Expr) → barredBy s′ u ≡ barredBy s u

@@ -13,7 +13,7 @@ use Rattle.rules.specs.Arithmetic.{Arithmetic}
 use Rattle.rules.specs.State.{View}
 use Rattle.rules.specs.Play.{calls}
 use Rattle.rules.specs.Sets.{entered, Sets, setsIn, Stays, Renewing}
-use Rattle.rules.proofs.BoolLaws.{and-yes, and-no}
+use Rattle.table.proofs.Tests.{and-yes, and-no}
 use Rattle.rules.proofs.Performed.{Owns}
 use Rattle.rules.proofs.Sorts.{inside-sort}
 use Rattle.rules.proofs.SortSame.{Alike, entered-same}
