@@ -4,8 +4,8 @@ use table::Node;
 use table::decoded;
 use table::decoded::Cells;
 ghost use mathlib.Core.Path.{_≡_};
-ghost use mathlib.Core.Bool.{not};
-ghost use Prim.Native.Nat.{_+_, _-_, _*_, _≤_};
+ghost use mathlib.Core.Bool.{true, false, not};
+ghost use Prim.Native.Nat.{ℕ, _+_, _-_, _*_, _≤_, _<_};
 ghost use lib.ListN.{length, take};
 ghost use Rattle.table.specs.Decoded.{cellAt, tableSlot};
 ghost use Rattle.table.specs.Find.{lowest, all};
@@ -29,21 +29,40 @@ fn none_past(tags: &[u8], last: Node) -> bool
     true
 }
 
+// Whether the eight numbers after k are seen to have no tag: they are those of a byte, and it is 0.
+fn free(tags: &[u8], k: usize) -> bool
+    ensures { λ r. ⌜ (r ≡ true → (n : ℕ) → k < n → n ≤ k + 8 → tagged (now (tags .entry)) n ≡ false) ⌝ }
+{
+    if k % 8 != 0 {
+        return false;
+    }
+    let at = k / 8;
+    if at < tags.len() {
+        return tags[at] == 0;
+    }
+    false
+}
+
 // The lowest node that is tagged and is no call, or is a self call; 0 where there is none.
 fn lowest_unfit(cells: &Cells, tags: &[u8]) -> Node
     ensures { λ r. ⌜ r .0 ≡ lowest (cellFits (now (cells .entry)) (now (tags .entry))) (cellAt (now (cells .entry)) tableSlot 2) ⌝ }
 {
     let last = decoded::last(cells);
-    let end = last.0;
-    let mut n: u16 = 0;
-    while n < end {
-        n += 1;
-        if crate::marks(tags, Node(n)) {
-            if decoded::kind(cells, Node(n)) != 4 {
-                return Node(n);
-            }
-            if decoded::callee(cells, Node(n)).0 == decoded::owner(cells, Node(n)).0 {
-                return Node(n);
+    let end = last.0 as usize;
+    let mut k: usize = 0;
+    while k < end {
+        if free(tags, k) {
+            k += 8;
+        } else {
+            k += 1;
+            let n = Node(k as u16);
+            if crate::marks(tags, n) {
+                if decoded::kind(cells, n) != 4 {
+                    return n;
+                }
+                if decoded::callee(cells, n).0 == decoded::owner(cells, n).0 {
+                    return n;
+                }
             }
         }
     }
