@@ -14,7 +14,7 @@ use table::decoded::Cells;
 use table::{Node, decoded};
 
 // How a run with a budget ended, and after how many steps.
-#[derive(Drop)]
+#[derive(Clone, Copy)]
 pub struct DriveEnd {
     pub steps: u32,
     pub ended: Ended,

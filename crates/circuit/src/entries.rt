@@ -12,7 +12,7 @@ use table::decoded::Cells;
 use table::{Node, decoded};
 
 // How a run over a list ended, and after how many steps.
-#[derive(Drop)]
+#[derive(Clone, Copy)]
 pub struct RunEnd {
     pub steps: usize,
     pub halt: Halt,

@@ -13,7 +13,7 @@ use table::{Function, Node, decoded};
 
 // What a node does: it begins, opens another node, is done, enters its callee, anew, or its own function once more, or leaves its callee.
 // What a call hands over is read off the table when it moves.
-#[derive(Drop)]
+#[derive(Clone, Copy)]
 pub enum Plan {
     Begins,
     Turns(Node),

@@ -3,7 +3,7 @@ use table::Node;
 
 // Of each of 512 nodes status, second phase and value; of each of 32 functions 8 registers and an occupant, 0 if free.
 // Node n is at n - 1; the registers of function f are at 8 (f - 1) to 8 f - 1, its occupant is at f - 1.
-#[derive(Drop)]
+#[derive(Clone, Copy)]
 pub struct State {
     pub status: [u8; 512],
     pub second: [bool; 512],
@@ -13,40 +13,40 @@ pub struct State {
 }
 
 // A step's answer: taken, answered with main's value, or refused with number and place.
-#[derive(Drop)]
+#[derive(Clone, Copy)]
 pub enum Answer {
     Taken,
     Answered(u32),
     Refused(u8, Node),
 }
 
-#[derive(Drop)]
+#[derive(Clone, Copy)]
 pub struct Stepped {
     pub answer: Answer,
     pub state: State,
 }
 
 // A start's answer; refused, its state is the one handed in.
-#[derive(Drop)]
+#[derive(Clone, Copy)]
 pub enum Opening {
     Opened,
     Refused(u8, Node),
 }
 
-#[derive(Drop)]
+#[derive(Clone, Copy)]
 pub struct Started {
     pub opening: Opening,
     pub state: State,
 }
 
 // How a run over a list ends: past its last node, or at the first refusal.
-#[derive(Drop)]
+#[derive(Clone, Copy)]
 pub enum Halt {
     Whole,
     Refused(u8, Node),
 }
 
-#[derive(Drop)]
+#[derive(Clone, Copy)]
 pub struct Ran {
     pub steps: usize,
     pub halt: Halt,
@@ -54,7 +54,7 @@ pub struct Ran {
 }
 
 // How a run with a budget ends: main has answered, no step is possible, or as many steps as the budget are taken.
-#[derive(Drop)]
+#[derive(Clone, Copy)]
 pub enum Ended {
     Answered(u32),
     AtRest,
@@ -62,7 +62,7 @@ pub enum Ended {
     Refused(u8, Node),
 }
 
-#[derive(Drop)]
+#[derive(Clone, Copy)]
 pub struct Driven {
     pub steps: u32,
     pub ended: Ended,
@@ -70,7 +70,7 @@ pub struct Driven {
 }
 
 // What a query says: the first possible step, or none.
-#[derive(Drop)]
+#[derive(Clone, Copy)]
 pub enum Found {
     Possible(Node),
     Nothing,

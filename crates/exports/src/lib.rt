@@ -1,4 +1,6 @@
 // The entries as C functions on numbers, slices and arrays, for C and Rust; include/safl.h declares them.
+#![tactic(auto)]
+
 mod circuits;
 mod codes;
 mod sheets;

@@ -15,7 +15,7 @@ use table::decoded::Cells;
 use table::{Function, Node, decoded};
 
 // Of a chain of siblings: the functions called in one of them, and in two of them; the body of a let.
-#[derive(Drop)]
+#[derive(Clone, Copy)]
 pub struct Siblings {
     pub once: u32,
     pub twice: u32,

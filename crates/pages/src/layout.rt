@@ -15,7 +15,7 @@ use list::{Listing, Record};
 use table::Function;
 
 // How far the printing has come: pages begun, rows used, and the resource of the last call on the page, none where there is no call yet.
-#[derive(Drop)]
+#[derive(Clone, Copy)]
 pub struct Reached {
     pub pages: usize,
     pub rows: usize,

@@ -1,4 +1,6 @@
 // The arbiter sheet of a design table: its listed calls by resource, on pages of 24 lines of 32 characters and a line feed.
+#![tactic(auto)]
+
 mod layout;
 mod lines;
 
@@ -8,7 +10,7 @@ use crate::lines::Text;
 use table::Checked;
 
 // The bytes of a sheet, zeros after them, how many they are, and what the check of the table says; none where that is a refusal.
-#[derive(Drop)]
+#[derive(Clone, Copy)]
 pub struct Sheet {
     pub text: Text,
     pub length: usize,
@@ -16,7 +18,7 @@ pub struct Sheet {
 }
 
 // How many bytes of a lent text were filled, and what the check of the table says.
-#[derive(Drop)]
+#[derive(Clone, Copy)]
 pub struct Filled {
     pub length: usize,
     pub checked: Checked,

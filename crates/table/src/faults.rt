@@ -1,7 +1,7 @@
 // The nodes' part of refusals 5 to 9, and 25.
 ghost use Rattle.std.specs.Prelude.{◌≡◌, ◌&&◌, ◌||◌, not, ◌^◌, ◌≤◌, ◌<◌, eqb, ltb, length};
 ghost use Rattle.table.specs.Bytes.{functions, nodes, params, kind, extra, word};
-ghost use Rattle.table.specs.Naming.{owner, tail as tailOf, under_last, in_scope, chain};
+ghost use Rattle.table.specs.Naming.{owner, tail as tail_of, under_last, in_scope, chain};
 ghost use Rattle.table.specs.Check.{among, counted, scoped};
 ghost use Rattle.table.specs.Working.{Framed, Linked, Decoded, Within, Tails, NodeAt, better, fault_at, check_nodes, fault_verdict};
 
@@ -12,7 +12,7 @@ use crate::{Function, Node, decoded, kinds};
 pub(crate) const NONE: u8 = 26;
 
 // The lowest number met so far and the lowest node that meets it.
-#[derive(Drop)]
+#[derive(Clone, Copy)]
 pub struct Fault {
     pub number: u8,
     pub place: Node,
@@ -167,7 +167,7 @@ fn const_fits(kind: u16, word: u32, width: u16) -> bool
 // The first number that a node meets, or NONE.
 fn fault_at(table: &[u8], cells: &Cells, n: Node, own: Function, tail: bool) -> u8
     requires within { Within table.now cells.now n.0 }
-    requires own_value { (own.0 ≡ owner table.now n.0) × (tail ≡ tailOf table.now n.0) }
+    requires own_value { (own.0 ≡ owner table.now n.0) × (tail ≡ tail_of table.now n.0) }
     ensures { result ≡ fault_at table.now n.0 }
 {
     let kind = decoded::kind(cells, n);

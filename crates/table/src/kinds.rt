@@ -40,7 +40,7 @@ pub(crate) fn formed(kind: u16, extra: u16, word: u32, first: Node) -> bool
 }
 
 // What a kind asks of a node and tells its children, in numbers: 1 is yes.
-#[derive(Drop)]
+#[derive(Clone, Copy)]
 pub struct Rule {
     // What extra is below; a parameter's is below its function's count.
     pub extras: u16,

@@ -1,4 +1,6 @@
 // A design table as bytes: number types, total readers, operations' child counts, and the check (refusals 1 to 9, then 25).
+#![tactic(auto)]
+
 mod decode;
 pub mod decoded;
 mod faults;
@@ -23,23 +25,23 @@ use crate::sweep::Residue;
 
 // A function's number, 1 to F; 0 is none.
 #[repr(C)]
-#[derive(Drop)]
+#[derive(Clone, Copy)]
 pub struct Function(pub u16);
 
 // A node's number, 1 to N; 0 is none.
 #[repr(C)]
-#[derive(Drop)]
+#[derive(Clone, Copy)]
 pub struct Node(pub u16);
 
 // How many children a node may have, from the fewest to the most.
-#[derive(Drop)]
+#[derive(Clone, Copy)]
 pub struct Counts {
     pub low: u16,
     pub high: u16,
 }
 
 // What the check of a table says: main and the last node, or a refusal's number and place.
-#[derive(Drop)]
+#[derive(Clone, Copy)]
 pub enum Checked {
     Accepted(Function, Node),
     Refused(u8, Node),

@@ -10,7 +10,7 @@ ghost use Rattle.table.specs.Sweep.{Siftable, Sifts, SiftedBy};
 use crate::{Function, Node, frame, kinds, linking, records};
 
 // A node sifted, in numbers that specs/Sweep names.
-#[derive(Drop)]
+#[derive(Clone, Copy)]
 pub struct Sifting {
     pub passed: bool,
     pub down: u32,
@@ -19,7 +19,7 @@ pub struct Sifting {
 }
 
 // All nodes sifted: with so many bounds among them, whose scope is still to be looked at.
-#[derive(Drop)]
+#[derive(Clone, Copy)]
 pub enum Residue {
     Passed(usize),
     Failed,
