@@ -1,0 +1,12 @@
+-- `bits::join_at` meets its contract. The invariant: the words up to i are joined, the others as they were. The measure is the words left.
+use Rattle.std.proofs.Common.{◌≡◌, ◌+◌, ◌-◌, ◌*◌, ◌≤◌, length, get_or, sym, ap, arith, length-set, rules}
+use lib.Bits.{bit_or}
+use Rattle.list.proofs.WordLaws.{adds_by, packed_row}
+use Rattle.list.proofs.Entrywise.{Upto, upto_none, upto_more}
+use Rattle.list.proofs.bits.join_at.Given as goal
+
+abbrev pub invariant-loop-i : goal.invariant-loop-i
+invariant-loop-i l = (l.i ≤ 8) × (length l.set ≡ 8) × Upto (λ j. bit_or (get_or l.initial.set j 0) (get_or l.rows (l.base + j) 0)) l.initial.set l.set l.i
+
+abbrev pub decreases-loop-i : goal.decreases-loop-i
+decreases-loop-i l = 8 - l.i

@@ -1,0 +1,13 @@
+-- `bits::shared` meets its contract
+use Rattle.std.proofs.Common.{◌∙◌}
+use Rattle.list.proofs.Meets.{shared_all, shared_some}
+use Rattle.list.proofs.bits.shared.Goals as goal
+
+pub returns-then-once-twice : goal.returns-then-once-twice
+returns-then-once-twice c = (c.requires, λ m b. shared_all _ _ _ _ c.if-once-twice.true m)
+
+pub union-requires : goal.union-requires
+union-requires c = tt
+
+pub returns : goal.returns
+returns c = (c.union.ensures.0, λ m b. c.union.ensures.1 m b ∙ shared_some _ _ _ _ c.if-once-twice.false m)
