@@ -7,8 +7,8 @@ use Rattle.list.proofs.HoldingLaws.{missing_refused}
 use Rattle.list.proofs.check_coverage.Goals as goal
 
 pub compare-requires : goal.compare-requires
-compare-requires c = (survey_taken _ _ _ _ _ _ refl c.survey-checked.ensures.0 c.survey-checked.ensures.1 c.enum_told-1.given.1).0
+compare-requires c = (survey_taken _ _ _ _ _ _ refl c.survey-checked.ensures.0 c.survey-checked.ensures.1 c.in-Accepted.is).0
 
 pub returns-in-Refused : goal.returns-in-Refused
-returns-in-Refused c = let e = at_check _ _ _ _ (sym (ap verdict_of c.checked-1.given.1) ∙ c.survey-checked.ensures.0) in
+returns-in-Refused c = let e = at_check _ _ _ _ c.in-Refused.ensures.0 in
     (e, missing_refused _ _ _ _ (sym e))

@@ -28,7 +28,7 @@ pub loop-i-preserved : goal.loop-i-preserved
 loop-i-preserved c = let i = c.loop-i.i in
     let s = c.args.tags.now in (
       omega arith,
-      c.wrapping_add_u64-sum.ensures ∙ ap (λ k. (k + ones (get_or s i 0)) % 2 ^ 64) c.loop-i.invariant.1 ∙ wrap_more
+      c.wrapping_add_u64-sum.ensures.value ∙ ap (λ k. (k + ones (get_or s i 0)) % 2 ^ 64) c.loop-i.invariant.1 ∙ wrap_more
           (bits_set (take i s)) (ones (get_or s i 0)) (2 ^ 64) ∙ ap (λ k. k % 2 ^ 64) (sym (total_more s i (omega arith))),
     )
 

@@ -4,7 +4,11 @@ use Rattle.list.proofs.ListLaws.{memo_none, main_there, found_list}
 use Rattle.list.proofs.arbiters.arbiters.Goals as goal
 
 pub body_walk-requires : goal.body_walk-requires
-body_walk-requires c = (main_there _ c.requires.taken _ (c.main-main.ensures ∙ c.requires.told.own 0 (omega arith)), (c.requires.told, memo_none _))
+body_walk-requires c = record {
+  taken = main_there _ c.requires.taken _ (c.main-main.ensures ∙ c.requires.told.own 0 (omega arith));
+  decoded = c.requires.told;
+  memo = memo_none _;
+}
 
 pub bytes-requires : goal.bytes-requires
 bytes-requires c = tt

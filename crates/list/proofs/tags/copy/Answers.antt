@@ -20,10 +20,10 @@ loop-i-smaller c = simp length-set (omega arith)
 pub loop-i-preserved : goal.loop-i-preserved
 loop-i-preserved c = let a = c.args in
     let inv = c.loop-i.invariant in
-    let n : length a.t2 ≡ 64 = search rules in (
+    let n : length a.set ≡ 64 = search rules in (
       simp length-set (omega arith),
       simp length-set inv.1,
-      copied_more _ a.t2 _ _ (omega (arith, n, inv.1, c.requires))
+      copied_more _ a.set _ _ (omega (arith, n, inv.1, c.requires))
           (omega (arith, inv.1)) inv.2,
     )
 
@@ -32,4 +32,4 @@ shape_of-tags c = c.loop-i.invariant.1
 
 pub returns : goal.returns
 returns c = let inv = c.loop-i.invariant in
-    copied_all c.args.t2 c.args.tags.now _ c.loop-i.i (omega (arith, inv.0, inv.1)) inv.2
+    copied_all c.args.set c.args.tags.now _ c.loop-i.i (omega (arith, inv.0, inv.1)) inv.2
