@@ -24,7 +24,7 @@ pub struct Siblings {
 
 // The calls at and below node n of function f go to `set`, its conflicts to set 0 of the rows; the functions called there come back,
 // put to `mask`.
-#[cycle(body_walk_chain_walk_enter_walk_inner_walk_kids_walk_node_walk_side_walk)]
+#[cycle(walk)]
 fn node_walk(
     table: &&[u8],
     cells: &Cells,
@@ -53,7 +53,7 @@ fn node_walk(
 }
 
 // A node that has more to it, by its kind.
-#[cycle(body_walk_chain_walk_enter_walk_inner_walk_kids_walk_node_walk_side_walk)]
+#[cycle(walk)]
 fn inner_walk(
     table: &&[u8],
     cells: &Cells,
@@ -89,7 +89,7 @@ fn inner_walk(
 }
 
 // What node n, a primitive or a call, calls besides its children: where it calls another function, itself and the calls of that body.
-#[cycle(body_walk_chain_walk_enter_walk_inner_walk_kids_walk_node_walk_side_walk)]
+#[cycle(walk)]
 fn enter_walk(
     table: &&[u8],
     cells: &Cells,
@@ -127,7 +127,7 @@ fn enter_walk(
 }
 
 // The children of node n, side by side. One alone is held against nothing, and needs no set of its own.
-#[cycle(body_walk_chain_walk_enter_walk_inner_walk_kids_walk_node_walk_side_walk)]
+#[cycle(walk)]
 fn kids_walk(
     table: &&[u8],
     cells: &Cells,
@@ -159,7 +159,7 @@ fn kids_walk(
 }
 
 // The children of node n, of which there are some: their sets are held against each other. Of a let (defs) the definientia alone.
-#[cycle(body_walk_chain_walk_enter_walk_inner_walk_kids_walk_node_walk_side_walk)]
+#[cycle(walk)]
 fn side_walk(
     table: &&[u8],
     cells: &Cells,
@@ -190,7 +190,7 @@ fn side_walk(
 }
 
 // Node c and the siblings after it; of a let (defs) the last one, its body, is left out and named.
-#[cycle(body_walk_chain_walk_enter_walk_inner_walk_kids_walk_node_walk_side_walk)]
+#[cycle(walk)]
 fn chain_walk(
     table: &&[u8],
     cells: &Cells,
@@ -235,7 +235,7 @@ fn chain_walk(
 }
 
 // Walks the body of g, unless that was done before, and keeps its set and the functions called in it.
-#[cycle(body_walk_chain_walk_enter_walk_inner_walk_kids_walk_node_walk_side_walk)]
+#[cycle(walk)]
 pub(crate) fn body_walk(
     table: &&[u8],
     cells: &Cells,
