@@ -1,6 +1,6 @@
 -- Parallel Conflict Analysis as the paper writes it (section 4.2), equation by equation, read as document 01 reads it ("The arbiter list"),
 -- and of a program as document 02, Q-5, has it
-use Rattle.std.specs.Prelude.{◌≡◌, ℕ, zero, suc, List, ◌≢◌}
+use Rattle.std.specs.Prelude.{ℕ, zero, suc, List, ◌≢◌}
 use Rattle.table.specs.Syntax.{Expr, Exprs, const, param, prim, call, self, cond, bind, bound, none, some}
 use Rattle.table.specs.Pick.{Range}
 use Rattle.table.specs.Reach.{Reached}

@@ -2,7 +2,6 @@
 use native.Mathlib.Nat.{zero-div}
 use lib.ListN.{get_or-eq_default}
 use Rattle.list.proofs.BitLaws.{low_bit}
-use Rattle.std.proofs.Common.{rules}
 use Rattle.list.proofs.bit_at.Goals as goal
 
 pub returns-then-at-tags : goal.returns-then-at-tags

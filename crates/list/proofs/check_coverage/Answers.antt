@@ -1,6 +1,5 @@
 -- `check_coverage` meets its contract: the table first, then its tags and its list.
-use Rattle.std.proofs.Common.{sym, refl, ap, ◌∙◌, rules}
-use Rattle.table.specs.Survey.{verdict_of}
+use Rattle.std.proofs.Common.{sym, refl}
 use Rattle.table.proofs.SurveyLaws.{survey_taken}
 use Rattle.list.proofs.TagVerdicts.{at_check}
 use Rattle.list.proofs.HoldingLaws.{missing_refused}

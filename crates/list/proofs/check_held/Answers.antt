@@ -1,5 +1,4 @@
 -- `check_held` meets its contract.
-use Rattle.std.proofs.Common.{rules}
 use Rattle.list.proofs.check_held.Goals as goal
 
 pub returns : goal.returns

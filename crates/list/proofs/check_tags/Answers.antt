@@ -1,6 +1,5 @@
 -- `check_tags` meets its contract: the table first, then the tags by its cells.
-use Rattle.std.proofs.Common.{sym, refl, ap, ◌∙◌, rules}
-use Rattle.table.specs.Survey.{verdict_of}
+use Rattle.std.proofs.Common.{refl, ◌∙◌}
 use Rattle.table.proofs.SurveyLaws.{survey_taken}
 use Rattle.list.proofs.TagVerdicts.{at_check, after_check, held_read}
 use Rattle.list.proofs.check_tags.Goals as goal

@@ -1,7 +1,6 @@
 -- `fill_tags` meets its contract, by the check's answer and the lent list's length.
-use Rattle.std.proofs.Common.{◌≡◌, sym, refl, ap, ◌∙◌, arith, rules}
+use Rattle.std.proofs.Common.{◌≡◌, refl, arith}
 use Rattle.table.specs.Bytes.{functions, nodes}
-use Rattle.table.specs.Survey.{verdict_of}
 use Rattle.table.specs.Working.{Read}
 use Rattle.table.proofs.SurveyLaws.{survey_taken}
 use Rattle.list.proofs.NodeLaws.{few}

@@ -1,5 +1,4 @@
 -- `list_records` meets its contract: the chains for 512 records, and all the records along them.
-use Rattle.std.proofs.Common.{rules}
 use Rattle.list.proofs.list_records.Goals as goal
 
 pub collect-requires : goal.collect-requires

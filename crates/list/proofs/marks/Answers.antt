@@ -1,5 +1,5 @@
 -- `marks` meets its contract: 0 has no bit, any other number the one before it.
-use Rattle.std.proofs.Common.{sym, ap, ◌∙◌, arith, rules}
+use Rattle.std.proofs.Common.{sym, ap, ◌∙◌, arith}
 use Rattle.list.specs.Tags.{tagged}
 use Rattle.list.proofs.BitLaws.{tagged_bit}
 use Rattle.list.proofs.marks.Goals as goal

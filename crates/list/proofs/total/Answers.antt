@@ -1,4 +1,4 @@
-use Rattle.std.proofs.Common.{◌≡◌, ◌+◌, ◌-◌, ◌%◌, ◌^◌, ◌≤◌, length, get_or, take, sym, ap, ◌∙◌, arith, take_all}
+use Rattle.std.proofs.Common.{◌+◌, ◌%◌, ◌^◌, get_or, take, sym, ap, ◌∙◌, arith, take_all}
 use lib.Count.{ones, ones-le}
 use Rattle.list.specs.Tags.{bits_set}
 use Rattle.list.proofs.TagLoops.{total_none, total_more, wrap_more}

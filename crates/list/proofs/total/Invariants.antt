@@ -1,8 +1,6 @@
 -- `total` meets its contract. The invariant: the sum is that of the bytes up to i, modulo 2^64. The measure is the bytes left.
-use Rattle.std.proofs.Common.{◌≡◌, ◌+◌, ◌-◌, ◌%◌, ◌^◌, ◌≤◌, length, get_or, take, sym, ap, ◌∙◌, arith, take_all}
-use lib.Count.{ones, ones-le}
+use Rattle.std.proofs.Common.{◌≡◌, ◌-◌, ◌%◌, ◌^◌, ◌≤◌, length, take}
 use Rattle.list.specs.Tags.{bits_set}
-use Rattle.list.proofs.TagLoops.{total_none, total_more, wrap_more}
 use Rattle.list.proofs.total.Given as goal
 
 abbrev pub invariant-loop-i : goal.invariant-loop-i

@@ -1,5 +1,5 @@
 -- `arbiters::arbiters` meets its contract
-use Rattle.std.proofs.Common.{◌∙◌, arith, rules}
+use Rattle.std.proofs.Common.{◌∙◌, arith}
 use Rattle.list.proofs.ListLaws.{memo_none, main_there, found_list}
 use Rattle.list.proofs.arbiters.arbiters.Goals as goal
 

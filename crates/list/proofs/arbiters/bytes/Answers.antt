@@ -1,5 +1,5 @@
-use Rattle.std.proofs.Common.{◌≡◌, ◌-◌, ◌≤◌, length, arith, rules}
-use Rattle.list.proofs.WordLaws.{Bytes, bytes_more, bytes_of}
+use Rattle.std.proofs.Common.{arith, rules}
+use Rattle.list.proofs.WordLaws.{bytes_more, bytes_of}
 use Rattle.list.proofs.arbiters.bytes.Goals as goal
 
 pub loop-i-init : goal.loop-i-init

@@ -1,6 +1,6 @@
 -- `arbiters::bytes` meets its contract. The invariant: the words up to i are written in bytes. The measure is the words left.
-use Rattle.std.proofs.Common.{◌≡◌, ◌-◌, ◌≤◌, length, arith, rules}
-use Rattle.list.proofs.WordLaws.{Bytes, bytes_more, bytes_of}
+use Rattle.std.proofs.Common.{◌≡◌, ◌-◌, ◌≤◌, length}
+use Rattle.list.proofs.WordLaws.{Bytes}
 use Rattle.list.proofs.arbiters.bytes.Given as goal
 
 abbrev pub invariant-loop-i : goal.invariant-loop-i

@@ -1,4 +1,4 @@
-use Rattle.std.proofs.Common.{◌≡◌, ◌-◌, ◌*◌, ◌/◌, ◌%◌, ◌^◌, ◌≤◌, length, subst, arith, length-set, rules}
+use Rattle.std.proofs.Common.{◌≡◌, subst, arith, length-set, rules}
 use Rattle.list.proofs.Entrywise.{Part, part_none, part_more}
 use Rattle.list.proofs.WordLaws.{word_put}
 use Rattle.list.proofs.arbiters.put_word.Goals as goal

@@ -1,8 +1,7 @@
 -- `arbiters::put_word` meets its contract. The invariant: of word i the bytes up to j are written, the others are as they were.
 -- The measure is the bytes left.
-use Rattle.std.proofs.Common.{◌≡◌, ◌-◌, ◌*◌, ◌/◌, ◌%◌, ◌^◌, ◌≤◌, length, subst, arith, length-set, rules}
-use Rattle.list.proofs.Entrywise.{Part, part_none, part_more}
-use Rattle.list.proofs.WordLaws.{word_put}
+use Rattle.std.proofs.Common.{◌≡◌, ◌-◌, ◌*◌, ◌/◌, ◌%◌, ◌^◌, ◌≤◌, length}
+use Rattle.list.proofs.Entrywise.{Part}
 use Rattle.list.proofs.arbiters.put_word.Given as goal
 
 abbrev pub invariant-loop-j : goal.invariant-loop-j

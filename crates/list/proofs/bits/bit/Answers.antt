@@ -1,5 +1,5 @@
 -- `bits::bit` meets its contract
-use Rattle.std.proofs.Common.{◌≡◌, ◌-◌, ◌*◌, ◌%◌, ◌^◌, arith, rules}
+use Rattle.std.proofs.Common.{◌≡◌, ◌-◌, ◌*◌, ◌%◌, ◌^◌, arith}
 use Rattle.list.proofs.BitLaws.{bit_is}
 use Rattle.list.proofs.bits.bit.Goals as goal
 

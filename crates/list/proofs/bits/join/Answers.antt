@@ -1,7 +1,7 @@
-use Rattle.std.proofs.Common.{◌≡◌, ◌-◌, ◌≤◌, length, get_or, sym, ap, arith, length-set, rules}
+use Rattle.std.proofs.Common.{◌≡◌, length, get_or, sym, ap, arith, length-set, rules}
 use lib.Bits.{bit_or}
 use Rattle.list.proofs.WordLaws.{adds_by, packed_bit}
-use Rattle.list.proofs.Entrywise.{Upto, upto_none, upto_more}
+use Rattle.list.proofs.Entrywise.{upto_none, upto_more}
 use Rattle.list.proofs.bits.join.Goals as goal
 
 pub loop-i-init : goal.loop-i-init

@@ -1,7 +1,7 @@
-use Rattle.std.proofs.Common.{◌≡◌, ◌+◌, ◌-◌, ◌*◌, ◌≤◌, length, get_or, sym, ap, arith, length-set, rules}
+use Rattle.std.proofs.Common.{◌+◌, ◌*◌, get_or, sym, ap, arith, length-set, rules}
 use lib.Bits.{bit_or}
 use Rattle.list.proofs.WordLaws.{adds_by, packed_row}
-use Rattle.list.proofs.Entrywise.{Upto, upto_none, upto_more}
+use Rattle.list.proofs.Entrywise.{upto_none, upto_more}
 use Rattle.list.proofs.bits.join_at.Goals as goal
 
 pub overflow_mul-base : goal.overflow_mul-base

@@ -1,8 +1,7 @@
 -- `bits::join_at` meets its contract. The invariant: the words up to i are joined, the others as they were. The measure is the words left.
-use Rattle.std.proofs.Common.{◌≡◌, ◌+◌, ◌-◌, ◌*◌, ◌≤◌, length, get_or, sym, ap, arith, length-set, rules}
+use Rattle.std.proofs.Common.{◌≡◌, ◌+◌, ◌-◌, ◌≤◌, length, get_or}
 use lib.Bits.{bit_or}
-use Rattle.list.proofs.WordLaws.{adds_by, packed_row}
-use Rattle.list.proofs.Entrywise.{Upto, upto_none, upto_more}
+use Rattle.list.proofs.Entrywise.{Upto}
 use Rattle.list.proofs.bits.join_at.Given as goal
 
 abbrev pub invariant-loop-i : goal.invariant-loop-i

@@ -1,4 +1,4 @@
-use Rattle.std.proofs.Common.{◌≡◌, ◌-◌, ◌*◌, ◌≤◌, length, get_or, subst, arith, length-set, rules}
+use Rattle.std.proofs.Common.{◌≡◌, ◌*◌, subst, arith, length-set, rules}
 use Rattle.list.proofs.WordLaws.{kept_by_lem}
 use Rattle.list.proofs.Entrywise.{Part, part_none, part_more}
 use Rattle.list.proofs.bits.keep.Goals as goal

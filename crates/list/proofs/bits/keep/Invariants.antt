@@ -1,8 +1,7 @@
 -- `bits::keep` meets its contract. The invariant: set k has the set's words up to i, the rows are else as they were.
 -- The measure is the words left.
-use Rattle.std.proofs.Common.{◌≡◌, ◌-◌, ◌*◌, ◌≤◌, length, get_or, subst, arith, length-set, rules}
-use Rattle.list.proofs.WordLaws.{kept_by_lem}
-use Rattle.list.proofs.Entrywise.{Part, part_none, part_more}
+use Rattle.std.proofs.Common.{◌≡◌, ◌-◌, ◌≤◌, length, get_or}
+use Rattle.list.proofs.Entrywise.{Part}
 use Rattle.list.proofs.bits.keep.Given as goal
 
 abbrev pub invariant-loop-i : goal.invariant-loop-i

@@ -1,4 +1,4 @@
-use Rattle.std.proofs.Common.{◌≡◌, ◌-◌, ◌≤◌, length, get_or, ap, subst, arith, length-set, rules}
+use Rattle.std.proofs.Common.{◌≡◌, get_or, ap, subst, arith, length-set}
 use lib.Bits.{bit_or, bit_and}
 use Rattle.list.proofs.Meets.{met_none, met_by}
 use Rattle.list.proofs.Entrywise.{Upto, upto_none, upto_more}

@@ -1,9 +1,8 @@
 -- `bits::meet` meets its contract. The invariant: what is common in the words up to i is joined, the others are as they were.
 -- The measure is the words left.
-use Rattle.std.proofs.Common.{◌≡◌, ◌-◌, ◌≤◌, length, get_or, ap, subst, arith, length-set, rules}
+use Rattle.std.proofs.Common.{◌≡◌, ◌-◌, ◌≤◌, length, get_or}
 use lib.Bits.{bit_or, bit_and}
-use Rattle.list.proofs.Meets.{met_none, met_by}
-use Rattle.list.proofs.Entrywise.{Upto, upto_none, upto_more}
+use Rattle.list.proofs.Entrywise.{Upto}
 use Rattle.list.proofs.bits.meet.Given as goal
 
 abbrev pub invariant-loop-i : goal.invariant-loop-i

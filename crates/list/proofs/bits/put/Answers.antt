@@ -1,5 +1,5 @@
 -- `bits::put` meets its contract
-use Rattle.std.proofs.Common.{◌-◌, ◌/◌, eqb, get_or, set, sym, subst, rules}
+use Rattle.std.proofs.Common.{◌-◌, ◌/◌, eqb, get_or, set, sym, subst}
 use lib.Bits.{bit_or}
 use Rattle.list.specs.Working.{Adds}
 use Rattle.list.proofs.WordLaws.{adds_one}

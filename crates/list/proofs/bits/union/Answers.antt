@@ -1,5 +1,5 @@
 use Rattle.std.proofs.Common.{◌+◌, ◌≤◌, arith}
-use Rattle.list.proofs.Meets.{Unites, unites_none, unites_room, unites_more, unites_skip, unites_all}
+use Rattle.list.proofs.Meets.{unites_none, unites_room, unites_more, unites_skip, unites_all}
 use Rattle.list.proofs.bits.union.Goals as goal
 use Rattle.list.proofs.bits.union.Lts as lts
 use Rattle.list.proofs.bits.union.Reads as reads

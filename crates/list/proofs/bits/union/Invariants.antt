@@ -1,7 +1,6 @@
 -- `bits::union` meets its contract. The invariant: the sites of the functions up to that of set k are united, and `left` is what the
 -- mask has above them. The measure is `left`.
-use Rattle.std.proofs.Common.{◌+◌, ◌≤◌, arith}
-use Rattle.list.proofs.Meets.{Unites, unites_none, unites_room, unites_more, unites_skip, unites_all}
+use Rattle.list.proofs.Meets.{Unites}
 use Rattle.list.proofs.bits.union.Given as goal
 
 abbrev pub invariant-loop-left : goal.invariant-loop-left

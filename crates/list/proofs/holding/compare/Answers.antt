@@ -1,8 +1,5 @@
 -- `holding::compare` meets its contract: 10 by the table's cells, then the list by one walk.
-use Rattle.std.proofs.Common.{◌≡◌, sym, ap, ◌∙◌, rules}
-use Rattle.table.specs.Check.{accepted}
-use Rattle.table.specs.Survey.{verdict_of}
-use Rattle.list.specs.Tags.{check_with}
+use Rattle.std.proofs.Common.{sym, ◌∙◌}
 use Rattle.list.proofs.TagVerdicts.{after_check, held_read}
 use Rattle.list.proofs.HoldingLaws.{tags_short, missing_found, missing_told, missing_refused}
 use Rattle.list.proofs.holding.compare.Goals as goal

@@ -1,6 +1,4 @@
-use Rattle.std.proofs.Common.{◌≡◌, ◌-◌, ◌*◌, ◌≤◌, length, arith, rules}
-use Rattle.table.specs.Find.{lowest}
-use Rattle.list.specs.Tags.{tagged, holds_at}
+use Rattle.std.proofs.Common.{arith}
 use Rattle.list.proofs.TagLoops.{lowest_none}
 use Rattle.list.proofs.HoldingLaws.{covered_more}
 use Rattle.list.proofs.holding.covered.Goals as goal

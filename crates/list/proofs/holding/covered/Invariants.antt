@@ -1,9 +1,7 @@
 -- `holding::covered` meets its contract. The invariant: the bytes up to i lack nothing. The measure is the bytes left.
-use Rattle.std.proofs.Common.{◌≡◌, ◌-◌, ◌*◌, ◌≤◌, length, arith, rules}
+use Rattle.std.proofs.Common.{◌≡◌, ◌-◌, ◌*◌, ◌≤◌, length}
 use Rattle.table.specs.Find.{lowest}
 use Rattle.list.specs.Tags.{tagged, holds_at}
-use Rattle.list.proofs.TagLoops.{lowest_none}
-use Rattle.list.proofs.HoldingLaws.{covered_more}
 use Rattle.list.proofs.holding.covered.Given as goal
 
 abbrev pub invariant-loop-i : goal.invariant-loop-i

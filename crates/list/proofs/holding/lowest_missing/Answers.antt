@@ -1,5 +1,4 @@
-use Rattle.std.proofs.Common.{◌≡◌, ◌-◌, ◌*◌, ◌≤◌, length, sym, refl, ap, ◌∙◌, arith, rules}
-use borrow.Author.Tests.{not-true, not-false}
+use Rattle.std.proofs.Common.{◌≡◌, ◌*◌, length, sym, refl, ap, ◌∙◌, arith}
 use Rattle.table.specs.Find.{lowest}
 use Rattle.table.proofs.Loops.{lowest_more, lowest_found}
 use Rattle.list.specs.Tags.{tagged, holds_at}

@@ -1,10 +1,7 @@
 -- `holding::lowest_missing` meets its contract. The invariant: of the set, what is up to n has its tag. The measure is the numbers left.
-use Rattle.std.proofs.Common.{◌≡◌, ◌-◌, ◌*◌, ◌≤◌, length, sym, refl, ap, ◌∙◌, arith, rules}
-use borrow.Author.Tests.{not-true, not-false}
+use Rattle.std.proofs.Common.{◌≡◌, ◌-◌, ◌*◌, ◌≤◌, length}
 use Rattle.table.specs.Find.{lowest}
-use Rattle.table.proofs.Loops.{lowest_more, lowest_found}
 use Rattle.list.specs.Tags.{tagged, holds_at}
-use Rattle.list.proofs.HoldingLaws.{holds_other, holds_tagged, holds_not}
 use Rattle.list.proofs.holding.lowest_missing.Given as goal
 
 abbrev pub invariant-loop-n : goal.invariant-loop-n

@@ -1,4 +1,4 @@
-use Rattle.std.proofs.Common.{◌≡◌, ◌-◌, ◌≤◌, ◌++◌, length, take, drop, refl, arith, length-set, rules}
+use Rattle.std.proofs.Common.{◌≡◌, length, refl, arith, length-set, rules}
 use Rattle.list.proofs.TagLoops.{copied_more, copied_all}
 use Rattle.list.proofs.tags.copy.Goals as goal
 

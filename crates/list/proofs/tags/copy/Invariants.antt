@@ -1,6 +1,5 @@
 -- `tags::copy` meets its contract. The invariant: the bytes up to i are the set's, the others as they were. The measure is the bytes left.
-use Rattle.std.proofs.Common.{◌≡◌, ◌-◌, ◌≤◌, ◌++◌, length, take, drop, refl, arith, length-set, rules}
-use Rattle.list.proofs.TagLoops.{copied_more, copied_all}
+use Rattle.std.proofs.Common.{◌≡◌, ◌-◌, ◌≤◌, ◌++◌, length, take, drop}
 use Rattle.list.proofs.tags.copy.Given as goal
 
 abbrev pub invariant-loop-i : goal.invariant-loop-i

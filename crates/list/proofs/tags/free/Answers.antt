@@ -1,5 +1,5 @@
 -- `tags::free` meets its contract: a byte of zeros.
-use Rattle.std.proofs.Common.{rules, eqb-true}
+use Rattle.std.proofs.Common.{eqb-true}
 use Rattle.table.proofs.Tests.{never}
 use Rattle.list.proofs.TagsFit.{free_byte}
 use Rattle.list.proofs.tags.free.Goals as goal

@@ -1,6 +1,5 @@
 -- `tags::held` meets its contract, one cause of refusal 10 after the other.
-use Rattle.std.proofs.Common.{sym, ◌∙◌, arith, rules}
-use borrow.Author.Tests.{not-true, not-false}
+use Rattle.std.proofs.Common.{sym, ◌∙◌, arith}
 use Rattle.list.proofs.TagVerdicts.{wrong_length, past_is, past_last, unfit, held_fit}
 use Rattle.list.proofs.tags.held.Goals as goal
 

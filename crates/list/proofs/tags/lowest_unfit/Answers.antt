@@ -1,6 +1,5 @@
-use Rattle.std.proofs.Common.{◌≡◌, ◌+◌, ◌-◌, ◌<◌, ◌≤◌, true, sym, ◌∙◌, arith, rules}
+use Rattle.std.proofs.Common.{◌≡◌, ◌+◌, ◌≤◌, true, sym, ◌∙◌, arith, rules}
 use Rattle.table.specs.Decoded.{cell_at, table_slot}
-use Rattle.table.specs.Find.{lowest}
 use Rattle.table.proofs.Loops.{lowest_more, lowest_found}
 use Rattle.list.specs.Tags.{tagged, cell_fits}
 use Rattle.list.proofs.TagLoops.{lowest_none}

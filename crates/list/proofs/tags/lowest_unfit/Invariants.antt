@@ -1,11 +1,8 @@
 -- `tags::lowest_unfit` meets its contract. The invariant: the tags up to k fit. The measure is the nodes left.
-use Rattle.std.proofs.Common.{◌≡◌, ◌+◌, ◌-◌, ◌<◌, ◌≤◌, true, sym, ◌∙◌, arith, rules}
+use Rattle.std.proofs.Common.{◌≡◌, ◌-◌, ◌<◌}
 use Rattle.table.specs.Decoded.{cell_at, table_slot}
 use Rattle.table.specs.Find.{lowest}
-use Rattle.table.proofs.Loops.{lowest_more, lowest_found}
-use Rattle.list.specs.Tags.{tagged, cell_fits}
-use Rattle.list.proofs.TagLoops.{lowest_none}
-use Rattle.list.proofs.TagsFit.{untagged, tag_other, tag_again, tag_call, fit_eight, fit_below}
+use Rattle.list.specs.Tags.{cell_fits}
 use Rattle.list.proofs.tags.lowest_unfit.Given as goal
 
 abbrev pub invariant-loop-k : goal.invariant-loop-k

@@ -1,4 +1,4 @@
-use Rattle.std.proofs.Common.{◌≡◌, ◌+◌, ◌-◌, ◌*◌, ◌≤◌, true, not, length, sym, ap, ◌∙◌, arith, rules}
+use Rattle.std.proofs.Common.{◌≡◌, ◌+◌, ◌-◌, ◌*◌, not, length, sym, ap, ◌∙◌, arith}
 use Rattle.table.specs.Find.{all}
 use Rattle.list.specs.Tags.{tagged}
 use Rattle.table.proofs.Loops.{all_more, all_fails}

@@ -1,9 +1,7 @@
 -- `tags::none_past` meets its contract. The invariant: none of the i bits after the last node's is set. The measure is the bits left.
-use Rattle.std.proofs.Common.{◌≡◌, ◌+◌, ◌-◌, ◌*◌, ◌≤◌, true, not, length, sym, ap, ◌∙◌, arith, rules}
+use Rattle.std.proofs.Common.{◌≡◌, ◌+◌, ◌-◌, ◌*◌, ◌≤◌, true, not, length}
 use Rattle.table.specs.Find.{all}
 use Rattle.list.specs.Tags.{tagged}
-use Rattle.table.proofs.Loops.{all_more, all_fails}
-use Rattle.list.proofs.TagLoops.{all_none, bit_is}
 use Rattle.list.proofs.tags.none_past.Given as goal
 
 abbrev pub invariant-loop-i : goal.invariant-loop-i
