@@ -11,7 +11,6 @@ use Rattle.table.proofs.SurveyLaws.{taken_by}
 use Rattle.list.specs.declared.Record.{Record}
 use Rattle.list.specs.Tags.{listed}
 use Rattle.list.specs.Records.{record_at, records_of}
-use Rattle.list.proofs.NodeLaws.{few}
 use Rattle.list.proofs.EachRecord.{each_record, record_small}
 use Rattle.pages.specs.Rows.{Row, title, entry, rows_of}
 use Rattle.pages.specs.Layout.{times_of, Laid, Told, LinesShow, SheetStands}

@@ -19,7 +19,7 @@ use Rattle.table.proofs.CallPlaces.{sub_call}
 use Rattle.rules.specs.Arithmetic.{Arithmetic, keep_all}
 use Rattle.rules.proofs.Invariant.{New, Sound, Step, inner, enter, leave, again}
 use Rattle.rules.proofs.Acting.{stepping_live}
-use Rattle.rules.specs.Step.{stuck, does, finishes, enters, done, all_done, branch, act}
+use Rattle.rules.specs.Step.{stuck, does, finishes, done, all_done, branch, act}
 use Rattle.rules.proofs.Performed.{Begins, Turns, Finishes, Resets, Owns, Does, Acted}
 use Rattle.rules.proofs.ActCases.{by_pick, by_state, live_open}
 use Rattle.rules.proofs.LaidFacts.{every_all, every_all*, under_all, root_node, opens_all, opens_all*, all_done_finished}

@@ -1,0 +1,39 @@
+-- `begin::start` meets its contract, by the number of arguments and what the tags lack.
+use Rattle.std.proofs.Common.{◌≡◌, refl, ap, ◌∙◌, subst, rules}
+use Rattle.table.specs.Bytes.{functions, params}
+use Rattle.rules.specs.State.{State512}
+use Rattle.rules.specs.Circuit.{started}
+use Rattle.circuit.specs.Meaning.{OpenedAs, state_as}
+use Rattle.circuit.proofs.BeginLaws.{start_count, start_short, start_goes}
+use Rattle.circuit.proofs.begin.start.Goals as goal
+use Rattle.circuit.proofs.begin.start.Lts as lts
+use Rattle.circuit.proofs.begin.start.Reads as reads
+use Rattle.circuit.proofs.begin.start.Tie as tie
+
+abbrev AfterParams : Type 0
+AfterParams = lts.After-params tie.the-claims reads.Pre reads.Post
+
+abbrev Start : Type 0
+Start = lts.Start tie.the-claims reads.Pre reads.Post
+
+count : (c : AfterParams) → let t = c.args.table.now in c.params-count.result ≡ params t (functions t)
+count c =
+    c.params-count.ensures ∙ ap (params c.args.table.now) c.functions-main.ensures
+
+abbrev state : Start → State512
+state s = state_as s.args.status.now s.args.second.now s.args.value.now s.args.registers.now s.args.occupant.now
+
+pub returns-then-args-count : goal.returns-then-args-count
+returns-then-args-count c = λ tags e m. subst (OpenedAs _ _ _) (start_count _ _ _ (record { fair = c.requires; tagging = e }) _ (count (search)) c.if-args-count.true)
+    (record { answer = refl; state = refl })
+
+pub returns-then-lacking-ne0 : goal.returns-then-lacking-ne0
+returns-then-lacking-ne0 c = λ tags e m. subst (OpenedAs _ _ _)
+    (start_short _ _ _ (record { fair = c.requires; tagging = e }) _ (count (search)) c.if-args-count.false _ m c.if-lacking-ne0.true)
+    (record { answer = refl; state = refl })
+
+pub returns : goal.returns
+returns c = let e = c.open_main.ensures in
+    λ tags q m.
+    let goes = start_goes _ _ _ (record { fair = c.requires; tagging = q }) _ (count (search)) c.if-args-count.false _ m c.if-lacking-ne0.false in
+    subst (OpenedAs (state (search)) _ _) goes (record { answer = ap started e; state = e })

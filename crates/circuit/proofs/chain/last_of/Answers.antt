@@ -1,0 +1,33 @@
+use Rattle.std.proofs.Common.{◌≡◌, ◌≤◌, sym, refl, ◌∙◌, arith, rules}
+use Rattle.table.specs.Bytes.{nodes, next}
+use Rattle.table.specs.Naming.{chain}
+use Rattle.table.proofs.Reading.{told}
+use Rattle.circuit.specs.Working.{last_from}
+use Rattle.circuit.proofs.ChainLaws.{rest, next_in, falls, last_more, last_ends}
+use Rattle.circuit.proofs.chain.last_of.Goals as goal
+use Rattle.circuit.proofs.chain.last_of.Lts as lts
+use Rattle.circuit.proofs.chain.last_of.Reads as reads
+use Rattle.circuit.proofs.chain.last_of.Tie as tie
+
+abbrev Next : Type 0
+Next = lts.After-next tie.the-claims reads.Pre reads.Post goal.the-invariant-loop-on goal.the-decreases-loop-on
+
+-- what was read is the next sibling
+read : (c : Next) → c.next-on.result.0 ≡ next c.args.table.now c.loop-on.on.0
+read c = told _ _ c.requires.0 _ (omega arith, c.loop-on.invariant.0) 5 _ (omega arith) c.next-on.ensures
+
+pub loop-on-init : goal.loop-on-init
+loop-on-init c = (c.requires.1, omega arith, refl)
+
+pub loop-on-smaller : goal.loop-on-smaller
+loop-on-smaller c = falls _ c.requires.0.taken _ c.loop-on-test.true c.loop-on.invariant.0 _ (read (search))
+
+pub loop-on-preserved : goal.loop-on-preserved
+loop-on-preserved c = (
+  next_in _ c.requires.0.taken _ c.loop-on-test.true c.loop-on.invariant.0 _ (read (search)),
+  c.loop-on.invariant.0,
+  c.loop-on.invariant.2 ∙ last_more _ c.requires.0.taken _ c.loop-on-test.true c.loop-on.invariant.0 _ (read (search)) _,
+)
+
+pub returns : goal.returns
+returns c = (sym (c.loop-on.invariant.2 ∙ last_ends _ c.requires.0.taken _ c.loop-on-test.false _), c.loop-on.invariant.1)

@@ -1,0 +1,15 @@
+-- `chain::last_of` meets its contract. The invariant: the last node is that of the rest, or `at` where there is none.
+-- The measure is the rest.
+use Rattle.std.proofs.Common.{◌≡◌, ◌≤◌, sym, refl, ◌∙◌, arith, rules}
+use Rattle.table.specs.Bytes.{nodes, next}
+use Rattle.table.specs.Naming.{chain}
+use Rattle.table.proofs.Reading.{told}
+use Rattle.circuit.specs.Working.{last_from}
+use Rattle.circuit.proofs.ChainLaws.{rest, next_in, falls, last_more, last_ends}
+use Rattle.circuit.proofs.chain.last_of.Given as goal
+
+abbrev pub invariant-loop-on : goal.invariant-loop-on
+invariant-loop-on l = (l.on.0 ≤ nodes l.table) × (l.at.0 ≤ nodes l.table) × (last_from 0 (chain l.table l.initial.on.0) ≡ last_from l.at.0 (chain l.table l.on.0))
+
+abbrev pub decreases-loop-on : goal.decreases-loop-on
+decreases-loop-on l = rest l.table l.on.0

@@ -1,0 +1,65 @@
+use Rattle.std.proofs.Common.{◌-◌, ◌≤◌, map, refl, ap, ◌∙◌, inl, inr, arith, rules}
+use Rattle.table.proofs.Reading.{told}
+use Rattle.table.specs.Naming.{chain}
+use Rattle.rules.specs.Arithmetic.{keep_all, arithmetic}
+use Rattle.rules.specs.State.{entry}
+use Rattle.circuit.proofs.ChainLaws.{ok}
+use Rattle.circuit.proofs.GiveLaws.{GivenTo, given_start, given_next, given_end}
+use Rattle.circuit.proofs.changes.give.Goals as goal
+use Rattle.circuit.proofs.changes.give.Lts as lts
+use Rattle.circuit.proofs.changes.give.Reads as reads
+use Rattle.circuit.proofs.changes.give.Tie as tie
+
+abbrev Start : Type 0
+Start = lts.Start tie.the-claims reads.Pre reads.Post goal.the-invariant-loop-i goal.the-decreases-loop-i
+
+few : (s : Start) → s.args.g.0 ≤ 32
+few s = omega (arith, s.requires.1.1, (ok _ s.requires.0.taken).f_high)
+
+pub blank-requires : goal.blank-requires
+blank-requires c = (c.requires.1.0, few (search))
+
+pub overflow_sub-base : goal.overflow_sub-base
+overflow_sub-base c = omega arith
+
+pub overflow_mul-base : goal.overflow_mul-base
+overflow_mul-base c = omega (arith, few (search))
+
+pub loop-i-init : goal.loop-i-init
+loop-i-init c = (omega arith, given_start _ _ c.requires.0.taken _ _ c.requires.2 _ _)
+
+-- where the chain ends, the rest is zero
+pub returns-then-at-eq0 : goal.returns-then-at-eq0
+returns-then-at-eq0 c = given_end _ _ c.requires.0.taken _ _ c.requires.2 _ _ _ _ _ _ c.blank.ensures c.loop-i.invariant.1 (inl c.if-at-eq0.true)
+
+pub value_at-requires : goal.value_at-requires
+value_at-requires c = omega (arith, c.loop-i.invariant.1.inside, (ok _ c.requires.0.taken).n_high)
+
+pub keep-requires : goal.keep-requires
+keep-requires c = (c.requires.0, c.requires.1)
+
+pub overflow_add-registers : goal.overflow_add-registers
+overflow_add-registers c = omega (arith, few (search))
+
+pub offset_bounds-registers-base : goal.offset_bounds-registers-base
+offset_bounds-registers-base c = omega (arith, few (search))
+
+pub bounds-registers-base : goal.bounds-registers-base
+bounds-registers-base c = omega (arith, few (search))
+
+pub overflow_add-i : goal.overflow_add-i
+overflow_add-i c = omega arith
+
+pub loop-i-smaller : goal.loop-i-smaller
+loop-i-smaller c = omega arith
+
+pub loop-i-preserved : goal.loop-i-preserved
+loop-i-preserved c = let p = c.requires in
+    let e = told _ _ p.0 _ (omega (arith, c.if-at-eq0.false), c.loop-i.invariant.1.inside) 5 _ (omega arith) c.next-at.ensures in (
+      omega arith,
+      given_next _ _ p.0.taken _ _ p.2 _ _ _ _ _ c.loop-i.invariant.1 c.loop-i-test.true p.1.0 _ _ _ refl c.if-at-eq0.false
+          (c.keep.ensures ∙ ap ((arithmetic c.args.table.now).keep c.args.g.0) c.value_at.ensures) e,
+    )
+
+pub returns : goal.returns
+returns c = given_end _ _ c.requires.0.taken _ _ c.requires.2 _ _ _ _ _ _ c.blank.ensures c.loop-i.invariant.1 (inr (omega arith))

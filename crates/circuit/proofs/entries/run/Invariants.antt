@@ -1,0 +1,18 @@
+-- `entries::run` meets its contract. The invariant: the run of all asked nodes is that of those from i on, i steps later, and
+-- the state passes 24.
+-- The measure is the nodes left.
+use Rattle.std.proofs.Common.{◌≡◌, ◌-◌, ◌<◌, ◌≤◌, length, drop, sym, refl, ap, ◌∙◌, ⊎_elim, arith, rules}
+use Rattle.rules.specs.State.{State512}
+use Rattle.rules.specs.Runs.{run_from}
+use Rattle.circuit.specs.Meaning.{reply_of, state_as}
+use Rattle.circuit.specs.Working.{Stands}
+use Rattle.circuit.proofs.EntryLaws.{plus, run_stops, run_takes, run_answers, run_stands, run_ends, run_begins}
+use Rattle.circuit.proofs.entries.run.Given as goal
+
+abbrev pub invariant-loop-i : goal.invariant-loop-i
+invariant-loop-i l = (l.i ≤ length l.nodes) × Stands l.table (state_as l.status l.second l.value l.registers l.occupant) ×
+    (run_from l.table l.tags (state_as l.initial.status l.initial.second l.initial.value l.initial.registers l.initial.occupant) l.nodes ≡ plus l.i
+    (run_from l.table l.tags (state_as l.status l.second l.value l.registers l.occupant) (drop l.i l.nodes))) × (length l.nodes < 18446744073709551616)
+
+abbrev pub decreases-loop-i : goal.decreases-loop-i
+decreases-loop-i l = length l.nodes - l.i

@@ -1,0 +1,11 @@
+-- `sets::lose` meets its contract. The invariant: the words up to i are written. The measure is the words left.
+use Rattle.std.proofs.Common.{◌-◌, not, ◌&&◌, get_or, arith, rules}
+use lib.Bits.{bit_xor, bit_and}
+use Rattle.circuit.proofs.PackedLaws.{Written, written_none, written_more, packs_two, without_bit}
+use Rattle.circuit.proofs.sets.lose.Given as goal
+
+abbrev pub invariant-loop-i : goal.invariant-loop-i
+invariant-loop-i l = Written (λ j. bit_xor (get_or l.set j 0) (bit_and (get_or l.set j 0) (get_or l.other j 0))) l.initial.r l.r l.i
+
+abbrev pub decreases-loop-i : goal.decreases-loop-i
+decreases-loop-i l = 8 - l.i

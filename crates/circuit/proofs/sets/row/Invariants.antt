@@ -1,0 +1,11 @@
+-- `sets::row` meets its contract. The invariant: the words up to i are written. The measure is the words left.
+use Rattle.std.proofs.Common.{◌+◌, ◌-◌, get_or, sym, arith, rules}
+use Rattle.list.proofs.WordLaws.{packed_row}
+use Rattle.circuit.proofs.PackedLaws.{Written, written_none, written_more, packs_by}
+use Rattle.circuit.proofs.sets.row.Given as goal
+
+abbrev pub invariant-loop-i : goal.invariant-loop-i
+invariant-loop-i l = Written (λ j. get_or l.rows (l.base + j) 0) l.initial.r l.r l.i
+
+abbrev pub decreases-loop-i : goal.decreases-loop-i
+decreases-loop-i l = 8 - l.i

@@ -1,0 +1,11 @@
+-- `store::set_second` meets its contract: a write at node 0 writes nothing.
+use Rattle.std.proofs.Common.{sym, arith, rules}
+use Rattle.circuit.proofs.StoreLaws.{write_none}
+use Rattle.rules.proofs.StateLaws.{write_at}
+use Rattle.circuit.proofs.store.set_second.Goals as goal
+
+pub returns-then-k-eq0 : goal.returns-then-k-eq0
+returns-then-k-eq0 c = write_none _ _ _ c.if-k-eq0.true
+
+pub returns : goal.returns
+returns c = sym (write_at _ _ _ (omega arith))

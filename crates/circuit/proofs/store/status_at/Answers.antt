@@ -1,0 +1,11 @@
+-- `store::status_at` meets its contract: node 0 is idle.
+use Rattle.std.proofs.Common.{sym, arith, rules}
+use Rattle.circuit.proofs.StoreLaws.{entry_none}
+use Rattle.rules.proofs.StateLaws.{entry_at}
+use Rattle.circuit.proofs.store.status_at.Goals as goal
+
+pub returns-then-k-eq0 : goal.returns-then-k-eq0
+returns-then-k-eq0 c = entry_none _ _ _ c.if-k-eq0.true
+
+pub returns : goal.returns
+returns c = sym (entry_at _ _ _ (omega arith))
