@@ -10,7 +10,6 @@ use Rattle.rules.specs.Runs.{MainDone, main_value}
 use Rattle.circuit.specs.Meaning.{lists_of, reply_of, opening_of}
 use Rattle.circuit.specs.Entries.{StepsOf, answers_of, taken_of, last_state, Takes, StartOfEntry, DemandOfEntries}
 use Rattle.circuit.specs.declared.types.Opening.{Opening}
-use Rattle.circuit.specs.declared.types.Opening.TheVariants as Opening
 use Rattle.circuit.specs.declared.types.State.{State}
 use Rattle.circuit.specs.declared.types.Stepped.{Stepped}
 use Rattle.rules.proofs.Starts.{starts_exactly}

@@ -15,7 +15,6 @@ use Rattle.rules.specs.Circuit.{act_of}
 use Rattle.rules.specs.Sets.{Sets, sets_of, Stays, holds, sort}
 use Rattle.rules.proofs.SetsExact.{placed_next, held_next}
 use Rattle.circuit.specs.declared.plan.Plan.{Plan}
-use Rattle.circuit.specs.declared.plan.Plan.TheVariants as Plan
 use Rattle.circuit.specs.Working.{opens, gathers_at, planned, Planned, performed}
 use Rattle.circuit.specs.Packed.{sets_as, Tracks, Places, Arms, Ends, Renews, Updates}
 use Rattle.circuit.specs.Following.{ends, Grows}

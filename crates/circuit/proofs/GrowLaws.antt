@@ -12,7 +12,6 @@ use Rattle.rules.specs.Sets.{Sets, sets_of, sort, goes}
 use Rattle.rules.proofs.StateLaws.{entry_other}
 use Rattle.rules.proofs.SetsBytes.{inside_bytes}
 use Rattle.circuit.specs.declared.plan.Plan.{Plan}
-use Rattle.circuit.specs.declared.plan.Plan.TheVariants as Plan
 use Rattle.circuit.specs.Working.{gathers_at, Planned, performed}
 use Rattle.circuit.specs.Packed.{Packs, sets_as, Tracks, Places}
 use Rattle.circuit.specs.Following.{ends, Grows}

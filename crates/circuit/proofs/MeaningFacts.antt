@@ -9,19 +9,14 @@ use Rattle.rules.specs.Runs.{whole, stopped, gave, at_rest, spent, barred, names
 use Rattle.rules.specs.Runs as Runs
 use Rattle.circuit.specs.declared.types.State.{State}
 use Rattle.circuit.specs.declared.types.Answer.{Answer}
-use Rattle.circuit.specs.declared.types.Answer.TheVariants as Answer
 use Rattle.circuit.specs.declared.types.Stepped.{Stepped}
 use Rattle.circuit.specs.declared.types.Opening.{Opening}
-use Rattle.circuit.specs.declared.types.Opening.TheVariants as Opening
 use Rattle.circuit.specs.declared.types.Started.{Started}
 use Rattle.circuit.specs.declared.types.Halt.{Halt}
-use Rattle.circuit.specs.declared.types.Halt.TheVariants as Halt
 use Rattle.circuit.specs.declared.types.Ran.{Ran}
 use Rattle.circuit.specs.declared.types.Ended.{Ended}
-use Rattle.circuit.specs.declared.types.Ended.TheVariants as Ended
 use Rattle.circuit.specs.declared.types.Driven.{Driven}
 use Rattle.circuit.specs.declared.types.Found.{Found}
-use Rattle.circuit.specs.declared.types.Found.TheVariants as Found
 use Rattle.circuit.specs.Meaning.{numbers, lists_of, reply_of, stepped_of, opening_of, StartedAs, halt_of, ran_of, ended_of, driven_of}
 use Rattle.circuit.specs.Meaning.{found_of, OpenedAs, stepped_as, RanLent, DrivenLent}
 

@@ -16,7 +16,6 @@ use Rattle.rules.specs.Circuit.{act_of}
 use Rattle.rules.specs.Sets.{Sets, Stays, sets_of, sort, ready, first_in, holds}
 use Rattle.rules.proofs.StateLaws.{entry_same, opened_other, opened_in, length_write}
 use Rattle.circuit.specs.declared.plan.Plan.{Plan}
-use Rattle.circuit.specs.declared.plan.Plan.TheVariants as Plan
 use Rattle.circuit.specs.Working.{opens, planned, Planned, performed}
 use Rattle.circuit.specs.Packed.{Tracks, Places, Arms, Renews}
 use Rattle.circuit.specs.Following.{ends, frees, Grows}

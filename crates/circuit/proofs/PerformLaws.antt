@@ -13,7 +13,6 @@ use Rattle.rules.specs.Circuit.{act_of}
 use Rattle.circuit.specs.Meaning.{state_as}
 use Rattle.table.specs.Working.{Taken}
 use Rattle.circuit.specs.declared.plan.Plan.{Plan}
-use Rattle.circuit.specs.declared.plan.Plan.TheVariants as Plan
 use Rattle.table.specs.declared.Function.{Function}
 use Rattle.table.specs.declared.Node.{Node}
 use Rattle.circuit.specs.Working.{leading, given, kept_by, opens, Planned, performed, Sound}

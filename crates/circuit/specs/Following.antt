@@ -8,7 +8,6 @@ use Rattle.rules.specs.First.{drive_from}
 use Rattle.rules.specs.Sets.{Sets, Stays, first_in}
 use Rattle.list.specs.Working.{Bit}
 use Rattle.circuit.specs.declared.plan.Plan.{Plan}
-use Rattle.circuit.specs.declared.plan.Plan.TheVariants as Plan
 use Rattle.circuit.specs.Meaning.{state_as}
 use Rattle.circuit.specs.Working.{Agreed, Stands, Planned, performed}
 use Rattle.circuit.specs.Packed.{Rowed, Tracks, Three, sets_as}

@@ -10,19 +10,14 @@ use Rattle.rules.specs.Runs.{standing, run_of}
 use Rattle.rules.specs.First.{drive_of}
 use Rattle.circuit.specs.declared.types.State.{State}
 use Rattle.circuit.specs.declared.types.Answer.{Answer}
-use Rattle.circuit.specs.declared.types.Answer.TheVariants as Answer
 use Rattle.circuit.specs.declared.types.Stepped.{Stepped as SteppedCode}
 use Rattle.circuit.specs.declared.types.Opening.{Opening}
-use Rattle.circuit.specs.declared.types.Opening.TheVariants as Opening
 use Rattle.circuit.specs.declared.types.Started.{Started as StartedCode}
 use Rattle.circuit.specs.declared.types.Halt.{Halt as HaltCode}
-use Rattle.circuit.specs.declared.types.Halt.TheVariants as HaltCode
 use Rattle.circuit.specs.declared.types.Ran.{Ran as RanCode}
 use Rattle.circuit.specs.declared.types.Ended.{Ended as EndedCode}
-use Rattle.circuit.specs.declared.types.Ended.TheVariants as EndedCode
 use Rattle.circuit.specs.declared.types.Driven.{Driven as DrivenCode}
 use Rattle.circuit.specs.declared.types.Found.{Found as FoundCode}
-use Rattle.circuit.specs.declared.types.Found.TheVariants as FoundCode
 
 -- node numbers
 abbrev pub numbers : List Node → List ℕ

@@ -19,7 +19,6 @@ use Rattle.circuit.specs.Meaning.{state_as, halt_of, ended_of}
 use Rattle.circuit.specs.declared.entries.RunEnd.{RunEnd}
 use Rattle.circuit.specs.declared.budget.DriveEnd.{DriveEnd}
 use Rattle.circuit.specs.declared.plan.Plan.{Plan}
-use Rattle.circuit.specs.declared.plan.Plan.TheVariants as Plan
 
 -- the lowest of the k numbers after n that function g owns, 0 if there is none
 unfoldable pub seek : (home : ℕ → ℕ) → (g k n : ℕ) → ℕ

@@ -1,5 +1,5 @@
 -- `drive` meets its contract: the state is taken apart, driven and put together.
-use Rattle.std.proofs.Common.{ℕ, rules}
+use Rattle.std.proofs.Common.{ℕ}
 use Rattle.rules.specs.State.{State512}
 use Rattle.circuit.specs.Meaning.{DrivenLent}
 use Rattle.circuit.proofs.EntryLaws.{by_value}

@@ -1,5 +1,5 @@
 -- `query` meets its contract: the state is taken apart and asked.
-use Rattle.std.proofs.Common.{◌≡◌, subst, rules}
+use Rattle.std.proofs.Common.{◌≡◌, subst}
 use Rattle.rules.specs.First.{query_of}
 use Rattle.circuit.specs.Meaning.{state_as, found_of}
 use Rattle.circuit.proofs.query.Goals as goal

@@ -1,5 +1,5 @@
 -- `run` meets its contract: the state is taken apart, run and put together.
-use Rattle.std.proofs.Common.{ℕ, rules}
+use Rattle.std.proofs.Common.{ℕ}
 use Rattle.rules.specs.State.{State512}
 use Rattle.circuit.specs.Meaning.{RanLent}
 use Rattle.circuit.proofs.EntryLaws.{by_value}

@@ -2,7 +2,6 @@
 use Rattle.rules.specs.Circuit.{start_of}
 use Rattle.circuit.specs.Meaning.{OpenedAs}
 use Rattle.circuit.proofs.EntryLaws.{by_value}
-use Rattle.std.proofs.Common.{rules}
 use Rattle.circuit.proofs.start.Goals as goal
 
 pub returns : goal.returns

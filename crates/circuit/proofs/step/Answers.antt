@@ -1,5 +1,5 @@
 -- `step` meets its contract: the state is taken apart, stepped and put together.
-use Rattle.std.proofs.Common.{◌≡◌, rules}
+use Rattle.std.proofs.Common.{◌≡◌}
 use Rattle.rules.specs.Circuit.{step_of}
 use Rattle.circuit.specs.Meaning.{stepped_as}
 use Rattle.circuit.proofs.EntryLaws.{by_value}

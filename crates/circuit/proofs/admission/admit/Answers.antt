@@ -1,8 +1,7 @@
 -- `admission::admit` meets its contract: the table, its tags, then 24.
-use Rattle.std.proofs.Common.{sym, ap, ◌∙◌, rules}
+use Rattle.std.proofs.Common.{sym, ap, ◌∙◌}
 use Rattle.table.specs.Survey.{verdict_of}
 use Rattle.circuit.specs.Meaning.{state_as}
-use Rattle.circuit.specs.Working.{Agreed}
 use Rattle.circuit.proofs.EntryLaws.{agreed_from, stands_from, stray_standing, stand_standing, refused_standing}
 use Rattle.circuit.proofs.admission.admit.Goals as goal
 

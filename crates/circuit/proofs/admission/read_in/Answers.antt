@@ -1,5 +1,5 @@
 -- `admission::read_in` meets its contract: the table first, then the tags by its cells.
-use Rattle.std.proofs.Common.{◌≡◌, ℕ, sym, ap, ◌∙◌, arith, rules}
+use Rattle.std.proofs.Common.{◌≡◌, ℕ, sym, ap, ◌∙◌, arith}
 use Rattle.table.specs.Survey.{verdict_of}
 use Rattle.table.proofs.SurveyLaws.{survey_taken}
 use Rattle.list.proofs.TagVerdicts.{at_check, after_check, held_read}

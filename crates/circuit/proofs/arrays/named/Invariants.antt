@@ -1,9 +1,6 @@
 -- `arrays::named` meets its contract: entry by entry, each number becomes the node it names.
-use Rattle.std.proofs.Common.{◌≡◌, ◌-◌, ◌≤◌, ◌++◌, map, length, take, drop, replicate, sym, refl, ap, ◌∙◌, arith, length-set, rules}
-use lib.ListN.{length-replicate, length-map, get_or-map}
-use Rattle.table.proofs.Copied.{copied_more, copied_all}
-use Rattle.circuit.specs.Meaning.{numbers}
-use Rattle.circuit.proofs.EntryLaws.{as_node, numbered}
+use Rattle.std.proofs.Common.{◌≡◌, ◌-◌, ◌≤◌, ◌++◌, map, length, take, drop}
+use Rattle.circuit.proofs.EntryLaws.{as_node}
 use Rattle.circuit.proofs.arrays.named.Given as goal
 
 abbrev pub invariant-loop-i : goal.invariant-loop-i

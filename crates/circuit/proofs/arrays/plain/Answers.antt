@@ -1,4 +1,4 @@
-use Rattle.std.proofs.Common.{◌≡◌, ℕ, ◌-◌, ◌≤◌, ◌++◌, length, take, drop, replicate, sym, refl, ◌∙◌, arith, length-set, rules}
+use Rattle.std.proofs.Common.{◌≡◌, ℕ, length, replicate, sym, refl, ◌∙◌, arith, length-set, rules}
 use lib.ListN.{length-replicate, length-map, get_or-map}
 use Rattle.table.proofs.Copied.{copied_more, copied_all}
 use Rattle.circuit.specs.Meaning.{numbers}

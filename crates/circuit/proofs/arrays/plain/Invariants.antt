@@ -1,7 +1,5 @@
 -- `arrays::plain` meets its contract: entry by entry, each node becomes its number.
-use Rattle.std.proofs.Common.{◌≡◌, ℕ, ◌-◌, ◌≤◌, ◌++◌, length, take, drop, replicate, sym, refl, ◌∙◌, arith, length-set, rules}
-use lib.ListN.{length-replicate, length-map, get_or-map}
-use Rattle.table.proofs.Copied.{copied_more, copied_all}
+use Rattle.std.proofs.Common.{◌≡◌, ◌-◌, ◌≤◌, ◌++◌, length, take, drop}
 use Rattle.circuit.specs.Meaning.{numbers}
 use Rattle.circuit.proofs.arrays.plain.Given as goal
 

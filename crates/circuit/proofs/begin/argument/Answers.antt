@@ -1,5 +1,5 @@
 -- `begin::argument` meets its contract: past the last argument there is zero.
-use Rattle.std.proofs.Common.{sym, rules}
+use Rattle.std.proofs.Common.{sym}
 use lib.ListN.{get_or-eq_default}
 use Rattle.circuit.proofs.begin.argument.Goals as goal
 

@@ -1,10 +1,9 @@
-use Rattle.std.proofs.Common.{◌≡◌, ◌-◌, ◌≤◌, sym, refl, ◌∙◌, ap₂, arith, rules}
-use Rattle.table.specs.Bytes as Bytes
+use Rattle.std.proofs.Common.{◌≤◌, sym, refl, ◌∙◌, ap₂, arith}
 use Rattle.table.proofs.Widths.{width_range}
-use Rattle.rules.specs.Arithmetic.{keep_all, arithmetic, narrow}
+use Rattle.rules.specs.Arithmetic.{narrow}
 use Rattle.circuit.proofs.ChainLaws.{ok}
 use Rattle.circuit.proofs.BeginLaws.{kept_at}
-use Rattle.circuit.proofs.GiveLaws.{FilledTo, filled_start, filled_next, filled_end}
+use Rattle.circuit.proofs.GiveLaws.{filled_start, filled_next, filled_end}
 use Rattle.circuit.proofs.begin.fill_main.Goals as goal
 use Rattle.circuit.proofs.begin.fill_main.Lts as lts
 use Rattle.circuit.proofs.begin.fill_main.Reads as reads

@@ -1,11 +1,8 @@
 -- `begin::fill_main` meets its contract: main's eight registers are written one after the other.
-use Rattle.std.proofs.Common.{◌≡◌, ◌-◌, ◌≤◌, sym, refl, ◌∙◌, ap₂, arith, rules}
+use Rattle.std.proofs.Common.{◌≡◌, ◌-◌, ◌≤◌}
 use Rattle.table.specs.Bytes as Bytes
-use Rattle.table.proofs.Widths.{width_range}
-use Rattle.rules.specs.Arithmetic.{keep_all, arithmetic, narrow}
-use Rattle.circuit.proofs.ChainLaws.{ok}
-use Rattle.circuit.proofs.BeginLaws.{kept_at}
-use Rattle.circuit.proofs.GiveLaws.{FilledTo, filled_start, filled_next, filled_end}
+use Rattle.rules.specs.Arithmetic.{keep_all, arithmetic}
+use Rattle.circuit.proofs.GiveLaws.{FilledTo}
 use Rattle.circuit.proofs.begin.fill_main.Given as goal
 
 abbrev pub invariant-loop-i : goal.invariant-loop-i

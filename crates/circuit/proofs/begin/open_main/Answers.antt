@@ -1,5 +1,5 @@
 -- `begin::open_main` meets its contract.
-use Rattle.std.proofs.Common.{◌≡◌, replicate, sym, ap, ◌∙◌, subst, arith, rules}
+use Rattle.std.proofs.Common.{◌≡◌, replicate, sym, ap, ◌∙◌, subst, arith}
 use Rattle.table.specs.Bytes.{functions, root}
 use Rattle.table.specs.Working.{IsFunction}
 use Rattle.rules.specs.Arithmetic.{keep_all, arithmetic}

@@ -1,5 +1,5 @@
 -- `begin::start` meets its contract, by the number of arguments and what the tags lack.
-use Rattle.std.proofs.Common.{◌≡◌, refl, ap, ◌∙◌, subst, rules}
+use Rattle.std.proofs.Common.{◌≡◌, refl, ap, ◌∙◌, subst}
 use Rattle.table.specs.Bytes.{functions, params}
 use Rattle.rules.specs.State.{State512}
 use Rattle.rules.specs.Circuit.{started}

@@ -1,5 +1,5 @@
 -- `budget::drive` meets its contract: the sets are filled, the steps are taken, and the sets tell how it ends.
-use Rattle.std.proofs.Common.{refl, true≢false, rules}
+use Rattle.std.proofs.Common.{refl, true≢false}
 use Rattle.circuit.proofs.LoopLaws.{driven_so}
 use Rattle.circuit.proofs.budget.drive.Goals as goal
 

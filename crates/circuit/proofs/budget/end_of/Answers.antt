@@ -1,5 +1,5 @@
 -- `budget::end_of` meets its contract
-use Rattle.std.proofs.Common.{sym, refl, ap, ◌∙◌, rules, eq-eqb, ne_eqb}
+use Rattle.std.proofs.Common.{sym, refl, ap, ◌∙◌, eq-eqb, ne_eqb}
 use Rattle.rules.specs.Runs.{gave}
 use Rattle.circuit.proofs.budget.end_of.Goals as goal
 

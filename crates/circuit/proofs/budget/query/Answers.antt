@@ -1,10 +1,9 @@
-use Rattle.std.proofs.Common.{◌≡◌, ◌-◌, ◌≤◌, arith, rules}
-use Rattle.table.specs.Bytes.{nodes}
+use Rattle.std.proofs.Common.{arith}
 use Rattle.table.proofs.Reading.{told_last}
 use Rattle.rules.specs.State.{State512}
 use Rattle.circuit.specs.Meaning.{state_as}
 use Rattle.circuit.proofs.ChainLaws.{ok}
-use Rattle.circuit.proofs.QueryLaws.{NoneTo, none_yet, none_more, none_all, one_more_lem, query_done, query_none, query_found}
+use Rattle.circuit.proofs.QueryLaws.{none_yet, none_more, none_all, one_more_lem, query_done, query_none, query_found}
 use Rattle.circuit.proofs.budget.query.Goals as goal
 use Rattle.circuit.proofs.budget.query.Lts as lts
 use Rattle.circuit.proofs.budget.query.Reads as reads

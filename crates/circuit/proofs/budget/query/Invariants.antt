@@ -1,11 +1,8 @@
 -- `budget::query` meets its contract. The invariant: no node up to n has a step. The measure is the nodes left.
-use Rattle.std.proofs.Common.{◌≡◌, ◌-◌, ◌≤◌, arith, rules}
+use Rattle.std.proofs.Common.{◌≡◌, ◌-◌, ◌≤◌}
 use Rattle.table.specs.Bytes.{nodes}
-use Rattle.table.proofs.Reading.{told_last}
-use Rattle.rules.specs.State.{State512}
 use Rattle.circuit.specs.Meaning.{state_as}
-use Rattle.circuit.proofs.ChainLaws.{ok}
-use Rattle.circuit.proofs.QueryLaws.{NoneTo, none_yet, none_more, none_all, one_more_lem, query_done, query_none, query_found}
+use Rattle.circuit.proofs.QueryLaws.{NoneTo}
 use Rattle.circuit.proofs.budget.query.Given as goal
 
 abbrev pub invariant-loop-n : goal.invariant-loop-n

@@ -1,10 +1,8 @@
-use Rattle.std.proofs.Common.{◌≡◌, ◌≤◌, sym, refl, ◌∙◌, arith, rules}
-use Rattle.table.specs.Bytes.{nodes, next}
-use Rattle.table.specs.Naming.{chain}
+use Rattle.std.proofs.Common.{◌≡◌, sym, refl, ◌∙◌, arith}
+use Rattle.table.specs.Bytes.{next}
 use Rattle.table.proofs.Reading.{told}
 use Rattle.rules.specs.State.{entry}
-use Rattle.circuit.specs.Working.{each_done, leading}
-use Rattle.circuit.proofs.ChainLaws.{rest, ok, next_in, falls, done_last, done_more, done_stops, done_ends}
+use Rattle.circuit.proofs.ChainLaws.{ok, next_in, falls, done_last, done_more, done_stops, done_ends}
 use Rattle.circuit.proofs.chain.all_done.Goals as goal
 use Rattle.circuit.proofs.chain.all_done.Lts as lts
 use Rattle.circuit.proofs.chain.all_done.Reads as reads

@@ -1,12 +1,11 @@
 -- `chain::all_done` meets its contract. The invariant: what is asked of the chain is asked of its rest from `at` on.
 -- The measure is that rest.
-use Rattle.std.proofs.Common.{◌≡◌, ◌≤◌, sym, refl, ◌∙◌, arith, rules}
-use Rattle.table.specs.Bytes.{nodes, next}
+use Rattle.std.proofs.Common.{◌≡◌, ◌≤◌}
+use Rattle.table.specs.Bytes.{nodes}
 use Rattle.table.specs.Naming.{chain}
-use Rattle.table.proofs.Reading.{told}
 use Rattle.rules.specs.State.{entry}
 use Rattle.circuit.specs.Working.{each_done, leading}
-use Rattle.circuit.proofs.ChainLaws.{rest, ok, next_in, falls, done_last, done_more, done_stops, done_ends}
+use Rattle.circuit.proofs.ChainLaws.{rest}
 use Rattle.circuit.proofs.chain.all_done.Given as goal
 
 abbrev pub invariant-loop-at : goal.invariant-loop-at

@@ -1,5 +1,5 @@
 -- `chain::branch` meets its contract: else where the condition is 0.
-use Rattle.std.proofs.Common.{◌≡◌, sym, subst, arith, rules}
+use Rattle.std.proofs.Common.{◌≡◌, sym, subst, arith}
 use Rattle.table.specs.Bytes.{next}
 use Rattle.table.specs.Working.{IsNode}
 use Rattle.table.proofs.Reading.{told}

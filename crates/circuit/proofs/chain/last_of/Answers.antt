@@ -1,9 +1,7 @@
-use Rattle.std.proofs.Common.{◌≡◌, ◌≤◌, sym, refl, ◌∙◌, arith, rules}
-use Rattle.table.specs.Bytes.{nodes, next}
-use Rattle.table.specs.Naming.{chain}
+use Rattle.std.proofs.Common.{◌≡◌, sym, refl, ◌∙◌, arith}
+use Rattle.table.specs.Bytes.{next}
 use Rattle.table.proofs.Reading.{told}
-use Rattle.circuit.specs.Working.{last_from}
-use Rattle.circuit.proofs.ChainLaws.{rest, next_in, falls, last_more, last_ends}
+use Rattle.circuit.proofs.ChainLaws.{next_in, falls, last_more, last_ends}
 use Rattle.circuit.proofs.chain.last_of.Goals as goal
 use Rattle.circuit.proofs.chain.last_of.Lts as lts
 use Rattle.circuit.proofs.chain.last_of.Reads as reads

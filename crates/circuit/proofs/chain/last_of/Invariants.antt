@@ -1,11 +1,10 @@
 -- `chain::last_of` meets its contract. The invariant: the last node is that of the rest, or `at` where there is none.
 -- The measure is the rest.
-use Rattle.std.proofs.Common.{◌≡◌, ◌≤◌, sym, refl, ◌∙◌, arith, rules}
-use Rattle.table.specs.Bytes.{nodes, next}
+use Rattle.std.proofs.Common.{◌≡◌, ◌≤◌}
+use Rattle.table.specs.Bytes.{nodes}
 use Rattle.table.specs.Naming.{chain}
-use Rattle.table.proofs.Reading.{told}
 use Rattle.circuit.specs.Working.{last_from}
-use Rattle.circuit.proofs.ChainLaws.{rest, next_in, falls, last_more, last_ends}
+use Rattle.circuit.proofs.ChainLaws.{rest}
 use Rattle.circuit.proofs.chain.last_of.Given as goal
 
 abbrev pub invariant-loop-on : goal.invariant-loop-on

@@ -1,10 +1,10 @@
-use Rattle.std.proofs.Common.{◌≡◌, ◌≤◌, sym, refl, ap, ◌∙◌, arith, rules}
-use Rattle.table.specs.Bytes.{nodes, next}
+use Rattle.std.proofs.Common.{◌≡◌, sym, refl, ap, ◌∙◌, arith}
+use Rattle.table.specs.Bytes.{next}
 use Rattle.table.specs.Naming.{chain}
 use Rattle.table.proofs.Reading.{told}
 use Rattle.rules.specs.State.{opened}
 use Rattle.circuit.specs.Working.{leading}
-use Rattle.circuit.proofs.ChainLaws.{rest, ok, next_in, falls, open_last, open_more, open_ends}
+use Rattle.circuit.proofs.ChainLaws.{ok, next_in, falls, open_last, open_more, open_ends}
 use Rattle.circuit.proofs.chain.open_all.Goals as goal
 use Rattle.circuit.proofs.chain.open_all.Lts as lts
 use Rattle.circuit.proofs.chain.open_all.Reads as reads

@@ -1,12 +1,11 @@
 -- `chain::open_all` meets its contract. The invariant: opening the rest from `at` on makes what opening the chain does.
 -- The measure is that rest.
-use Rattle.std.proofs.Common.{◌≡◌, ◌≤◌, sym, refl, ap, ◌∙◌, arith, rules}
-use Rattle.table.specs.Bytes.{nodes, next}
+use Rattle.std.proofs.Common.{◌≡◌, ◌≤◌}
+use Rattle.table.specs.Bytes.{nodes}
 use Rattle.table.specs.Naming.{chain}
-use Rattle.table.proofs.Reading.{told}
 use Rattle.rules.specs.State.{opened}
 use Rattle.circuit.specs.Working.{leading}
-use Rattle.circuit.proofs.ChainLaws.{rest, ok, next_in, falls, open_last, open_more, open_ends}
+use Rattle.circuit.proofs.ChainLaws.{rest}
 use Rattle.circuit.proofs.chain.open_all.Given as goal
 
 abbrev pub invariant-loop-at : goal.invariant-loop-at

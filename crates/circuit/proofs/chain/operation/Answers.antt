@@ -1,5 +1,5 @@
 -- `chain::operation` meets its contract: beside looks at the last value, any other operation at the first two.
-use Rattle.std.proofs.Common.{◌≡◌, arith, rules}
+use Rattle.std.proofs.Common.{◌≡◌, arith}
 use Rattle.table.specs.Bytes.{next}
 use Rattle.table.proofs.Reading.{told}
 use Rattle.circuit.proofs.ChainLaws.{ok, next_in}

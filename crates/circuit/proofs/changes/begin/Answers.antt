@@ -1,5 +1,5 @@
 -- `changes::begin` meets its contract, by kind.
-use Rattle.std.proofs.Common.{◌≡◌, arith, rules}
+use Rattle.std.proofs.Common.{◌≡◌, arith}
 use Rattle.table.specs.Bytes.{kind, first}
 use Rattle.table.proofs.Reading.{told}
 use Rattle.circuit.proofs.ChainLaws.{ok, first_in_lem}

@@ -1,5 +1,5 @@
-use Rattle.std.proofs.Common.{◌-◌, ◌≤◌, [], refl, arith, rules}
-use Rattle.circuit.proofs.GiveLaws.{FilledTo, filled_start, filled_next, filled_end}
+use Rattle.std.proofs.Common.{refl, arith}
+use Rattle.circuit.proofs.GiveLaws.{filled_start, filled_next, filled_end}
 use Rattle.circuit.proofs.changes.blank.Goals as goal
 
 pub overflow_sub-base : goal.overflow_sub-base

@@ -1,6 +1,6 @@
 -- `changes::blank` meets its contract. The invariant: the first i registers are zero (`FilledTo` no values). The measure is the rest.
-use Rattle.std.proofs.Common.{◌-◌, ◌≤◌, [], refl, arith, rules}
-use Rattle.circuit.proofs.GiveLaws.{FilledTo, filled_start, filled_next, filled_end}
+use Rattle.std.proofs.Common.{◌-◌, ◌≤◌, []}
+use Rattle.circuit.proofs.GiveLaws.{FilledTo}
 use Rattle.circuit.proofs.changes.blank.Given as goal
 
 abbrev pub invariant-loop-i : goal.invariant-loop-i

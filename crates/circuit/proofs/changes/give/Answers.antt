@@ -1,10 +1,8 @@
-use Rattle.std.proofs.Common.{◌-◌, ◌≤◌, map, refl, ap, ◌∙◌, inl, inr, arith, rules}
+use Rattle.std.proofs.Common.{◌≤◌, refl, ap, ◌∙◌, inl, inr, arith}
 use Rattle.table.proofs.Reading.{told}
-use Rattle.table.specs.Naming.{chain}
-use Rattle.rules.specs.Arithmetic.{keep_all, arithmetic}
-use Rattle.rules.specs.State.{entry}
+use Rattle.rules.specs.Arithmetic.{arithmetic}
 use Rattle.circuit.proofs.ChainLaws.{ok}
-use Rattle.circuit.proofs.GiveLaws.{GivenTo, given_start, given_next, given_end}
+use Rattle.circuit.proofs.GiveLaws.{given_start, given_next, given_end}
 use Rattle.circuit.proofs.changes.give.Goals as goal
 use Rattle.circuit.proofs.changes.give.Lts as lts
 use Rattle.circuit.proofs.changes.give.Reads as reads

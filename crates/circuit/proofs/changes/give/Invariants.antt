@@ -1,12 +1,10 @@
 -- `changes::give` meets its contract. The invariant: the first i registers are filled, and the arguments from `at` on are left (`GivenTo`).
 -- The measure is the registers left.
-use Rattle.std.proofs.Common.{◌-◌, ◌≤◌, map, refl, ap, ◌∙◌, inl, inr, arith, rules}
-use Rattle.table.proofs.Reading.{told}
+use Rattle.std.proofs.Common.{◌-◌, ◌≤◌, map}
 use Rattle.table.specs.Naming.{chain}
 use Rattle.rules.specs.Arithmetic.{keep_all, arithmetic}
 use Rattle.rules.specs.State.{entry}
-use Rattle.circuit.proofs.ChainLaws.{ok}
-use Rattle.circuit.proofs.GiveLaws.{GivenTo, given_start, given_next, given_end}
+use Rattle.circuit.proofs.GiveLaws.{GivenTo}
 use Rattle.circuit.proofs.changes.give.Given as goal
 
 abbrev pub invariant-loop-i : goal.invariant-loop-i

@@ -1,5 +1,5 @@
 -- `changes::perform` meets its contract: each arm does what its plan says.
-use Rattle.std.proofs.Common.{◌≡◌, ◌≤◌, sym, ap, ◌∙◌, subst, arith, rules}
+use Rattle.std.proofs.Common.{◌≡◌, ◌≤◌, sym, ap, ◌∙◌, subst, arith}
 use Rattle.table.specs.Bytes.{first}
 use Rattle.table.specs.Working.{IsFunction}
 use Rattle.table.proofs.Reading.{told}

@@ -1,5 +1,5 @@
 -- `changes::reset` meets its contract.
-use Rattle.std.proofs.Common.{◌≡◌, ◌∙◌, arith, rules}
+use Rattle.std.proofs.Common.{◌≡◌, ◌∙◌, arith}
 use Rattle.table.specs.Bytes.{root}
 use Rattle.table.proofs.Reading.{told_root}
 use Rattle.rules.specs.State.{write}

@@ -1,10 +1,9 @@
-use Rattle.std.proofs.Common.{◌≡◌, ◌-◌, ◌<◌, ◌≤◌, length, drop, sym, refl, ap, ◌∙◌, ⊎_elim, arith, rules}
+use Rattle.std.proofs.Common.{sym, refl, ap, ◌∙◌, arith}
 use Rattle.rules.specs.State.{State512}
-use Rattle.rules.specs.Runs.{run_from}
 use Rattle.circuit.specs.Meaning.{reply_of, state_as}
-use Rattle.circuit.specs.Working.{Stands}
-use Rattle.circuit.proofs.EntryLaws.{plus, run_stops, run_takes, run_answers, run_stands, run_ends, run_begins}
+use Rattle.circuit.proofs.EntryLaws.{run_stops, run_takes, run_answers, run_stands, run_ends, run_begins}
 use Rattle.circuit.proofs.entries.run.Goals as goal
+use Rattle.circuit.proofs.entries.run.Goals.{in-Taken, in-Answered}
 use Rattle.circuit.proofs.entries.run.Lts as lts
 use Rattle.circuit.proofs.entries.run.Reads as reads
 use Rattle.circuit.proofs.entries.run.Tie as tie
@@ -31,7 +30,7 @@ turn-answer-requires c = (c.requires.0, λ e. c.group-g.ensures, c.loop-i.invari
 pub returns-in-Refused : goal.returns-in-Refused
 returns-in-Refused c = let p = c.requires in
     run_stops _ _ p.1 (state (search)) _ _ c.loop-i-test.true (reply_of c.turn-answer.result) _ c.turn-answer.ensures _ _
-    (ap reply_of c.answer-1.given.1) _ refl ∙ sym c.loop-i.invariant.2
+    (ap reply_of c.in-Refused.is) _ refl ∙ sym c.loop-i.invariant.2
 
 pub overflow_add-i : goal.overflow_add-i
 overflow_add-i c = omega (arith, c.loop-i-test.true, c.loop-i.invariant.3)
@@ -46,8 +45,10 @@ loop-i-preserved c = let p = c.requires in
     let e = c.turn-answer.ensures in (
       omega (arith, some),
       run_stands _ _ p.1 (state (search)) c.args.nodes.now _ some r _ e c.loop-i.invariant.1,
-      c.loop-i.invariant.2 ∙ ⊎_elim (λ w. run_takes _ _ p.1 (state (search)) _ _ some r _ e (ap reply_of w.1.given.1))
-          (λ w. run_answers _ _ p.1 (state (search)) _ _ some r _ e (ap reply_of w.1.given.1)) c.match-answer.branch,
+      elim c.match-answer.branch [
+        | in-Taken w ↦ c.loop-i.invariant.2 ∙ run_takes _ _ p.1 (state (search)) _ _ some r _ e (ap reply_of w.in-Taken.is)
+        | in-Answered w ↦ c.loop-i.invariant.2 ∙ run_answers _ _ p.1 (state (search)) _ _ some r _ e (ap reply_of w.in-Answered.is)
+      ],
       c.loop-i.invariant.3,
     )
 

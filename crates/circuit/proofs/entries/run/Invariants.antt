@@ -1,12 +1,11 @@
 -- `entries::run` meets its contract. The invariant: the run of all asked nodes is that of those from i on, i steps later, and
 -- the state passes 24.
 -- The measure is the nodes left.
-use Rattle.std.proofs.Common.{◌≡◌, ◌-◌, ◌<◌, ◌≤◌, length, drop, sym, refl, ap, ◌∙◌, ⊎_elim, arith, rules}
-use Rattle.rules.specs.State.{State512}
+use Rattle.std.proofs.Common.{◌≡◌, ◌-◌, ◌<◌, ◌≤◌, length, drop}
 use Rattle.rules.specs.Runs.{run_from}
-use Rattle.circuit.specs.Meaning.{reply_of, state_as}
+use Rattle.circuit.specs.Meaning.{state_as}
 use Rattle.circuit.specs.Working.{Stands}
-use Rattle.circuit.proofs.EntryLaws.{plus, run_stops, run_takes, run_answers, run_stands, run_ends, run_begins}
+use Rattle.circuit.proofs.EntryLaws.{plus}
 use Rattle.circuit.proofs.entries.run.Given as goal
 
 abbrev pub invariant-loop-i : goal.invariant-loop-i

@@ -1,5 +1,5 @@
 -- `entries::step` meets its contract: 12, 24, then the rest.
-use Rattle.std.proofs.Common.{◌≡◌, ℕ, arith, rules}
+use Rattle.std.proofs.Common.{◌≡◌, ℕ, arith}
 use Rattle.table.specs.Bytes.{nodes}
 use Rattle.table.proofs.Reading.{told_last}
 use Rattle.rules.specs.State.{State512}

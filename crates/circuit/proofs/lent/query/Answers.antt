@@ -1,5 +1,5 @@
 -- `lent::query` meets its contract: what is checked first, then the nodes from the first on.
-use Rattle.std.proofs.Common.{sym, ap, ◌∙◌, rules}
+use Rattle.std.proofs.Common.{sym, ap, ◌∙◌}
 use Rattle.table.specs.Survey.{verdict_of}
 use Rattle.rules.specs.State.{State512}
 use Rattle.circuit.specs.Meaning.{state_as, found_of}
@@ -18,13 +18,13 @@ state s = state_as s.args.status.now s.args.second.now s.args.value.now s.args.r
 
 pub query-requires : goal.query-requires
 query-requires c = let f = c.admit-checked.ensures in
-    let v = ap verdict_of c.enum_told-1.given.1 in
+    let v = ap verdict_of c.in-Accepted.is in
     let a = admitted_from _ _ (state (search)) _ _ (sym (f.told _ _ _) ∙ v) in
     (f.read _ _ v, a.0, a.1)
 
 pub returns-in-Refused : goal.returns-in-Refused
-returns-in-Refused c = query_turned _ _ (state (search)) _ _ (sym (c.admit-checked.ensures.told _ _ _) ∙ ap verdict_of c.checked-1.given.1)
+returns-in-Refused c = query_turned _ _ (state (search)) _ _ (sym (c.admit-checked.ensures.told _ _ _) ∙ ap verdict_of c.in-Refused.is)
 
 pub returns-in-Accepted : goal.returns-in-Accepted
-returns-in-Accepted c = let a = admitted_from _ _ (state (search)) _ _ (sym (c.admit-checked.ensures.told _ _ _) ∙ ap verdict_of c.enum_told-1.given.1) in
+returns-in-Accepted c = let a = admitted_from _ _ (state (search)) _ _ (sym (c.admit-checked.ensures.told _ _ _) ∙ ap verdict_of c.in-Accepted.is) in
     query_goes _ _ (state (search)) _ _ (stand_standing _ _ a.0 (state (search)) a.1) (found_of c.query.result) c.query.ensures

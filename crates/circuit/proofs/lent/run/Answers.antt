@@ -1,5 +1,5 @@
 -- `lent::run` meets its contract: what is checked before the first step, then the steps.
-use Rattle.std.proofs.Common.{sym, refl, ap, ◌∙◌, rules}
+use Rattle.std.proofs.Common.{sym, refl, ap, ◌∙◌}
 use Rattle.table.specs.Survey.{verdict_of}
 use Rattle.rules.specs.State.{State512}
 use Rattle.circuit.specs.Meaning.{state_as}
@@ -18,14 +18,14 @@ state s = state_as s.args.status.now s.args.second.now s.args.value.now s.args.r
 
 pub run-end-requires : goal.run-end-requires
 run-end-requires c = let f = c.admit-checked.ensures in
-    let v = ap verdict_of c.enum_told-1.given.1 in
+    let v = ap verdict_of c.in-Accepted.is in
     let a = admitted_from _ _ (state (search)) _ _ (sym (f.told _ _ _) ∙ v) in
     (f.read _ _ v, a.0, a.1)
 
 pub returns-in-Refused : goal.returns-in-Refused
 returns-in-Refused c = ran_kept _ _ (state (search)) c.args.nodes.now _ _ _ _
-    (sym (c.admit-checked.ensures.told _ _ _) ∙ ap verdict_of c.checked-1.given.1) refl
+    (sym (c.admit-checked.ensures.told _ _ _) ∙ ap verdict_of c.in-Refused.is) refl
 
 pub returns-in-Accepted : goal.returns-in-Accepted
 returns-in-Accepted c = ran_counted _ _ (state (search)) c.args.nodes.now _ _ _ c.run-end.result _ (sym (c.admit-checked.ensures.told _ _ _)
-    ∙ ap verdict_of c.enum_told-1.given.1) c.run-end.ensures
+    ∙ ap verdict_of c.in-Accepted.is) c.run-end.ensures

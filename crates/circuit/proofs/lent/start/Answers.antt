@@ -1,9 +1,8 @@
 -- `lent::start` meets its contract: the table and its tags, with what they lack, then the rest.
-use Rattle.std.proofs.Common.{sym, refl, ap, ◌∙◌, subst, rules}
+use Rattle.std.proofs.Common.{sym, refl, ap, ◌∙◌, subst}
 use Rattle.table.specs.Survey.{verdict_of}
 use Rattle.list.proofs.HoldingLaws.{missing_told}
 use Rattle.circuit.specs.Meaning.{OpenedAs}
-use Rattle.circuit.specs.Working.{Agreed}
 use Rattle.circuit.proofs.EntryLaws.{agreed_from}
 use Rattle.rules.proofs.Starts.{start_first}
 use Rattle.circuit.proofs.lent.start.Goals as goal

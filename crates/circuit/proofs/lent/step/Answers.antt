@@ -1,5 +1,5 @@
 -- `lent::step` meets its contract: the table and its tags, then the rest.
-use Rattle.std.proofs.Common.{sym, ap, ◌∙◌, rules}
+use Rattle.std.proofs.Common.{sym, ap, ◌∙◌}
 use Rattle.table.specs.Survey.{verdict_of}
 use Rattle.rules.specs.State.{State512}
 use Rattle.circuit.specs.Meaning.{state_as}
@@ -16,11 +16,11 @@ abbrev state : Start → State512
 state s = state_as s.args.status.now s.args.second.now s.args.value.now s.args.registers.now s.args.occupant.now
 
 pub step-requires : goal.step-requires
-step-requires c = c.read_in-checked.ensures.read _ _ (ap verdict_of c.enum_told-1.given.1)
+step-requires c = c.read_in-checked.ensures.read _ _ (ap verdict_of c.in-Accepted.is)
 
 pub returns-in-Refused : goal.returns-in-Refused
-returns-in-Refused c = step_turned _ _ _ _ (sym c.read_in-checked.ensures.told ∙ ap verdict_of c.checked-1.given.1) (state (search)) c.args.n.0
+returns-in-Refused c = step_turned _ _ _ _ (sym c.read_in-checked.ensures.told ∙ ap verdict_of c.in-Refused.is) (state (search)) c.args.n.0
 
 pub returns-in-Accepted : goal.returns-in-Accepted
-returns-in-Accepted c = c.step.ensures ∙ sym (step_is _ _ _ _ (sym c.read_in-checked.ensures.told ∙ ap verdict_of c.enum_told-1.given.1) (state (search))
+returns-in-Accepted c = c.step.ensures ∙ sym (step_is _ _ _ _ (sym c.read_in-checked.ensures.told ∙ ap verdict_of c.in-Accepted.is) (state (search))
     c.args.n.0)

@@ -1,5 +1,5 @@
 -- `moves::arm_callers` meets its contract
-use Rattle.std.proofs.Common.{◌&&◌, ◌||◌, ap, ◌∙◌, rules}
+use Rattle.std.proofs.Common.{◌&&◌, ◌||◌, ap, ◌∙◌}
 use Rattle.list.specs.Working.{packed}
 use Rattle.circuit.proofs.moves.arm_callers.Goals as goal
 

@@ -1,5 +1,5 @@
 -- `moves::begun` meets its contract, by whether the node is in first phase and has children.
-use Rattle.std.proofs.Common.{◌≡◌, false, eqb, sym, refl, ap, ◌∙◌, arith, rules, eq-eqb}
+use Rattle.std.proofs.Common.{◌≡◌, false, eqb, sym, refl, ap, ◌∙◌, arith, eq-eqb}
 use Rattle.table.specs.Bytes.{first}
 use Rattle.table.proofs.Reading.{told}
 use Rattle.rules.specs.State.{entry}

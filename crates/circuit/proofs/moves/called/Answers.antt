@@ -1,5 +1,5 @@
 -- `moves::called` meets its contract, by whether the root is below the call.
-use Rattle.std.proofs.Common.{◌≡◌, refl, arith, rules}
+use Rattle.std.proofs.Common.{◌≡◌, refl, arith}
 use Rattle.table.specs.Bytes.{root}
 use Rattle.table.proofs.Reading.{told_root}
 use Rattle.circuit.proofs.FollowLaws.{enters_so, follows_none}

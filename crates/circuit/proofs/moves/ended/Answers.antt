@@ -1,11 +1,12 @@
 -- `moves::ended` meets its contract: a root, then by what its parent has come to.
-use Rattle.std.proofs.Common.{◌≡◌, ◌+◌, ◌≤◌, sym, ◌∙◌, subst, arith, rules}
+use Rattle.std.proofs.Common.{◌≡◌, ◌+◌, ◌≤◌, sym, ◌∙◌, subst, arith}
 use native.Mathlib.Decide.{ℕ_discrete}
 use Rattle.table.specs.Bytes.{nodes, next}
 use Rattle.table.specs.Naming.{owner, parent}
 use Rattle.table.specs.Working.{IsNode}
 use Rattle.table.proofs.Reading.{told}
 use Rattle.table.proofs.Family.{parent_node, next_node}
+use Rattle.circuit.specs.Packed.{sets_as}
 use Rattle.circuit.proofs.ActBy.{own_in}
 use Rattle.circuit.proofs.ChainLaws.{ok}
 use Rattle.circuit.proofs.FollowLaws.{ended_so, follows_none, grown_so}
@@ -127,7 +128,7 @@ returns-then-k-eq2 c = let fair = c.requires.0.taken in
             (record { here = (z.1 c.args.held.now).here; others = (z.1 c.args.held.now).others }) _ _ (w.3 _ _)
             c.if-k-eq2.true
             (λ m r. f.2 c.args.armed.now c.args.waiting.now c.args.inside.now c.args.value.now m c.requires.7 r
-            ∙ held_kept _ _ _ _ m c.args.plan c.requires.7 (sym f.0 ∙ c.if-freed.false)),
+            ∙ held_kept _ _ (sets_as c.args.armed.now c.args.waiting.now c.args.inside.now c.args.held.now) _ m c.args.plan c.requires.7 (sym f.0 ∙ c.if-freed.false)),
       );
     }
 
@@ -150,7 +151,7 @@ returns-then-is_beside c = let o = beside_so _ _ _ _ c.is_beside.ensures c.if-is
         beside_first _ fair _ c.requires.1 (up (search)) _ (parents (search)) _ _ _ c.requires.6
             (record { here = (z.1 c.args.held.now).here; others = (z.1 c.args.held.now).others }) _ _ (w.3 _ _)
             (λ m r. f.2 c.args.armed.now c.args.waiting.now c.args.inside.now c.args.value.now m c.requires.7 r
-            ∙ held_kept _ _ _ _ m c.args.plan c.requires.7 (sym f.0 ∙ c.if-freed.false))
+            ∙ held_kept _ _ (sets_as c.args.armed.now c.args.waiting.now c.args.inside.now c.args.held.now) _ m c.args.plan c.requires.7 (sym f.0 ∙ c.if-freed.false))
             _ (grown_so _ fair _ c.requires.1 (up (search)) c.args.plan c.requires.7 s₀ sized q _ eq _ _ _ _ _ _ _ _ _ _ tr (z.1 _) _
             (parents (search)) (λ v m r. f.2 c.args.armed.now c.args.waiting.now c.args.inside.now v m c.requires.7 r)
             _ (w.2 d e) w.3) (sym c.if-k-eq0.true ∙ w.2 d e) _ (sibling_in (search) o.0) o.0 o.1,

@@ -1,7 +1,6 @@
 -- `moves::follow` meets its contract, plan by plan.
-use Rattle.std.proofs.Common.{◌≡◌, ℕ, true, false, List, sym, refl, ap, ◌∙◌, subst, true≢false, rules}
+use Rattle.std.proofs.Common.{◌≡◌, ℕ, true, false, List, sym, refl, ap, ◌∙◌, subst, true≢false}
 use Rattle.circuit.specs.declared.plan.Plan.{Plan}
-use Rattle.circuit.specs.declared.plan.Plan.TheVariants as Plan
 use Rattle.circuit.specs.Working.{Sound}
 use Rattle.circuit.specs.Packed.{sets_as}
 use Rattle.circuit.specs.Following.{ends, Onward}
@@ -52,23 +51,23 @@ returns-then-is_end c = none (search) c.if-tracked.false _ _ _ _
 
 pub begun-requires : goal.begun-requires
 begun-requires c = let k = c.requires.3 c.if-tracked-2.true in
-    (c.requires.0, c.requires.1, sound_as (search) Plan.Begins c.enum_told-1.given.1, k.1, k.2, k.3)
+    (c.requires.0, c.requires.1, sound_as (search) Plan.Begins c.in-Begins.is, k.1, k.2, k.3)
 
 pub returns-then-tracked-2 : goal.returns-then-tracked-2
-returns-then-tracked-2 c = kept (search) c.if-tracked-2.true _ c.enum_told-1.given.1 _ _ _ _ _ c.begun.ensures
+returns-then-tracked-2 c = kept (search) c.if-tracked-2.true _ c.in-Begins.is _ _ _ _ _ c.begun.ensures
 
 pub turned-requires : goal.turned-requires
 turned-requires c = let k = c.requires.3 c.if-tracked-3.true in
-    (c.requires.0, c.requires.1, sound_as (search) (Plan.Turns c.plan-1.given.0.0) c.plan-1.given.1, k.1, k.2)
+    (c.requires.0, c.requires.1, sound_as (search) (Plan.Turns c.in-Turns.m) c.in-Turns.is, k.1, k.2)
 
 pub returns-then-tracked-3 : goal.returns-then-tracked-3
-returns-then-tracked-3 c = kept (search) c.if-tracked-3.true _ c.plan-1.given.1 _ _ _ _ _ c.turned.ensures
+returns-then-tracked-3 c = kept (search) c.if-tracked-3.true _ c.in-Turns.is _ _ _ _ _ c.turned.ensures
 
 pub called-requires : goal.called-requires
 called-requires c = let k = c.requires.3 c.if-tracked-4.true in (
   c.requires.0,
   c.requires.1,
-  sound_as (search) (Plan.Enters c.plan-in-Enters-1.given.0.0 c.plan-in-Enters-1.given.0.1.0) c.plan-in-Enters-1.given.1,
+  sound_as (search) (Plan.Enters c.in-Enters.g c.in-Enters.anew) c.in-Enters.is,
   k.0,
   k.1,
   k.2,
@@ -76,7 +75,7 @@ called-requires c = let k = c.requires.3 c.if-tracked-4.true in (
 )
 
 pub returns-then-tracked-4 : goal.returns-then-tracked-4
-returns-then-tracked-4 c = kept (search) c.if-tracked-4.true _ c.plan-in-Enters-1.given.1 _ _ _ _ _ c.called.ensures
+returns-then-tracked-4 c = kept (search) c.if-tracked-4.true _ c.in-Enters.is _ _ _ _ _ c.called.ensures
 
 pub returns-else-tracked-2 : goal.returns-else-tracked-2
 returns-else-tracked-2 c = none (search) c.if-tracked-2.false _ _ _ _
@@ -88,7 +87,7 @@ pub returns-else-tracked-4 : goal.returns-else-tracked-4
 returns-else-tracked-4 c = none (search) c.if-tracked-4.false _ _ _ _
 
 pub returns-in-Finishes : goal.returns-in-Finishes
-returns-in-Finishes c = never (search) _ c.enum_told-in-Finishes-1.given.1 refl
+returns-in-Finishes c = never (search) _ c.in-Finishes.is refl
 
 pub returns-in-Leaves : goal.returns-in-Leaves
-returns-in-Leaves c = never (search) _ c.enum_told-in-Leaves-1.given.1 refl
+returns-in-Leaves c = never (search) _ c.in-Leaves.is refl

@@ -1,5 +1,5 @@
 -- `moves::free` meets its contract, plan by plan.
-use Rattle.std.proofs.Common.{◌≡◌, ℕ, true, false, not, ◌&&◌, List, sym, refl, ap, ◌∙◌, subst, true≢false, arith, rules}
+use Rattle.std.proofs.Common.{◌≡◌, ℕ, true, false, not, ◌&&◌, List, sym, refl, ap, ◌∙◌, subst, true≢false, arith}
 use Rattle.table.specs.Pick.{Range}
 use Rattle.table.specs.Bytes.{nodes}
 use Rattle.table.specs.Expressions.{expr_at}
@@ -7,7 +7,6 @@ use Rattle.table.specs.Working.{IsFunction}
 use Rattle.list.specs.Working.{packed}
 use Rattle.rules.specs.Sets.{holds}
 use Rattle.circuit.specs.declared.plan.Plan.{Plan}
-use Rattle.circuit.specs.declared.plan.Plan.TheVariants as Plan
 use Rattle.circuit.specs.Working.{planned, Sound}
 use Rattle.circuit.specs.Packed.{sets_as}
 use Rattle.circuit.specs.Following.{ends, frees}

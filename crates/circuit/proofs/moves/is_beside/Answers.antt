@@ -1,5 +1,5 @@
 -- `moves::is_beside` meets its contract
-use Rattle.std.proofs.Common.{sym, refl, rules, eq-eqb, ne_eqb}
+use Rattle.std.proofs.Common.{sym, refl, eq-eqb, ne_eqb}
 use Rattle.circuit.proofs.moves.is_beside.Goals as goal
 
 pub returns-then-d-n : goal.returns-then-d-n

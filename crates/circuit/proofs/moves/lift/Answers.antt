@@ -1,6 +1,5 @@
 -- `moves::lift` meets its contract, by whether the parent gathers its children.
-use Rattle.std.proofs.Common.{◌≡◌, true, [], sym, refl, ◌∙◌, rules}
-use borrow.Author.Tests.{not-true, not-false}
+use Rattle.std.proofs.Common.{◌≡◌, true, [], sym, refl, ◌∙◌}
 use Rattle.list.specs.Working.{Bit}
 use Rattle.rules.specs.Circuit.{act_of}
 use Rattle.circuit.specs.Meaning.{state_as}

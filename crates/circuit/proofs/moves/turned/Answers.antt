@@ -1,5 +1,5 @@
 -- `moves::turned` meets its contract: the node is read anew.
-use Rattle.std.proofs.Common.{refl, rules}
+use Rattle.std.proofs.Common.{refl}
 use Rattle.circuit.proofs.FollowLaws.{turns_so, follows_anew}
 use Rattle.circuit.proofs.UpdateLaws.{node_bit}
 use Rattle.circuit.proofs.moves.turned.Goals as goal

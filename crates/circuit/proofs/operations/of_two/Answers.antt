@@ -1,5 +1,5 @@
 -- `operations::of_two` meets its contract: operation by operation.
-use Rattle.std.proofs.Common.{◌≡◌, sym, ◌∙◌, arith, rules}
+use Rattle.std.proofs.Common.{◌≡◌, sym, ◌∙◌, arith}
 use Rattle.rules.specs.Operations.{operate, wrap}
 use Rattle.circuit.proofs.PlanLaws.{op_last}
 use Rattle.circuit.proofs.OperationLaws.{doubled, subtracted}

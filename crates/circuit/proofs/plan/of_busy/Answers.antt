@@ -1,5 +1,5 @@
 -- `plan::of_busy` meets its contract, by kind.
-use Rattle.std.proofs.Common.{◌≡◌, sym, ◌∙◌, arith, rules}
+use Rattle.std.proofs.Common.{◌≡◌, sym, ◌∙◌, arith}
 use Rattle.table.specs.Bytes.{kind}
 use Rattle.table.proofs.Reading.{told}
 use Rattle.circuit.specs.declared.plan.Plan.TheVariants as Plan

@@ -1,5 +1,5 @@
 -- `plan::of_call` meets its contract, by whether the call is of its own function.
-use Rattle.std.proofs.Common.{◌≡◌, sym, refl, ◌∙◌, subst, arith, rules}
+use Rattle.std.proofs.Common.{◌≡◌, sym, refl, ◌∙◌, subst, arith}
 use Rattle.table.specs.Bytes.{word}
 use Rattle.table.proofs.Reading.{told, told_low}
 use Rattle.table.specs.Naming.{owner}

@@ -1,5 +1,5 @@
 -- `plan::of_if` meets its contract: an if in its second phase is done, in its first it opens the branch.
-use Rattle.std.proofs.Common.{◌≡◌, ◌≤◌, eqb, sym, refl, ap, ◌∙◌, subst, arith, rules}
+use Rattle.std.proofs.Common.{◌≡◌, ◌≤◌, eqb, sym, refl, ap, ◌∙◌, subst, arith}
 use Rattle.table.specs.Bytes.{first, next}
 use Rattle.table.proofs.Reading.{told}
 use Rattle.rules.specs.State.{entry}

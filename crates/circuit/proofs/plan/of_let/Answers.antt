@@ -1,5 +1,5 @@
 -- `plan::of_let` meets its contract: a let in its second phase is done, in its first it opens the body.
-use Rattle.std.proofs.Common.{◌≡◌, sym, refl, ap, ◌∙◌, arith, rules}
+use Rattle.std.proofs.Common.{◌≡◌, sym, refl, ap, ◌∙◌, arith}
 use Rattle.table.specs.Bytes.{first}
 use Rattle.table.proofs.Reading.{told}
 use Rattle.rules.specs.State.{entry}

@@ -1,5 +1,5 @@
 -- `plan::of_open` meets its contract, by kind.
-use Rattle.std.proofs.Common.{◌≡◌, sym, ◌∙◌, arith, rules}
+use Rattle.std.proofs.Common.{◌≡◌, sym, ◌∙◌, arith}
 use Rattle.table.specs.Bytes.{kind, first}
 use Rattle.table.proofs.Reading.{told, told_word, told_low}
 use Rattle.circuit.proofs.ActBy.{own_in, bound_in}

@@ -1,5 +1,5 @@
 -- `plan::of_other` meets its contract: a call in its second phase leaves, in its first it enters.
-use Rattle.std.proofs.Common.{◌≡◌, sym, refl, ap, ◌∙◌, subst, arith, rules}
+use Rattle.std.proofs.Common.{◌≡◌, sym, refl, ap, ◌∙◌, subst, arith}
 use Rattle.table.specs.Bytes.{root}
 use Rattle.table.proofs.Reading.{told_root}
 use Rattle.table.specs.Working.{IsFunction}

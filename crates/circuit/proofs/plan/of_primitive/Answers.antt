@@ -1,5 +1,5 @@
 -- `plan::of_primitive` meets its contract.
-use Rattle.std.proofs.Common.{◌≡◌, refl, arith, rules}
+use Rattle.std.proofs.Common.{◌≡◌, refl, arith}
 use Rattle.table.specs.Bytes.{first}
 use Rattle.table.proofs.Reading.{told}
 use Rattle.circuit.proofs.ChainLaws.{first_in_lem}

@@ -1,5 +1,5 @@
 -- `plan::plan_at` meets its contract, by status.
-use Rattle.std.proofs.Common.{sym, ◌∙◌, arith, rules}
+use Rattle.std.proofs.Common.{sym, ◌∙◌, arith}
 use Rattle.circuit.proofs.ChainLaws.{ok}
 use Rattle.circuit.proofs.plan.plan_at.Goals as goal
 

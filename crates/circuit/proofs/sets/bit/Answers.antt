@@ -1,5 +1,5 @@
 -- `sets::bit` meets its contract
-use Rattle.std.proofs.Common.{◌≡◌, ◌-◌, ◌*◌, ◌%◌, ◌^◌, arith, rules}
+use Rattle.std.proofs.Common.{◌≡◌, ◌-◌, ◌*◌, ◌%◌, ◌^◌, arith}
 use Rattle.list.proofs.BitLaws.{bit_is}
 use Rattle.circuit.proofs.sets.bit.Goals as goal
 

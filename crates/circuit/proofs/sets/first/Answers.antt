@@ -1,6 +1,6 @@
-use Rattle.std.proofs.Common.{◌≡◌, ℕ, ◌-◌, ◌<◌, ◌≤◌, sym, arith, rules, below_none, below_more}
+use Rattle.std.proofs.Common.{sym, arith, below_none, below_more}
 use Rattle.rules.specs.Sets.{first_in}
-use Rattle.circuit.proofs.PackedLaws.{ready_word, ready_bit, lowest_none, lowest_in}
+use Rattle.circuit.proofs.PackedLaws.{ready_bit, lowest_none, lowest_in}
 use Rattle.circuit.proofs.sets.first.Goals as goal
 
 pub loop-i-init : goal.loop-i-init

@@ -1,7 +1,6 @@
 -- `sets::first` meets its contract. The invariant: the words up to i have no node that is ready. The measure is the words left.
-use Rattle.std.proofs.Common.{◌≡◌, ℕ, ◌-◌, ◌<◌, ◌≤◌, sym, arith, rules, below_none, below_more}
-use Rattle.rules.specs.Sets.{first_in}
-use Rattle.circuit.proofs.PackedLaws.{ready_word, ready_bit, lowest_none, lowest_in}
+use Rattle.std.proofs.Common.{◌≡◌, ℕ, ◌-◌, ◌<◌, ◌≤◌}
+use Rattle.circuit.proofs.PackedLaws.{ready_word}
 use Rattle.circuit.proofs.sets.first.Given as goal
 
 abbrev pub invariant-loop-i : goal.invariant-loop-i

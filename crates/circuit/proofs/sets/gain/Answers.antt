@@ -1,7 +1,7 @@
-use Rattle.std.proofs.Common.{◌-◌, ◌||◌, get_or, arith, rules}
+use Rattle.std.proofs.Common.{◌||◌, arith, rules}
 use lib.Bits.{bit_or}
 use Rattle.list.proofs.BitLaws.{or_bit}
-use Rattle.circuit.proofs.PackedLaws.{Written, written_none, written_more, packs_two}
+use Rattle.circuit.proofs.PackedLaws.{written_none, written_more, packs_two}
 use Rattle.circuit.proofs.sets.gain.Goals as goal
 
 pub loop-i-init : goal.loop-i-init

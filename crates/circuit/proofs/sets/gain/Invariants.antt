@@ -1,8 +1,7 @@
 -- `sets::gain` meets its contract. The invariant: the words up to i are written. The measure is the words left.
-use Rattle.std.proofs.Common.{◌-◌, ◌||◌, get_or, arith, rules}
+use Rattle.std.proofs.Common.{◌-◌, get_or}
 use lib.Bits.{bit_or}
-use Rattle.list.proofs.BitLaws.{or_bit}
-use Rattle.circuit.proofs.PackedLaws.{Written, written_none, written_more, packs_two}
+use Rattle.circuit.proofs.PackedLaws.{Written}
 use Rattle.circuit.proofs.sets.gain.Given as goal
 
 abbrev pub invariant-loop-i : goal.invariant-loop-i

@@ -1,6 +1,6 @@
-use Rattle.std.proofs.Common.{◌-◌, not, ◌&&◌, get_or, arith, rules}
+use Rattle.std.proofs.Common.{not, ◌&&◌, arith, rules}
 use lib.Bits.{bit_xor, bit_and}
-use Rattle.circuit.proofs.PackedLaws.{Written, written_none, written_more, packs_two, without_bit}
+use Rattle.circuit.proofs.PackedLaws.{written_none, written_more, packs_two, without_bit}
 use Rattle.circuit.proofs.sets.lose.Goals as goal
 
 pub loop-i-init : goal.loop-i-init

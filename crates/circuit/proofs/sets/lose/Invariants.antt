@@ -1,7 +1,7 @@
 -- `sets::lose` meets its contract. The invariant: the words up to i are written. The measure is the words left.
-use Rattle.std.proofs.Common.{◌-◌, not, ◌&&◌, get_or, arith, rules}
+use Rattle.std.proofs.Common.{◌-◌, get_or}
 use lib.Bits.{bit_xor, bit_and}
-use Rattle.circuit.proofs.PackedLaws.{Written, written_none, written_more, packs_two, without_bit}
+use Rattle.circuit.proofs.PackedLaws.{Written}
 use Rattle.circuit.proofs.sets.lose.Given as goal
 
 abbrev pub invariant-loop-i : goal.invariant-loop-i

@@ -1,5 +1,4 @@
 -- `sets::mark` meets its contract
-use Rattle.std.proofs.Common.{rules}
 use Rattle.circuit.proofs.PackedLaws.{marks_by, bit_in, bit_out}
 use Rattle.circuit.proofs.sets.mark.Goals as goal
 

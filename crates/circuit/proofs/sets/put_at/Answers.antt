@@ -1,5 +1,5 @@
 -- `sets::put_at` meets its contract
-use Rattle.std.proofs.Common.{◌+◌, ◌-◌, ◌*◌, ◌/◌, get_or, set, sym, subst, rules}
+use Rattle.std.proofs.Common.{◌+◌, ◌-◌, ◌*◌, ◌/◌, get_or, set, sym, subst}
 use lib.Bits.{bit_or}
 use Rattle.list.specs.Working.{PutAt}
 use Rattle.list.proofs.WordLaws.{put_row}

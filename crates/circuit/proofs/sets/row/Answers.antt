@@ -1,6 +1,6 @@
-use Rattle.std.proofs.Common.{◌+◌, ◌-◌, get_or, sym, arith, rules}
+use Rattle.std.proofs.Common.{sym, arith, rules}
 use Rattle.list.proofs.WordLaws.{packed_row}
-use Rattle.circuit.proofs.PackedLaws.{Written, written_none, written_more, packs_by}
+use Rattle.circuit.proofs.PackedLaws.{written_none, written_more, packs_by}
 use Rattle.circuit.proofs.sets.row.Goals as goal
 
 pub overflow_mul-base : goal.overflow_mul-base

@@ -1,7 +1,6 @@
 -- `sets::row` meets its contract. The invariant: the words up to i are written. The measure is the words left.
-use Rattle.std.proofs.Common.{◌+◌, ◌-◌, get_or, sym, arith, rules}
-use Rattle.list.proofs.WordLaws.{packed_row}
-use Rattle.circuit.proofs.PackedLaws.{Written, written_none, written_more, packs_by}
+use Rattle.std.proofs.Common.{◌+◌, ◌-◌, get_or}
+use Rattle.circuit.proofs.PackedLaws.{Written}
 use Rattle.circuit.proofs.sets.row.Given as goal
 
 abbrev pub invariant-loop-i : goal.invariant-loop-i

@@ -1,5 +1,5 @@
 -- `sorts::gathered` meets its contract: by a child that is not done, else by kind.
-use Rattle.std.proofs.Common.{◌≡◌, ◌≤◌, sym, ◌∙◌, subst, ⊎_elim, arith, rules}
+use Rattle.std.proofs.Common.{◌≡◌, ◌≤◌, sym, ◌∙◌, subst, ⊎_elim, arith}
 use native.Mathlib.Decide.{ℕ_discrete}
 use Rattle.table.specs.Bytes.{kind}
 use Rattle.table.proofs.Reading.{told}
@@ -25,7 +25,7 @@ read : (c : AfterKind) → c.kind.result ≡ kind c.args.table.now c.args.n.0
 read c = told _ _ c.requires.0 _ c.requires.1 0 _ (omega arith) c.kind.ensures
 
 pub undone-requires : goal.undone-requires
-undone-requires c = go c.before (ℕ_discrete c.args.d.0 0)
+undone-requires c = go (search) (ℕ_discrete c.args.d.0 0)
   where
     go : (s : Start) → Dec (s.args.d.0 ≡ 0) → s.args.d.0 ≤ 512
     go s (yes e) = omega (arith, e)

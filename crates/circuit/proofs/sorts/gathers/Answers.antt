@@ -1,5 +1,5 @@
 -- `sorts::gathers` meets its contract, by status, phase and kind.
-use Rattle.std.proofs.Common.{◌≡◌, false, ◌||◌, eqb, sym, ap, ◌∙◌, arith, rules, eq-eqb, ne_eqb}
+use Rattle.std.proofs.Common.{◌≡◌, false, ◌||◌, eqb, sym, ap, ◌∙◌, arith, eq-eqb, ne_eqb}
 use Rattle.table.specs.Bytes.{kind}
 use Rattle.table.proofs.Reading.{told}
 use Rattle.rules.specs.State.{entry}

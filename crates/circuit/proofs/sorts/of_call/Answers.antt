@@ -1,5 +1,5 @@
 -- `sorts::of_call` meets its contract, by whether the call is of its own function.
-use Rattle.std.proofs.Common.{◌≡◌, sym, ◌∙◌, arith, rules}
+use Rattle.std.proofs.Common.{◌≡◌, sym, ◌∙◌, arith}
 use Rattle.table.specs.Bytes.{word}
 use Rattle.table.proofs.Reading.{told, told_low}
 use Rattle.table.specs.Naming.{owner}

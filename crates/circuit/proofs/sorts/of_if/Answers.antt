@@ -1,5 +1,5 @@
 -- `sorts::of_if` meets its contract: an if in its second phase waits for the branch, in its first for the condition.
-use Rattle.std.proofs.Common.{◌≡◌, ◌≤◌, eqb, sym, subst, arith, rules}
+use Rattle.std.proofs.Common.{◌≡◌, ◌≤◌, eqb, sym, subst, arith}
 use Rattle.table.specs.Bytes.{first, next}
 use Rattle.table.proofs.Reading.{told}
 use Rattle.table.specs.Working.{IsNode}

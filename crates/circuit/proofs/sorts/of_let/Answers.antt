@@ -1,5 +1,5 @@
 -- `sorts::of_let` meets its contract: a let in its second phase waits for the body, in its first for the definientia.
-use Rattle.std.proofs.Common.{◌≡◌, refl, ap, arith, rules}
+use Rattle.std.proofs.Common.{◌≡◌, refl, ap, arith}
 use Rattle.table.specs.Bytes.{first}
 use Rattle.table.proofs.Reading.{told}
 use Rattle.rules.specs.Sets.{sort}

@@ -1,5 +1,5 @@
 -- `sorts::of_other` meets its contract: a call in its second phase waits for the callee's root, in its first for its arguments.
-use Rattle.std.proofs.Common.{◌≡◌, sym, ap, subst, arith, rules}
+use Rattle.std.proofs.Common.{◌≡◌, sym, ap, subst, arith}
 use Rattle.table.specs.Bytes.{first, root}
 use Rattle.table.proofs.Reading.{told, told_root}
 use Rattle.table.specs.Working.{IsFunction}

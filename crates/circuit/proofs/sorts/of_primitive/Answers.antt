@@ -1,5 +1,5 @@
 -- `sorts::of_primitive` meets its contract: once the children are done.
-use Rattle.std.proofs.Common.{◌≡◌, refl, ap, arith, rules}
+use Rattle.std.proofs.Common.{◌≡◌, refl, ap, arith}
 use Rattle.table.specs.Bytes.{first}
 use Rattle.table.proofs.Reading.{told}
 use Rattle.rules.specs.Sets.{sort}

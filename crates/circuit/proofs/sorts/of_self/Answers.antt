@@ -1,5 +1,5 @@
 -- `sorts::of_self` meets its contract: once the arguments are done.
-use Rattle.std.proofs.Common.{◌≡◌, ap, arith, rules}
+use Rattle.std.proofs.Common.{◌≡◌, ap, arith}
 use Rattle.table.specs.Bytes.{first}
 use Rattle.table.proofs.Reading.{told}
 use Rattle.rules.specs.Sets.{sort}

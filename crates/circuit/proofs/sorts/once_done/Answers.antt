@@ -1,5 +1,5 @@
 -- `sorts::once_done` meets its contract
-use Rattle.std.proofs.Common.{sym, refl, ◌∙◌, rules, eq-eqb, ne_eqb}
+use Rattle.std.proofs.Common.{sym, refl, ◌∙◌, eq-eqb, ne_eqb}
 use Rattle.circuit.proofs.sorts.once_done.Goals as goal
 
 pub returns-then-status_at-eq3 : goal.returns-then-status_at-eq3

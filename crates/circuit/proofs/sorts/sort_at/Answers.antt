@@ -1,5 +1,5 @@
 -- `sorts::sort_at` meets its contract, by status and kind.
-use Rattle.std.proofs.Common.{◌≡◌, sym, ◌∙◌, arith, rules}
+use Rattle.std.proofs.Common.{◌≡◌, sym, ◌∙◌, arith}
 use Rattle.table.specs.Bytes.{kind}
 use Rattle.table.proofs.Reading.{told}
 use Rattle.rules.specs.State.{entry}

@@ -1,5 +1,5 @@
 -- `sorts::undone` meets its contract
-use Rattle.std.proofs.Common.{sym, refl, rules, eq-eqb, ne_eqb}
+use Rattle.std.proofs.Common.{sym, refl, eq-eqb, ne_eqb}
 use Rattle.circuit.proofs.sorts.undone.Goals as goal
 
 pub returns-then-d-eq0 : goal.returns-then-d-eq0

@@ -1,5 +1,5 @@
-use Rattle.std.proofs.Common.{◌≡◌, ◌≤◌, sym, ap, ◌∙◌, arith, rules}
-use Rattle.table.specs.Bytes.{functions, nodes}
+use Rattle.std.proofs.Common.{sym, ap, ◌∙◌, arith}
+use Rattle.table.specs.Bytes.{nodes}
 use Rattle.table.proofs.Reading.{told_main, told_last}
 use Rattle.rules.specs.Step.{over}
 use Rattle.circuit.proofs.ChainLaws.{ok}

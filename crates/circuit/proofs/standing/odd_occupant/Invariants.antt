@@ -1,10 +1,7 @@
 -- `standing::odd_occupant` meets its contract. The invariant: no occupant above f is over N. The measure is f.
-use Rattle.std.proofs.Common.{◌≡◌, ◌≤◌, sym, ap, ◌∙◌, arith, rules}
+use Rattle.std.proofs.Common.{◌≡◌, ◌≤◌}
 use Rattle.table.specs.Bytes.{functions, nodes}
-use Rattle.table.proofs.Reading.{told_main, told_last}
 use Rattle.rules.specs.Step.{over}
-use Rattle.circuit.proofs.ChainLaws.{ok}
-use Rattle.circuit.proofs.StandsLaws.{over_here, over_less, over_end}
 use Rattle.circuit.proofs.standing.odd_occupant.Given as goal
 
 abbrev pub invariant-loop-f : goal.invariant-loop-f

@@ -1,5 +1,4 @@
-use Rattle.std.proofs.Common.{◌≡◌, ◌-◌, ◌≤◌, ltb, sym, refl, ap, ◌∙◌, arith, rules}
-use Rattle.table.specs.Bytes.{nodes}
+use Rattle.std.proofs.Common.{◌≤◌, sym, refl, ap, ◌∙◌, arith}
 use Rattle.table.proofs.Reading.{told_last}
 use Rattle.rules.specs.Step.{over}
 use Rattle.circuit.proofs.ChainLaws.{ok}

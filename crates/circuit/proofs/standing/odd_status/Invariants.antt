@@ -1,10 +1,7 @@
 -- `standing::odd_status` meets its contract. The invariant: a status before i is over 3 where the highest is. The measure is what is left.
-use Rattle.std.proofs.Common.{◌≡◌, ◌-◌, ◌≤◌, ltb, sym, refl, ap, ◌∙◌, arith, rules}
+use Rattle.std.proofs.Common.{◌≡◌, ◌-◌, ◌≤◌, ltb}
 use Rattle.table.specs.Bytes.{nodes}
-use Rattle.table.proofs.Reading.{told_last}
 use Rattle.rules.specs.Step.{over}
-use Rattle.circuit.proofs.ChainLaws.{ok}
-use Rattle.circuit.proofs.StandsLaws.{over_end, over_highest}
 use Rattle.circuit.proofs.standing.odd_status.Given as goal
 
 abbrev pub invariant-loop-i : goal.invariant-loop-i

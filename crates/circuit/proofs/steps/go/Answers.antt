@@ -1,4 +1,4 @@
-use Rattle.std.proofs.Common.{◌≡◌, ◌-◌, ◌≤◌, true, arith}
+use Rattle.std.proofs.Common.{◌≡◌, true, arith}
 use Rattle.table.specs.Working.{IsNode}
 use Rattle.rules.specs.State.{State512, entry}
 use Rattle.rules.specs.Circuit.{act_of}
@@ -7,7 +7,7 @@ use Rattle.circuit.specs.Meaning.{state_as}
 use Rattle.circuit.specs.Working.{Planned}
 use Rattle.circuit.proofs.PerformLaws.{sound}
 use Rattle.circuit.proofs.StepsLaws.{Going, goes_on}
-use Rattle.circuit.proofs.LoopLaws.{Loop, From, loop_start, loop_node, loop_next, loop_followed, loop_made}
+use Rattle.circuit.proofs.LoopLaws.{From, loop_start, loop_node, loop_next, loop_followed, loop_made}
 use Rattle.circuit.proofs.steps.go.Goals as goal
 use Rattle.circuit.proofs.steps.go.Lts as lts
 use Rattle.circuit.proofs.steps.go.Reads as reads
@@ -36,7 +36,7 @@ from s = record { follows = s.requires.4; single = s.requires.5 }
 
 -- in a turn there is a node, there is budget left, and main's root isn't done
 on : (c : Turn) →
-    Going c.loop-top.at c.loop-top.true c.args.budget (entry c.loop-top.status 0 c.args.top.0)
+    Going c.loop-top.at c.loop-top.taken c.args.budget (entry c.loop-top.status 0 c.args.top.0)
 on c =
     goes_on _ _ _ _ _ c.going.ensures c.loop-top-test.true
 

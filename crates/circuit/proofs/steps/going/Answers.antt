@@ -1,5 +1,4 @@
 -- `steps::going` meets its contract
-use Rattle.std.proofs.Common.{rules}
 use Rattle.circuit.proofs.StepsLaws.{going_none, going_on, going_spent}
 use Rattle.circuit.proofs.steps.going.Goals as goal
 

@@ -1,5 +1,5 @@
 -- `store::occupant_at` meets its contract: function 0 has no occupant.
-use Rattle.std.proofs.Common.{sym, arith, rules}
+use Rattle.std.proofs.Common.{sym, arith}
 use Rattle.circuit.proofs.StoreLaws.{entry_none}
 use Rattle.rules.proofs.StateLaws.{entry_at}
 use Rattle.circuit.proofs.store.occupant_at.Goals as goal

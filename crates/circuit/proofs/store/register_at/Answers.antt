@@ -1,5 +1,5 @@
 -- `store::register_at` meets its contract: the register lies in its function's eight.
-use Rattle.std.proofs.Common.{sym, arith, rules}
+use Rattle.std.proofs.Common.{sym, arith}
 use Rattle.circuit.proofs.StoreLaws.{register_none, register_high}
 use Rattle.rules.proofs.StateLaws.{register_at}
 use Rattle.circuit.proofs.store.register_at.Goals as goal

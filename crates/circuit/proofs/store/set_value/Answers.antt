@@ -1,5 +1,5 @@
 -- `store::set_value` meets its contract: a write at node 0 writes nothing.
-use Rattle.std.proofs.Common.{sym, arith, rules}
+use Rattle.std.proofs.Common.{sym, arith}
 use Rattle.circuit.proofs.StoreLaws.{write_none}
 use Rattle.rules.proofs.StateLaws.{write_at}
 use Rattle.circuit.proofs.store.set_value.Goals as goal

@@ -1,5 +1,5 @@
 -- `store::status_at` meets its contract: node 0 is idle.
-use Rattle.std.proofs.Common.{sym, arith, rules}
+use Rattle.std.proofs.Common.{sym, arith}
 use Rattle.circuit.proofs.StoreLaws.{entry_none}
 use Rattle.rules.proofs.StateLaws.{entry_at}
 use Rattle.circuit.proofs.store.status_at.Goals as goal

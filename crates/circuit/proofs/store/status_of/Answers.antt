@@ -1,5 +1,5 @@
 -- `store::status_of` meets its contract.
-use Rattle.std.proofs.Common.{sym, arith, rules}
+use Rattle.std.proofs.Common.{sym, arith}
 use Rattle.rules.proofs.StateLaws.{entry_at}
 use Rattle.circuit.proofs.store.status_of.Goals as goal
 

@@ -1,5 +1,5 @@
 -- `store::value_at` meets its contract: number 0 reads as 0.
-use Rattle.std.proofs.Common.{sym, arith, rules}
+use Rattle.std.proofs.Common.{sym, arith}
 use Rattle.circuit.proofs.StoreLaws.{entry_none}
 use Rattle.rules.proofs.StateLaws.{entry_at}
 use Rattle.circuit.proofs.store.value_at.Goals as goal

@@ -1,5 +1,5 @@
 -- `tracking::arm` meets its contract, by kind.
-use Rattle.std.proofs.Common.{◌≡◌, sym, ◌∙◌, arith, rules}
+use Rattle.std.proofs.Common.{◌≡◌, sym, ◌∙◌, arith}
 use Rattle.table.specs.Bytes.{kind, first}
 use Rattle.table.proofs.Reading.{told}
 use Rattle.circuit.proofs.ActBy.{three_in}

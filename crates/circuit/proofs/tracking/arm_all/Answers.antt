@@ -1,12 +1,9 @@
-use Rattle.std.proofs.Common.{◌≡◌, ◌≤◌, sym, ◌∙◌, arith, rules}
-use Rattle.table.specs.Bytes.{nodes, next}
-use Rattle.table.specs.Naming.{chain}
+use Rattle.std.proofs.Common.{◌≡◌, sym, ◌∙◌, arith}
+use Rattle.table.specs.Bytes.{next}
 use Rattle.table.proofs.Reading.{told}
 use Rattle.list.specs.Working.{Bit}
-use Rattle.circuit.specs.Working.{leading}
-use Rattle.circuit.specs.Packed.{Three}
-use Rattle.circuit.proofs.ChainLaws.{rest, ok, next_in, falls, leading_last, leading_more, leading_ends}
-use Rattle.circuit.proofs.TrackLaws.{Arming, arming_start, arming_more, arming_end}
+use Rattle.circuit.proofs.ChainLaws.{ok, next_in, falls, leading_last, leading_more, leading_ends}
+use Rattle.circuit.proofs.TrackLaws.{arming_start, arming_more, arming_end}
 use Rattle.circuit.proofs.tracking.arm_all.Goals as goal
 use Rattle.circuit.proofs.tracking.arm_all.Lts as lts
 use Rattle.circuit.proofs.tracking.arm_all.Reads as reads

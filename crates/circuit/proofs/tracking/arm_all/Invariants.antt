@@ -1,14 +1,12 @@
 -- `tracking::arm_all` meets its contract. The invariant: arming the rest from `at` on makes of the sets now what arming the chain makes of
 -- those at the start (`Arming`). The measure is that rest.
-use Rattle.std.proofs.Common.{◌≡◌, ◌≤◌, sym, ◌∙◌, arith, rules}
-use Rattle.table.specs.Bytes.{nodes, next}
+use Rattle.std.proofs.Common.{◌≤◌}
+use Rattle.table.specs.Bytes.{nodes}
 use Rattle.table.specs.Naming.{chain}
-use Rattle.table.proofs.Reading.{told}
-use Rattle.list.specs.Working.{Bit}
 use Rattle.circuit.specs.Working.{leading}
 use Rattle.circuit.specs.Packed.{Three}
-use Rattle.circuit.proofs.ChainLaws.{rest, ok, next_in, falls, leading_last, leading_more, leading_ends}
-use Rattle.circuit.proofs.TrackLaws.{Arming, arming_start, arming_more, arming_end}
+use Rattle.circuit.proofs.ChainLaws.{rest}
+use Rattle.circuit.proofs.TrackLaws.{Arming}
 use Rattle.circuit.proofs.tracking.arm_all.Given as goal
 
 abbrev pub invariant-loop-at : goal.invariant-loop-at

@@ -1,5 +1,5 @@
 -- `tracking::enlist` meets its contract, by whether the node is a call.
-use Rattle.std.proofs.Common.{◌≡◌, ◌≤◌, arith, rules}
+use Rattle.std.proofs.Common.{◌≡◌, ◌≤◌, arith}
 use Rattle.table.specs.Bytes.{word}
 use Rattle.table.specs.Naming.{owner}
 use Rattle.table.specs.Working.{IsFunction}

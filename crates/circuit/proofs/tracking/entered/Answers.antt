@@ -1,5 +1,5 @@
 -- `tracking::entered` meets its contract, by phase and status.
-use Rattle.std.proofs.Common.{arith, rules}
+use Rattle.std.proofs.Common.{arith}
 use Rattle.circuit.specs.Meaning.{state_as}
 use Rattle.circuit.proofs.ChainLaws.{ok}
 use Rattle.circuit.proofs.TrackLaws.{inside_is, inside_idle, inside_first}

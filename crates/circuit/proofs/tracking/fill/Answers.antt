@@ -1,9 +1,9 @@
-use Rattle.std.proofs.Common.{◌≡◌, ◌+◌, ◌-◌, ◌≤◌, arith, rules}
+use Rattle.std.proofs.Common.{◌≡◌, ◌+◌, ◌≤◌, arith}
 use Rattle.table.specs.Bytes.{nodes}
 use Rattle.table.specs.Working.{IsNode}
 use Rattle.table.proofs.Reading.{told_last}
 use Rattle.circuit.proofs.ChainLaws.{ok}
-use Rattle.circuit.proofs.TrackLaws.{FilledTo, filled_start, filled_rows, filled_next, filled_rowed, filled_tracks}
+use Rattle.circuit.proofs.TrackLaws.{filled_start, filled_rows, filled_next, filled_rowed, filled_tracks}
 use Rattle.circuit.proofs.tracking.fill.Goals as goal
 use Rattle.circuit.proofs.tracking.fill.Lts as lts
 use Rattle.circuit.proofs.tracking.fill.Reads as reads

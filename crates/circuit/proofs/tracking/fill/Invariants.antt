@@ -1,11 +1,8 @@
 -- `tracking::fill` meets its contract. The invariant: the rows and the sets are filled for the nodes up to n (`FilledTo`). The measure is
 -- the nodes left.
-use Rattle.std.proofs.Common.{◌≡◌, ◌+◌, ◌-◌, ◌≤◌, arith, rules}
+use Rattle.std.proofs.Common.{◌≡◌, ◌-◌, ◌≤◌}
 use Rattle.table.specs.Bytes.{nodes}
-use Rattle.table.specs.Working.{IsNode}
-use Rattle.table.proofs.Reading.{told_last}
-use Rattle.circuit.proofs.ChainLaws.{ok}
-use Rattle.circuit.proofs.TrackLaws.{FilledTo, filled_start, filled_rows, filled_next, filled_rowed, filled_tracks}
+use Rattle.circuit.proofs.TrackLaws.{FilledTo}
 use Rattle.circuit.proofs.tracking.fill.Given as goal
 
 abbrev pub invariant-loop-n : goal.invariant-loop-n

@@ -1,5 +1,5 @@
 -- `tracking::is_call` meets its contract, by kind.
-use Rattle.std.proofs.Common.{◌≡◌, sym, ◌∙◌, arith, rules}
+use Rattle.std.proofs.Common.{◌≡◌, sym, ◌∙◌, arith}
 use Rattle.table.specs.Bytes.{kind}
 use Rattle.table.proofs.Reading.{told, told_low}
 use Rattle.circuit.proofs.ActBy.{callee_in}

@@ -1,5 +1,4 @@
 -- `tracking::place` meets its contract: a mark in each of the three sets.
-use Rattle.std.proofs.Common.{rules}
 use Rattle.circuit.proofs.TrackLaws.{places_by}
 use Rattle.circuit.proofs.tracking.place.Goals as goal
 

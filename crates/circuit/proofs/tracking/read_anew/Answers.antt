@@ -1,5 +1,5 @@
 -- `tracking::read_anew` meets its contract: the node is placed by the sort of its step.
-use Rattle.std.proofs.Common.{eqb, ap, arith, rules}
+use Rattle.std.proofs.Common.{eqb, ap, arith}
 use Rattle.circuit.proofs.ChainLaws.{ok}
 use Rattle.circuit.proofs.TrackLaws.{placed_as}
 use Rattle.circuit.proofs.tracking.read_anew.Goals as goal

@@ -1,5 +1,5 @@
 -- `tracking::renew` meets its contract, by whether the function is entered anew.
-use Rattle.std.proofs.Common.{◌≡◌, ◌≤◌, arith, rules}
+use Rattle.std.proofs.Common.{◌≡◌, ◌≤◌, arith}
 use Rattle.table.specs.Bytes.{root}
 use Rattle.table.proofs.Reading.{told_root}
 use Rattle.list.specs.Working.{Bit}

@@ -1,5 +1,5 @@
 -- `turn::told` meets its contract: main's value, if its root is done.
-use Rattle.std.proofs.Common.{sym, ap, ◌∙◌, rules, eq-eqb, ne_eqb}
+use Rattle.std.proofs.Common.{sym, ap, ◌∙◌, eq-eqb, ne_eqb}
 use Rattle.table.specs.Pick.{pick}
 use Rattle.rules.specs.State.{entry}
 use Rattle.rules.specs.Step.{answered, taken}

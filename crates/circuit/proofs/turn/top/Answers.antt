@@ -1,5 +1,5 @@
 -- `turn::top` meets its contract: main's root is a node.
-use Rattle.std.proofs.Common.{sym, ap, ◌∙◌, subst, arith, rules}
+use Rattle.std.proofs.Common.{sym, ap, ◌∙◌, subst, arith}
 use Rattle.table.specs.Bytes.{functions, root}
 use Rattle.table.specs.Working.{IsFunction}
 use Rattle.table.proofs.Reading.{told_main, told_root}

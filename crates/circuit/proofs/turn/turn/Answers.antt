@@ -1,6 +1,6 @@
 -- `turn::turn` meets its contract: each way out is one line of `circuit_of`, by a law of `TurnLaws`.
 use Rattle.table.proofs.Reading.{told_last}
-use Rattle.std.proofs.Common.{◌≡◌, sym, refl, ◌∙◌, true≢false, arith, rules}
+use Rattle.std.proofs.Common.{◌≡◌, sym, refl, ◌∙◌, true≢false, arith}
 use Rattle.table.specs.Working.{IsNode}
 use Rattle.rules.specs.State.{State512}
 use Rattle.rules.specs.Step.{Act, Stepped}

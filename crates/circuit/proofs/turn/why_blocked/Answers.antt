@@ -1,5 +1,5 @@
 -- `turn::why_blocked` meets its contract.
-use Rattle.std.proofs.Common.{sym, ◌∙◌, rules}
+use Rattle.std.proofs.Common.{sym, ◌∙◌}
 use Rattle.circuit.proofs.turn.why_blocked.Goals as goal
 
 pub returns-then-marks : goal.returns-then-marks

@@ -1,5 +1,5 @@
 -- `turn::why_not` meets its contract: by the sort of the step, and whether the callee is occupied.
-use Rattle.std.proofs.Common.{ℕ, List, sym, ◌∙◌, rules}
+use Rattle.std.proofs.Common.{ℕ, List, sym, ◌∙◌}
 use Rattle.rules.specs.State.{State512}
 use Rattle.rules.specs.Circuit.{act_of}
 use Rattle.circuit.specs.Meaning.{state_as}

@@ -1,5 +1,5 @@
 -- `widths::cut` meets its contract: a width is at most 32, so that 64 bits hold 2^w.
-use Rattle.std.proofs.Common.{◌*◌, ◌%◌, ◌^◌, arith, rules}
+use Rattle.std.proofs.Common.{◌*◌, ◌%◌, ◌^◌, arith}
 use native.Mathlib.Nat.{mod-le}
 use Rattle.circuit.proofs.WidthLaws.{over_some, cut_is}
 use Rattle.circuit.proofs.widths.cut.Goals as goal

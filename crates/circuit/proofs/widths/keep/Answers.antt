@@ -1,5 +1,5 @@
 -- `widths::keep` meets its contract: by the width that is read of the function's cells.
-use Rattle.std.proofs.Common.{ap, ◌∙◌, rules}
+use Rattle.std.proofs.Common.{ap, ◌∙◌}
 use Rattle.rules.specs.Arithmetic.{narrow}
 use Rattle.circuit.proofs.WidthLaws.{is_width, few}
 use Rattle.circuit.proofs.widths.keep.Goals as goal
