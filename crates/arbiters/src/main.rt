@@ -1,68 +1,34 @@
 // The list program: reads a design table from standard input and prints its arbiter list, or what it is refused for.
+#![tactic(auto)]
+
 ghost use Rattle.std.specs.Prelude.{◌≤◌};
 
-use libc::{STDERR_FILENO, STDIN_FILENO, STDOUT_FILENO};
 use list::{Listing, Record};
+use std::env::{Env, FillError};
+use std::io;
 use table::{Checked, Function, Node};
 
-fn text(s: &[u8]) {
-    io::write_all(STDOUT_FILENO, s);
-}
-
-fn complain(s: &[u8]) {
-    io::write_all(STDERR_FILENO, s);
-}
-
-fn number(n: u64) {
-    io::print_decimal(STDOUT_FILENO, n);
-}
-
-fn function(f: Function) {
-    number(f.0 as u64);
-}
-
-fn node(n: Node) {
-    number(n.0 as u64);
-}
-
-fn refused(k: u8, place: Node) {
-    text(b"refused ");
-    number(k as u64);
-    text(b" ");
-    node(place);
-    text(b"\n");
+fn refused(rt: &impl Print, k: u8, place: Node) -> io::Result<()> {
+    println!(rt; "refused {k} {}", place.0)
 }
 
 // F and N: the numbers of main and of the last node.
-fn design(main: Function, last: Node) {
-    text(b"design ");
-    function(main);
-    text(b" ");
-    node(last);
-    text(b"\n");
+fn design(rt: &impl Print, main: Function, last: Node) -> io::Result<()> {
+    println!(rt; "design {} {}", main.0, last.0)
 }
 
-fn arbiter(r: Record) {
-    text(b"arbiter ");
-    function(r.callee);
-    text(b" ");
-    function(r.caller);
-    text(b" ");
-    node(r.node);
-    text(b"\n");
+fn arbiter(rt: &impl Print, r: Record) -> io::Result<()> {
+    println!(rt; "arbiter {} {} {}", r.callee.0, r.caller.0, r.node.0)
 }
 
 // The lines of the records, in order.
-fn arbiters(found: Listing)
+fn arbiters(rt: &impl Print, found: Listing) -> io::Result<()>
     requires { found.count ≤ 512 }
 {
-    let count = found.count;
-    let mut i: usize = 0;
-    while i < count {
-        let r = found.items[i];
-        arbiter(r);
-        i += 1;
+    for r in &found.items[..found.count] {
+        arbiter(rt, *r)?;
     }
+    Ok(())
 }
 
 // The number of bits set in the tag list, filled in a list that is lent.
@@ -71,46 +37,46 @@ fn counted(table: &[u8], tags: &mut [u8]) -> u64 {
     list::total(tags)
 }
 
-fn total(table: &[u8], last: Node)
+fn total(rt: &impl Print, table: &[u8], last: Node) -> io::Result<()>
     requires { last.0 ≤ 512 }
 {
     let mut tags = [0u8; 64];
     let len = ((last.0 as usize) + 7) / 8;
     let n = counted(table, &mut tags[..len]);
-    text(b"total ");
-    number(n);
-    text(b"\n");
+    println!(rt; "total {n}")
 }
 
-fn show(table: &[u8]) {
+fn show(rt: &impl Print, table: &[u8]) -> io::Result<()> {
     let found = list::list_records(table);
-    let checked = found.checked;
-    match checked {
-        Checked::Refused(k, place) => refused(k, place),
+    match found.checked {
+        Checked::Refused(k, place) => refused(rt, k, place),
         Checked::Accepted(main, last) => {
-            design(main, last);
-            arbiters(found);
-            total(table, last);
+            design(rt, main, last)?;
+            arbiters(rt, found)?;
+            total(rt, table, last)
         }
     }
 }
 
 // The longest table has 5252 bytes: one byte more tells that the input is longer than any.
-fn list() {
+fn list(rt: &(impl Input + Print + Eprint)) -> io::Result<()> {
     let mut input = [0u8; 5253];
-    let got = intake::whole(STDIN_FILENO, &mut input);
+    let got = intake::whole(&mut rt.reader(), &mut input);
     if got.failed {
-        complain(b"arbiters: standard input can't be read\n");
-        return;
+        return eprintln!(rt; "arbiters: standard input can't be read");
     }
-    let n = got.count;
-    show(&input[..n]);
+    show(rt, &input[..got.count])
 }
 
-fn main() {
-    if 1 < os::arg_count() {
-        complain(b"usage: arbiters < FILE.table\n");
+// Whether the program was called with an argument, if only an empty one.
+fn has_argument(rt: &impl Env) -> bool {
+    !matches!(rt.arg(1, &mut []), Err(FillError::NotPresent))
+}
+
+fn main(rt: HostRuntime) -> io::Result<()> {
+    if has_argument(&rt) {
+        eprintln!(rt; "usage: arbiters < FILE.table")
     } else {
-        list();
+        list(&rt)
     }
 }

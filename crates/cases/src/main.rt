@@ -1,9 +1,12 @@
 // The designs of document 01 that are run and not proved: what the check says at the limits.
-use libc::{STDERR_FILENO, STDOUT_FILENO};
+#![tactic(auto)]
+
+use std::env::{Env, FillError};
+use std::io;
 use table::{Checked, Function, Node};
 
 // A table in the making, with room for the longest and a few bytes more.
-#[derive(Drop)]
+#[derive(Clone, Copy)]
 struct Bytes {
     at: [u8; 5260],
 }
@@ -74,61 +77,37 @@ fn largest() -> Bytes {
     node(t, main, Node(512), 1, 0, 7, Node(0))
 }
 
-fn number(n: u64) {
-    io::write_all(STDOUT_FILENO, b" ");
-    io::print_decimal(STDOUT_FILENO, n);
-}
-
-fn say_function(f: Function) {
-    number(f.0 as u64);
-}
-
-fn say_node(n: Node) {
-    number(n.0 as u64);
-}
-
 // One line: the case, and what the check says of the bytes.
-fn say(case: &[u8], bytes: &[u8]) {
-    io::write_all(STDOUT_FILENO, case);
-    let c = table::check(bytes);
-    match c {
-        Checked::Accepted(f, n) => {
-            io::write_all(STDOUT_FILENO, b": accepted");
-            say_function(f);
-            say_node(n);
-        }
-        Checked::Refused(k, p) => {
-            io::write_all(STDOUT_FILENO, b": refused");
-            number(k as u64);
-            say_node(p);
-        }
+fn say(rt: &impl Print, case: &str, bytes: &[u8]) -> io::Result<()> {
+    match table::check(bytes) {
+        Checked::Accepted(f, n) => println!(rt; "{case}: accepted {} {}", f.0, n.0),
+        Checked::Refused(k, p) => println!(rt; "{case}: refused {k} {}", p.0),
     }
-    io::write_all(STDOUT_FILENO, b"\n");
 }
 
 // The same of the first `len` bytes.
-fn first(case: &[u8], table: Bytes, len: usize) {
-    let bytes = table.at;
+fn first(rt: &impl Print, case: &str, table: Bytes, len: usize) -> io::Result<()> {
     if len <= 5260 {
-        say(case, &bytes[..len]);
+        say(rt, case, &table.at[..len])?;
     }
+    Ok(())
 }
 
-fn limits() {
+fn limits(rt: &impl Print) -> io::Result<()> {
     let t = largest();
-    first(b"32 functions, 512 nodes", t, 5252);
-    first(b"a byte too many", t, 5253);
-    first(b"a byte too few", t, 5251);
-    first(b"33 functions", sizes(t, Function(33), Node(512)), 5252);
-    first(b"no function", sizes(t, Function(0), Node(512)), 5252);
-    first(b"513 nodes", sizes(t, Function(32), Node(513)), 5252);
-    first(b"no node", sizes(t, Function(32), Node(0)), 5252);
-    first(b"3 bytes", t, 3);
-    first(b"no byte", t, 0);
+    first(rt, "32 functions, 512 nodes", t, 5252)?;
+    first(rt, "a byte too many", t, 5253)?;
+    first(rt, "a byte too few", t, 5251)?;
+    first(rt, "33 functions", sizes(t, Function(33), Node(512)), 5252)?;
+    first(rt, "no function", sizes(t, Function(0), Node(512)), 5252)?;
+    first(rt, "513 nodes", sizes(t, Function(32), Node(513)), 5252)?;
+    first(rt, "no node", sizes(t, Function(32), Node(0)), 5252)?;
+    first(rt, "3 bytes", t, 3)?;
+    first(rt, "no byte", t, 0)
 }
 
 // Main of one constant, with this many parameters; then main() = f() with f() = 5.
-fn parameters() {
+fn parameters(rt: &impl Print) -> io::Result<()> {
     let f = Function(1);
     let n = Node(1);
     let one = node(
@@ -140,8 +119,8 @@ fn parameters() {
         5,
         Node(0),
     );
-    first(b"eight parameters", function(one, f, 8, n), 18);
-    first(b"nine parameters", function(one, f, 9, n), 18);
+    first(rt, "eight parameters", function(one, f, 8, n), 18)?;
+    first(rt, "nine parameters", function(one, f, 9, n), 18)?;
     let main = Function(2);
     let last = Node(2);
     let two = function(
@@ -152,17 +131,23 @@ fn parameters() {
     );
     let called = node(two, main, n, 1, 0, 5, Node(0));
     first(
-        b"a call with no argument",
+        rt,
+        "a call with no argument",
         node(called, main, last, 4, 0, 1, Node(0)),
         32,
-    );
+    )
 }
 
-fn main() {
-    if 1 < os::arg_count() {
-        io::write_all(STDERR_FILENO, b"usage: cases\n");
+// Whether the program was called with an argument, if only an empty one.
+fn has_argument(rt: &impl Env) -> bool {
+    !matches!(rt.arg(1, &mut []), Err(FillError::NotPresent))
+}
+
+fn main(rt: HostRuntime) -> io::Result<()> {
+    if has_argument(&rt) {
+        eprintln!(rt; "usage: cases")
     } else {
-        limits();
-        parameters();
+        limits(&rt)?;
+        parameters(&rt)
     }
 }

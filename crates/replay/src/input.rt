@@ -1,12 +1,15 @@
 // What the program is given: its arguments and the table file.
 ghost use Rattle.std.specs.Prelude.{◌≡◌, ◌≤◌, length};
-ghost use Rattle.io.specs.Counts.{IsPrefixLen};
+ghost use Rattle.intake.specs.Given.{IsPrefixLen};
 
 use intake::Intake;
+use std::env::{Env, FillError};
+use std::fs;
+use std::rt::Files;
 use table::Node;
 
 // A log of asked nodes, a run, or a run that tells its nodes.
-#[derive(Drop)]
+#[derive(Clone, Copy)]
 pub enum Form {
     Log,
     Run,
@@ -14,7 +17,7 @@ pub enum Form {
 }
 
 // Main's arguments; a count of 10 says that one of them is no number, and 9 stands for any count above 8.
-#[derive(Drop)]
+#[derive(Clone, Copy)]
 pub struct Numbers {
     pub values: [u32; 9],
     pub count: usize,
@@ -26,10 +29,9 @@ pub(crate) fn asked(low: u8, high: u8) -> Node {
 }
 
 // What the first argument asks for: --run, --trace, or, where it is neither, a log.
-pub(crate) fn chosen() -> Form {
+pub(crate) fn chosen(rt: &impl Env) -> Form {
     let mut word = [0u8; 7];
-    os::arg(1, &mut word);
-    if os::errno() != 0 {
+    if rt.arg(1, &mut word).is_err() {
         return Form::Log;
     }
     if same(&word, b"--run\0\0") {
@@ -52,13 +54,17 @@ fn same(word: &[u8; 7], other: &[u8; 7]) -> bool {
     true
 }
 
+// Whether argument i is there, if only an empty one.
+fn is_given(rt: &impl Env, i: usize) -> bool {
+    !matches!(rt.arg(i, &mut []), Err(FillError::NotPresent))
+}
+
 // Whether argument i is there and is no option. Its first two bytes are looked at, which stand in the word also where it is longer.
-pub(crate) fn names_file(i: usize) -> bool {
-    if os::arg_count() <= i {
+pub(crate) fn names_file(rt: &impl Env, i: usize) -> bool {
+    let mut word = [0u8; 2];
+    if let Err(FillError::NotPresent) = rt.arg(i, &mut word) {
         return false;
     }
-    let mut word = [0u8; 2];
-    os::arg(i, &mut word);
     !is_option(word)
 }
 
@@ -70,29 +76,24 @@ fn is_option(word: [u8; 2]) -> bool {
 }
 
 // The file that argument i names. What does not open is as unreadable as what opens and can't be read, a directory.
-pub(crate) fn table(i: usize, room: &mut [u8]) -> Intake
+pub(crate) fn table(rt: &(impl Env + Files), i: usize, room: &mut [u8]) -> Intake
     ensures { IsPrefixLen result.count room.new }
 {
-    let fd = opened(i);
-    if fd < 0 {
-        return Intake {
+    match opened(rt, i) {
+        Some(mut file) => intake::whole(&mut file, room),
+        None => Intake {
             count: 0,
             failed: true,
-        };
+        },
     }
-    let got = intake::whole(fd, room);
-    libc::close(fd);
-    got
 }
 
-// The file that argument i names, open; -1 where it does not open.
-fn opened(i: usize) -> i32 {
-    let mut path = io::buffer();
-    let n = os::arg(i, &mut path);
-    if os::errno() != 0 {
-        return -1;
-    }
-    os::open_read(&path[..n])
+// The file that argument i names, open; none where it does not open. std opens no path that is not UTF-8.
+fn opened<R: Env + Files>(rt: &R, i: usize) -> Option<R::File> {
+    let mut path = [0u8; 4096];
+    let n = rt.arg(i, &mut path).ok()?;
+    let path = str::from_utf8(&path[..n]).ok()?;
+    fs::open(rt, path).ok()
 }
 
 // Room for a log and one byte more.
@@ -103,16 +104,17 @@ pub(crate) fn room() -> [u8; 1048577]
 }
 
 // The arguments from `first` on.
-pub(crate) fn arguments(first: usize) -> Numbers
+pub(crate) fn arguments(rt: &impl Env, first: usize) -> Numbers
     requires { first ≤ 3 }
     ensures { result.count ≤ 10 }
 {
     let mut values = [0u32; 9];
-    let count = os::arg_count();
     let mut k: usize = 0;
-    let mut i = first;
-    while i < count {
-        let p = parsed(i);
+    for i in first..usize::MAX {
+        if !is_given(rt, i) {
+            break;
+        }
+        let p = parsed(rt, i);
         if 4294967295 < p {
             return Numbers { values, count: 10 };
         }
@@ -120,7 +122,6 @@ pub(crate) fn arguments(first: usize) -> Numbers
             values[k] = low(p);
             k += 1;
         }
-        i += 1;
     }
     Numbers { values, count: k }
 }
@@ -130,13 +131,12 @@ fn low(p: u64) -> u32 {
 }
 
 // Argument i as a decimal number, 4294967296 where it is none.
-fn parsed(i: usize) -> u64 {
+fn parsed(rt: &impl Env, i: usize) -> u64 {
     let mut word = [0u8; 16];
-    let n = os::arg(i, &mut word);
-    if os::errno() != 0 {
-        return 4294967296;
+    match rt.arg(i, &mut word) {
+        Ok(n) => decimal(&word[..n]),
+        Err(_) => 4294967296,
     }
-    decimal(&word[..n])
 }
 
 fn decimal(word: &[u8]) -> u64

@@ -1,5 +1,7 @@
 // Plays a log of asked nodes on the circuit of a table file, under the table's own arbiter list, and prints each answer and the state.
 // With --run or --trace first it reads no log and takes the first possible step again and again; with --trace it prints their nodes.
+#![tactic(auto)]
+
 mod input;
 mod output;
 
@@ -7,60 +9,74 @@ ghost use Rattle.std.specs.Prelude.{◌≤◌};
 
 use circuit::types::{Found, Opening, Started, State};
 use input::Form;
+use std::env::Env;
+use std::io;
+use std::rt::Files;
 use table::{Function, Node, read};
 
-fn main() {
-    let form = input::chosen();
+fn main(rt: HostRuntime) -> io::Result<()> {
+    let form = input::chosen(&rt);
     match form {
-        Form::Log => prepare(1, form),
-        _ => prepare(2, form),
+        Form::Log => prepare(&rt, 1, form),
+        _ => prepare(&rt, 2, form),
     }
 }
 
 // The table is named by argument `first`, main's arguments follow it.
-fn prepare(first: usize, form: Form)
+fn prepare(
+    rt: &(impl Env + Files + Input + Print + Eprint),
+    first: usize,
+    form: Form,
+) -> io::Result<()>
     requires { first ≤ 2 }
 {
-    if !input::names_file(first) {
-        output::fail(b"usage: replay [--run | --trace] FILE.table ARGUMENTS..\n");
-        return;
+    if !input::names_file(rt, first) {
+        return eprintln!(rt; "usage: replay [--run | --trace] FILE.table ARGUMENTS..");
     }
     let mut file = [0u8; 5253];
-    let got = input::table(first, &mut file);
+    let got = input::table(rt, first, &mut file);
     if got.failed {
-        output::fail(b"replay: the table file can't be read\n");
-        return;
+        return eprintln!(rt; "replay: the table file can't be read");
     }
-    let size = got.count;
-    let n = input::arguments(first + 1);
-    let count = n.count;
-    let values = n.values;
-    if 9 < count {
-        output::fail(b"replay: an argument is no number from 0 to 4294967295\n");
-        return;
+    let n = input::arguments(rt, first + 1);
+    if 9 < n.count {
+        return eprintln!(rt; "replay: an argument is no number from 0 to 4294967295");
     }
-    equip(&file[..size], values, count, form);
+    equip(rt, &file[..got.count], n.values, n.count, form)
 }
 
 // A tag list as long as the table's, to be lent.
-fn equip(table: &[u8], values: [u32; 9], count: usize, form: Form)
+fn equip(
+    rt: &(impl Input + Print + Eprint),
+    table: &[u8],
+    values: [u32; 9],
+    count: usize,
+    form: Form,
+) -> io::Result<()>
     requires { count ≤ 9 }
 {
     let mut tags = [0u8; 64];
     let len = tag_length(table);
-    begin(table, &mut tags[..len], values, count, form);
+    begin(rt, table, &mut tags[..len], values, count, form)
 }
 
 // The circuit's start under the table's own list.
-fn begin(table: &[u8], tags: &mut [u8], values: [u32; 9], count: usize, form: Form)
+fn begin(
+    rt: &(impl Input + Print + Eprint),
+    table: &[u8],
+    tags: &mut [u8],
+    values: [u32; 9],
+    count: usize,
+    form: Form,
+) -> io::Result<()>
     requires { count ≤ 9 }
 {
     list::fill_tags(table, tags);
     let s = circuit::start(table, tags, &values[..count], blank());
     match form {
-        Form::Log => log(table, tags, s),
-        Form::Run => run(table, tags, s),
-        Form::Trace => trace(table, tags, s),
+        Form::Log => log(rt, table, tags, s),
+        Form::Run => run(rt, table, tags, s),
+        Form::Trace => trace(rt, table, tags, s),
     }
 }
 
@@ -76,33 +92,33 @@ fn blank() -> State {
 }
 
 // The log whole, before anything is printed.
-fn log(table: &[u8], tags: &[u8], s: Started) {
+fn log(
+    rt: &(impl Input + Print + Eprint),
+    table: &[u8],
+    tags: &[u8],
+    s: Started,
+) -> io::Result<()> {
     let mut asked = input::room();
-    let got = intake::whole(libc::STDIN_FILENO, &mut asked);
+    let got = intake::whole(&mut rt.reader(), &mut asked);
     if got.failed {
-        output::fail(b"replay: the log on standard input can't be read\n");
-        return;
+        return eprintln!(rt; "replay: the log on standard input can't be read");
     }
     let size = got.count;
     if 1048576 < size {
-        output::fail(b"replay: the log is longer than 1048576 bytes\n");
-        return;
+        return eprintln!(rt; "replay: the log is longer than 1048576 bytes");
     }
     if size % 2 == 1 {
-        output::fail(b"replay: the log's length is odd\n");
-        return;
+        return eprintln!(rt; "replay: the log's length is odd");
     }
-    answer(table, tags, s, &asked[..size]);
+    answer(rt, table, tags, s, &asked[..size])
 }
 
-fn answer(table: &[u8], tags: &[u8], s: Started, asked: &[u8]) {
-    let opening = s.opening;
-    let state = s.state;
-    match opening {
-        Opening::Refused(number, place) => output::refused(number, place),
+fn answer(rt: &impl Print, table: &[u8], tags: &[u8], s: Started, asked: &[u8]) -> io::Result<()> {
+    match s.opening {
+        Opening::Refused(number, place) => output::refused(rt, number, place),
         Opening::Opened => {
-            output::line(b"started");
-            play(table, tags, state, asked);
+            println!(rt; "started")?;
+            play(rt, table, tags, s.state, asked)
         }
     }
 }
@@ -132,7 +148,7 @@ fn tag_length(table: &[u8]) -> usize
 }
 
 // Each asked node, then how many were taken and the state.
-fn play(table: &[u8], tags: &[u8], start: State, asked: &[u8]) {
+fn play(rt: &impl Print, table: &[u8], tags: &[u8], start: State, asked: &[u8]) -> io::Result<()> {
     let mut state = start;
     let mut taken: u64 = 0;
     let mut i: usize = 0;
@@ -143,102 +159,95 @@ fn play(table: &[u8], tags: &[u8], start: State, asked: &[u8]) {
             state,
             input::asked(asked[2 * i], asked[2 * i + 1]),
         );
-        let answer = r.answer;
         state = r.state;
-        taken = std::num::wrapping_add_u64(taken, output::answer(answer));
+        taken = taken.wrapping_add(output::answer(rt, r.answer)?);
         i += 1;
     }
-    output::count(taken);
-    show(table, state);
+    output::count(rt, taken)?;
+    show(rt, table, state)
 }
 
 // The entries of the table's nodes and functions.
-fn show(table: &[u8], s: State) {
+fn show(rt: &impl Print, table: &[u8], s: State) -> io::Result<()> {
     let end = last_node(table).0;
     let mut n: u16 = 0;
     while n < end {
         n = n + 1;
-        show_node(s, Node(n));
+        show_node(rt, s, Node(n))?;
     }
     let functions = last_function(table).0;
     let mut f: u16 = 0;
     while f < functions {
         f = f + 1;
-        show_function(s, Function(f));
+        show_function(rt, s, Function(f))?;
     }
+    Ok(())
 }
 
-fn show_node(s: State, n: Node) {
+fn show_node(rt: &impl Print, s: State, n: Node) -> io::Result<()> {
     if n.0 == 0 {
-        return;
+        return Ok(());
     }
     if 512 < n.0 {
-        return;
+        return Ok(());
     }
     let i = (n.0 - 1) as usize;
-    output::node(n, s.status[i], s.second[i], s.value[i]);
+    output::node(rt, n, s.status[i], s.second[i], s.value[i])
 }
 
-fn show_function(s: State, f: Function) {
+fn show_function(rt: &impl Print, s: State, f: Function) -> io::Result<()> {
     if f.0 == 0 {
-        return;
+        return Ok(());
     }
     if 32 < f.0 {
-        return;
+        return Ok(());
     }
     let occupant = s.occupant[(f.0 - 1) as usize];
-    let registers = s.registers;
-    output::function(f, occupant, &registers);
+    output::function(rt, f, occupant, &s.registers)
 }
 
 // The first possible step, again and again, as often as there is one.
-fn run(table: &[u8], tags: &[u8], s: Started) {
-    let opening = s.opening;
-    let state = s.state;
-    match opening {
-        Opening::Refused(number, place) => output::refused(number, place),
+fn run(rt: &impl Print, table: &[u8], tags: &[u8], s: Started) -> io::Result<()> {
+    match s.opening {
+        Opening::Refused(number, place) => output::refused(rt, number, place),
         Opening::Opened => {
-            let r = circuit::drive(table, tags, state, 4294967295);
-            let ended = r.ended;
-            output::ended(ended);
-            output::count(r.steps as u64);
+            let r = circuit::drive(table, tags, s.state, 4294967295);
+            output::ended(rt, r.ended)?;
+            output::count(rt, r.steps as u64)
         }
     }
 }
 
 // The same steps one by one, each at the node that the query names.
-fn trace(table: &[u8], tags: &[u8], s: Started) {
-    let opening = s.opening;
-    let state = s.state;
-    match opening {
-        Opening::Refused(number, place) => output::refused(number, place),
-        Opening::Opened => follow(table, tags, state),
+fn trace(rt: &impl Print, table: &[u8], tags: &[u8], s: Started) -> io::Result<()> {
+    match s.opening {
+        Opening::Refused(number, place) => output::refused(rt, number, place),
+        Opening::Opened => follow(rt, table, tags, s.state),
     }
 }
 
 // Up to where no step is possible, or until the highest budget is spent.
-fn follow(table: &[u8], tags: &[u8], start: State) {
+fn follow(rt: &impl Print, table: &[u8], tags: &[u8], start: State) -> io::Result<()> {
     let mut state = start;
     let mut taken: u64 = 0;
     while taken < 4294967295 {
         let n = first(table, tags, state);
         if n.0 == 0 {
-            return close(table, tags, state, taken);
+            return close(rt, table, tags, state, taken);
         }
-        output::step(n);
+        output::step(rt, n)?;
         let r = circuit::step(table, tags, state, n);
         state = r.state;
         taken += 1;
     }
-    close(table, tags, state, taken);
+    close(rt, table, tags, state, taken)
 }
 
 // A run with nothing to spend tells how the circuit stands.
-fn close(table: &[u8], tags: &[u8], s: State, taken: u64) {
+fn close(rt: &impl Print, table: &[u8], tags: &[u8], s: State, taken: u64) -> io::Result<()> {
     let r = circuit::drive(table, tags, s, 0);
-    let ended = r.ended;
-    output::ended(ended);
-    output::count(taken);
+    output::ended(rt, r.ended)?;
+    output::count(rt, taken)
 }
 
 // The node that the query names, 0 where there is none.

@@ -1,53 +1,42 @@
 // The sheet program: reads a design table from standard input and prints its arbiter sheet, or what it is refused for.
-use libc::{STDERR_FILENO, STDIN_FILENO, STDOUT_FILENO};
+#![tactic(auto)]
+
+use std::env::{Env, FillError};
+use std::io;
 use table::{Checked, Node};
 
-fn text(s: &[u8]) {
-    io::write_all(STDOUT_FILENO, s);
-}
-
-fn complain(s: &[u8]) {
-    io::write_all(STDERR_FILENO, s);
-}
-
 // As the list program says it.
-fn refused(k: u8, place: Node) {
-    text(b"refused ");
-    io::print_decimal(STDOUT_FILENO, k as u64);
-    text(b" ");
-    io::print_decimal(STDOUT_FILENO, place.0 as u64);
-    text(b"\n");
+fn refused(rt: &impl Print, k: u8, place: Node) -> io::Result<()> {
+    println!(rt; "refused {k} {}", place.0)
 }
 
-fn show(table: &[u8]) {
+fn show(rt: &impl Print, table: &[u8]) -> io::Result<()> {
     let sheet = pages::sheet_of(table);
-    let checked = sheet.checked;
-    match checked {
-        Checked::Refused(k, place) => refused(k, place),
-        Checked::Accepted(_, _) => {
-            let bytes = sheet.text;
-            let n = sheet.length;
-            text(&bytes[..n]);
-        }
+    match sheet.checked {
+        Checked::Refused(k, place) => refused(rt, k, place),
+        Checked::Accepted(_, _) => rt.write_all(&sheet.text[..sheet.length]),
     }
 }
 
 // The longest table has 5252 bytes: one byte more tells that the input is longer than any.
-fn print() {
+fn print(rt: &(impl Input + Print + Eprint)) -> io::Result<()> {
     let mut input = [0u8; 5253];
-    let got = intake::whole(STDIN_FILENO, &mut input);
+    let got = intake::whole(&mut rt.reader(), &mut input);
     if got.failed {
-        complain(b"sheet: standard input can't be read\n");
-        return;
+        return eprintln!(rt; "sheet: standard input can't be read");
     }
-    let n = got.count;
-    show(&input[..n]);
+    show(rt, &input[..got.count])
 }
 
-fn main() {
-    if 1 < os::arg_count() {
-        complain(b"usage: sheet < FILE.table\n");
+// Whether the program was called with an argument, if only an empty one.
+fn has_argument(rt: &impl Env) -> bool {
+    !matches!(rt.arg(1, &mut []), Err(FillError::NotPresent))
+}
+
+fn main(rt: HostRuntime) -> io::Result<()> {
+    if has_argument(&rt) {
+        eprintln!(rt; "usage: sheet < FILE.table")
     } else {
-        print();
+        print(&rt)
     }
 }
