@@ -143,7 +143,7 @@ by_reply r l f (denied k p) d = d k p refl
 from_fits : (t tags : List ℕ) (s : State512) (ns : List ℕ) → FitsHalt (run_from t tags s ns).halt
 unfolding run_from
 from_fits t tags s [] = tt
-from_fits t tags s (n ∷ ns) = by_reply _ _ (from_fits t tags (step_of t tags s n).state ns) _ (denied_fits t tags s n)
+from_fits t tags s (n ∷ ns) = by_reply (step_of t tags s n) _ (from_fits t tags (step_of t tags s n).state ns) _ (denied_fits t tags s n)
 
 pub run_fits : (t tags : List ℕ) (s : State512) (ns : List ℕ) → FitsHalt (run_of t tags s ns).halt
 unfolding run_of

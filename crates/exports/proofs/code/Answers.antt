@@ -2,8 +2,7 @@
 use mathlib.Core.Path.{sym, ap}
 use Rattle.exports.specs.Codes.{code_of}
 use Rattle.table.specs.Survey.{verdict_of}
-use borrow.Author.Rules.{rules}
 use Rattle.exports.proofs.code.Goals as goal
 
 pub returns-in-Refused : goal.returns-in-Refused
-returns-in-Refused c = sym (ap (λ x. code_of (verdict_of x)) c.c-1.given.1)
+returns-in-Refused c = sym (ap (λ x. code_of (verdict_of x)) c.in-Refused.is)

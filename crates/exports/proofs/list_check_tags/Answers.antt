@@ -1,7 +1,6 @@
 -- `list_check_tags` meets its contract: by the check of the tags and the code's promise.
 use mathlib.Core.Path.{ap, ◌∙◌}
 use Rattle.exports.specs.Codes.{code_of}
-use borrow.Author.Rules.{rules}
 use Rattle.exports.proofs.list_check_tags.Goals as goal
 
 pub returns : goal.returns

@@ -1,7 +1,6 @@
 -- `list_fill_tags` meets its contract: by the filling's promise and the code's.
 use mathlib.Core.Path.{ap, ◌∙◌}
 use Rattle.exports.specs.Codes.{code_of}
-use borrow.Author.Rules.{rules}
 use Rattle.exports.proofs.list_fill_tags.Goals as goal
 
 pub returns : goal.returns

@@ -27,13 +27,13 @@ packed-requires c = omega (arith, few _ c.list_records-l.result c.list_records-l
 
 pub returns-in-Refused : goal.returns-in-Refused
 returns-in-Refused c = let h = c.list_records-l.ensures in
-    c.refusal.ensures ∙ item_unlisted _ c.list_records-l.result h (size (search)) _ _ _ (sym h.told ∙ ap verdict_of c.checked-1.given.1)
+    c.refusal.ensures ∙ item_unlisted _ c.list_records-l.result h (size (search)) _ _ _ (sym h.told ∙ ap verdict_of c.in-Refused.is)
 
 pub returns-then-index-l : goal.returns-then-index-l
 returns-then-index-l c = let h = c.list_records-l.ensures in
-    item_at _ c.list_records-l.result h (size (search)) _ _ (sym h.told ∙ ap verdict_of c.enum_told-1.given.1) _ _ c.packed.ensures
+    item_at _ c.list_records-l.result h (size (search)) _ _ (sym h.told ∙ ap verdict_of c.in-Accepted.is) _ _ c.packed.ensures
     c.if-index-l.true
 
 pub returns-else-index-l : goal.returns-else-index-l
 returns-else-index-l c = let h = c.list_records-l.ensures in
-    item_past _ c.list_records-l.result h (size (search)) _ _ (sym h.told ∙ ap verdict_of c.enum_told-1.given.1) _ c.if-index-l.false
+    item_past _ c.list_records-l.result h (size (search)) _ _ (sym h.told ∙ ap verdict_of c.in-Accepted.is) _ c.if-index-l.false

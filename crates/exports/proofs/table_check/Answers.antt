@@ -1,7 +1,6 @@
 -- `table_check` meets its contract: by the check's promise and the code's.
 use mathlib.Core.Path.{ap, ◌∙◌}
 use Rattle.exports.specs.Codes.{code_of}
-use borrow.Author.Rules.{rules}
 use Rattle.exports.proofs.table_check.Goals as goal
 
 pub returns : goal.returns

@@ -1,7 +1,6 @@
 -- `table_operation_counts` meets its contract: by the entry's promise.
 use mathlib.Core.Path.{ap}
 use Rattle.exports.specs.Codes.{counts_code}
-use borrow.Author.Rules.{rules}
 use Rattle.exports.proofs.table_operation_counts.Goals as goal
 
 pub returns : goal.returns

@@ -1,6 +1,5 @@
 -- `circuits::circuit_drive` meets its contract: the lent state is driven, and the answer is told as a number.
 use Rattle.exports.proofs.Told.{drive_told}
-use borrow.Author.Rules.{rules}
 use Rattle.exports.proofs.circuits.circuit_drive.Goals as goal
 
 pub returns : goal.returns

@@ -1,6 +1,5 @@
 -- `circuits::circuit_query` meets its contract: the lent state is asked, and the answer is told as a number.
 use Rattle.exports.proofs.Told.{query_told}
-use borrow.Author.Rules.{rules}
 use Rattle.exports.proofs.circuits.circuit_query.Goals as goal
 
 pub returns : goal.returns

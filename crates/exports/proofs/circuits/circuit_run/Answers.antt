@@ -1,6 +1,5 @@
 -- `circuits::circuit_run` meets its contract: the lent state is run, and the answer is told as a number.
 use Rattle.exports.proofs.Told.{run_told}
-use borrow.Author.Rules.{rules}
 use Rattle.exports.proofs.circuits.circuit_run.Goals as goal
 
 pub returns : goal.returns

@@ -1,6 +1,5 @@
 -- `circuits::circuit_start` meets its contract: the lent state is started, and the answer is told as a number.
 use Rattle.exports.proofs.Told.{start_told}
-use borrow.Author.Rules.{rules}
 use Rattle.exports.proofs.circuits.circuit_start.Goals as goal
 
 pub returns : goal.returns

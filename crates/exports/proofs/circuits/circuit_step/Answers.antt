@@ -1,6 +1,5 @@
 -- `circuits::circuit_step` meets its contract: the lent state is stepped, and the answer is told as a number.
 use Rattle.exports.proofs.Told.{step_told}
-use borrow.Author.Rules.{rules}
 use Rattle.exports.proofs.circuits.circuit_step.Goals as goal
 
 pub returns : goal.returns

@@ -2,8 +2,7 @@
 use mathlib.Core.Path.{ap, sym, ◌∙◌}
 use Rattle.circuit.specs.Meaning.{halt_of}
 use Rattle.exports.specs.Answers.{halt_code}
-use borrow.Author.Rules.{rules}
 use Rattle.exports.proofs.codes.halt.Goals as goal
 
 pub returns-in-Refused : goal.returns-in-Refused
-returns-in-Refused c = c.refusal.ensures ∙ sym (ap (λ x. halt_code (halt_of x)) c.a-1.given.1)
+returns-in-Refused c = c.refusal.ensures ∙ sym (ap (λ x. halt_code (halt_of x)) c.in-Refused.is)

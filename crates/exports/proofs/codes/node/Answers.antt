@@ -1,7 +1,6 @@
 -- `codes::node` meets its contract: by whether there is a node.
 use mathlib.Core.Path.{◌∙◌}
 use Rattle.exports.proofs.Told.{node_named}
-use borrow.Author.Rules.{rules}
 use Rattle.exports.proofs.codes.node.Goals as goal
 
 pub returns : goal.returns

@@ -5,7 +5,6 @@ use Rattle.table.specs.Survey.{verdict_of}
 use Rattle.pages.proofs.SheetLaws.{bytes_fit}
 use Rattle.exports.specs.Codes.{value_code}
 use Rattle.exports.proofs.Told.{sheet_refused, sheet_printed}
-use borrow.Author.Rules.{rules}
 use Rattle.exports.proofs.sheets.sheet_fill.Goals as goal
 
 pub overflow_add-result : goal.overflow_add-result
@@ -13,8 +12,8 @@ overflow_add-result c = record { fits = omega (arith, c.fill_sheet-filled.ensure
 
 pub returns-in-Refused : goal.returns-in-Refused
 returns-in-Refused c = let w = c.fill_sheet-filled.ensures in
-    (c.refusal.ensures ∙ sheet_refused _ _ _ (sym w.told ∙ ap verdict_of c.checked-1.given.1), w.text)
+    (c.refusal.ensures ∙ sheet_refused _ _ _ (sym w.told ∙ ap verdict_of c.in-Refused.is), w.text)
 
 pub returns-in-Accepted : goal.returns-in-Accepted
 returns-in-Accepted c = let w = c.fill_sheet-filled.ensures in
-    (ap value_code w.counted ∙ sheet_printed _ _ _ (sym w.told ∙ ap verdict_of c.enum_told-1.given.1), w.text)
+    (ap value_code w.counted ∙ sheet_printed _ _ _ (sym w.told ∙ ap verdict_of c.in-Accepted.is), w.text)
