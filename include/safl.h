@@ -1,6 +1,6 @@
 /* The proved functions for C and C++: the check of a SAFL design table, operations' child counts, the arbiter list and sheet, the circuit.
-   Link target/staticlib/libexports.a, which `rt staticlib exports` writes for x86-64 Linux. docs/RULES.md has the rules and the numbers of
-   the refusals, docs/FORMATS.md the bytes, examples/run.c a whole program.
+   Link crates/exports/out/libexports.a, which `rt lib` in crates/exports writes for x86-64 Linux. docs/RULES.md has the rules and the
+   numbers of the refusals, docs/FORMATS.md the bytes, examples/run.c a whole program.
 
    Memory is lent for the length of a call: nothing is kept, and nothing is allocated. A number beside a pointer counts elements, not bytes;
    no pointer is null, also where the number is 0. What a function writes to must not overlap anything else that the call is lent. Any bytes

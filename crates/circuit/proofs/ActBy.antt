@@ -1,5 +1,6 @@
 -- the step of a node, read off its record, is the step of its expression; and where the numbers in a record lead
-use Rattle.std.proofs.Common.{◌≡◌, ℕ, zero, suc, Bool, false, ◌&&◌, eqb, List, [], ◌∷◌, ◌++◌, map, sym, refl, ap, ◌∙◌, ap₂, arith, eq-eqb, ne_eqb}
+use Rattle.std.proofs.Common.{◌≡◌, ℕ, zero, suc, Bool, false, ◌&&◌, eqb, List, [], ◌∷◌, ◌++◌, map, sym, refl, ap, ◌∙◌, ap₂, arith, eq-eqb}
+use Rattle.std.proofs.Common.{ne_eqb}
 use Rattle.table.specs.Pick.{pick}
 use Rattle.table.specs.Environment.{values}
 use Rattle.table.specs.Syntax.{Expr, Exprs, none, some, id, roots, const, param, prim, call, self, cond, bind, bound}
@@ -34,7 +35,8 @@ open_by t value registers n =
 
 unfoldable pub prim_by : (t status value : List ℕ) → ℕ → Act
 prim_by t status value n =
-    pick (each_done (entry status 0) (children t n)) (does (finishes ((arithmetic t).result (owner t n) (extra t n) (given t value n)))) stuck
+    pick (each_done (entry status 0) (children t n)) (does (finishes ((arithmetic t).result (owner t n) (extra t n) (given t value n))))
+    stuck
 
 unfoldable pub self_by : (t status value : List ℕ) → ℕ → Act
 self_by t status value n = pick (each_done (entry status 0) (children t n))
@@ -242,7 +244,8 @@ module _ (t : List ℕ) (fair : Taken t) (n : ℕ) (i : IsNode t n) where
         (ap₂ (λ m r. pick (entry s.second false n) (pick (eqb (st r) 3) (does (finishes (va r))) stuck)
         (pick (eqb (st m) 3) (does (turns r)) stuck)) ea er ∙ sym (rw k refl))
 
-    as_bind : kind t n ≡ 6 → IsNode t (first t n) → expr_at t n ≡ bind n (defs_at t (first t n)) (final_at t (first t n)) → Is (act_by t s n)
+    as_bind : kind t n ≡ 6 → IsNode t (first t n) → expr_at t n ≡ bind n (defs_at t (first t n))
+        (final_at t (first t n)) → Is (act_by t s n)
     unfolding open_by opens busy_by bind_by children
     as_bind k a q =
         let f : Final t p (first t n) = final t p (first t n) a in

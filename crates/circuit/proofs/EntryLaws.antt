@@ -1,5 +1,6 @@
 -- the entries: occupants as numbers, 24, and the steps of a run
-use Rattle.std.proofs.Common.{◌≡◌, ℕ, suc, ◌+◌, ◌<◌, ◌≤◌, Bool, true, false, not, ◌||◌, T, List, [], ◌∷◌, map, length, get_or, drop, sym, refl, ap, ◌∙◌, subst, add-one, arith, drop_of_length-le, drop-cons}
+use Rattle.std.proofs.Common.{◌≡◌, ℕ, suc, ◌+◌, ◌<◌, ◌≤◌, Bool, true, false, not, ◌||◌, T, List, [], ◌∷◌, map, length, get_or, drop, sym}
+use Rattle.std.proofs.Common.{refl, ap, ◌∙◌, subst, add-one, arith, drop_of_length-le, drop-cons}
 use Rattle.table.specs.Bytes.{functions, nodes}
 use Rattle.table.specs.Check.{accepted, refused, stage}
 use Rattle.table.specs.declared.Node.{Node}
@@ -131,7 +132,8 @@ module _ (t tags : List ℕ) (ag : Agreed t tags) (s : State512) (ns : List ℕ)
     pub run_takes : r ≡ taken → plus i (run_from t tags s (drop i ns)) ≡ plus (i + 1) (run_from t tags s' (drop (i + 1) ns))
     run_takes q = run_on taken q one_more_lem
 
-    pub run_answers : {v : ℕ} → r ≡ answered v → plus i (run_from t tags s (drop i ns)) ≡ plus (i + 1) (run_from t tags s' (drop (i + 1) ns))
+    pub run_answers : {v : ℕ} → r ≡ answered v → plus i (run_from t tags s (drop i ns))
+        ≡ plus (i + 1) (run_from t tags s' (drop (i + 1) ns))
     run_answers {v} q = run_on (answered v) q one_more_lem
 
     pub run_stands : Stands t s → Stands t s'

@@ -24,7 +24,8 @@ use Rattle.circuit.proofs.GrowLaws.{grown}
 
 module _ (t : List ℕ) (fair : Taken t) (n : ℕ) (a w i a' w' i' : List ℕ) where
   pub begins_so : (h : List ℕ) → ((m : ℕ) → In m (opens t n) → IsNode t m)
-      → Arms (λ m. In m (opens t n)) (sets_as a w i h) (sets_as a' w' i' h) → Updates t n Plan.Begins n (sets_as a w i h) (sets_as a' w' i' h)
+      → Arms (λ m. In m (opens t n)) (sets_as a w i h) (sets_as a' w' i' h)
+      → Updates t n Plan.Begins n (sets_as a w i h) (sets_as a' w' i' h)
   begins_so h there y = record {
     again = λ v. refl;
     updated = λ v. record {

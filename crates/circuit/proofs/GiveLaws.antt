@@ -1,5 +1,7 @@
 -- the registers of a function, filled from a chain's values
-use Rattle.std.proofs.Common.{◌≡◌, ℕ, ◌+◌, ◌-◌, ◌*◌, ◌/◌, ◌%◌, ◌<◌, ◌≤◌, Bool, true, false, ◌&&◌, eqb, ltb, ◌⊎◌, List, [], ◌∷◌, map, length, get_or, drop, set, sym, refl, ap, ◌∙◌, subst, inl, inr, arith, length-set, get_or-drop, get_or-set_other, get_or-set_same, drop-drop, ext_get_or, ltb-false, lt-ltb, eq-eqb, ne_eqb}
+use Rattle.std.proofs.Common.{◌≡◌, ℕ, ◌+◌, ◌-◌, ◌*◌, ◌/◌, ◌%◌, ◌<◌, ◌≤◌, Bool, true, false, ◌&&◌, eqb, ltb, ◌⊎◌, List, [], ◌∷◌, map, length}
+use Rattle.std.proofs.Common.{get_or, drop, set, sym, refl, ap, ◌∙◌, subst, inl, inr, arith, length-set, get_or-drop, get_or-set_other}
+use Rattle.std.proofs.Common.{get_or-set_same, drop-drop, ext_get_or, ltb-false, lt-ltb, eq-eqb, ne_eqb}
 use native.Mathlib.Decide.{ℕ_discrete, dec_lt}
 use Rattle.table.proofs.Tests.{ltb_no}
 use Rattle.table.specs.Pick.{pick}

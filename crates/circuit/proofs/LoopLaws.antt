@@ -1,5 +1,6 @@
 -- the loop that takes steps, turn by turn: first steps where the sets are kept, else one step
-use Rattle.std.proofs.Common.{◌≡◌, ℕ, ◌+◌, ◌<◌, ◌≤◌, Bool, true, false, not, ◌&&◌, eqb, ltb, ◌⊎◌, List, length, sym, refl, ap, ◌∙◌, subst, ap₂, inl, inr, true≢false, arith, lt-ltb, ne_eqb}
+use Rattle.std.proofs.Common.{◌≡◌, ℕ, ◌+◌, ◌<◌, ◌≤◌, Bool, true, false, not, ◌&&◌, eqb, ltb, ◌⊎◌, List, length, sym, refl, ap, ◌∙◌, subst}
+use Rattle.std.proofs.Common.{ap₂, inl, inr, true≢false, arith, lt-ltb, ne_eqb}
 use Rattle.table.specs.Bytes.{functions, root}
 use Rattle.table.specs.Working.{IsNode}
 use Rattle.rules.specs.State.{State512, entry}

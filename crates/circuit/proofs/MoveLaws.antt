@@ -90,7 +90,8 @@ module _ (t : List ℕ) (fair : Taken t) (n : ℕ) (i : IsNode t n) (a : List �
         of = unfold cond_by in rw z (went (eqb (entry a 0 (branch_by t c n)) 3) _)
 
     pub cond_turn_done : kind t n ≡ 5 → entry b false n ≡ false → entry a 0 (first t n) ≡ 3
-    cond_turn_done k z = eqb-true (entry a 0 (first t n)) 3 (of (goes_as (cond_by t a b c n) (acts_cond t fair n i a b c d e _ busy k refl)))
+    cond_turn_done k z = eqb-true (entry a 0 (first t n)) 3 (of (goes_as (cond_by t a b c n)
+        (acts_cond t fair n i a b c d e _ busy k refl)))
       where
         of : goes (cond_by t a b c n) ≡ true → eqb (entry a 0 (first t n)) 3 ≡ true
         of = unfold cond_by in rw z (went (eqb (entry a 0 (first t n)) 3) _)

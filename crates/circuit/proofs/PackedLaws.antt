@@ -1,5 +1,7 @@
 -- packed sets written word by word or in one bit, and the lowest number that is in one
-use Rattle.std.proofs.Common.{◌≡◌, ℕ, zero, suc, ◌+◌, ◌-◌, ◌*◌, ◌/◌, ◌%◌, ◌^◌, ◌<◌, ◌≤◌, Bool, true, false, not, ◌&&◌, ◌||◌, eqb, List, length, get_or, set, sym, refl, ap, ◌∙◌, ap₂, pow-suc, arith, length-set, get_or-set_other, get_or-set_same, shr-shr, eq-eqb, ne_eqb}
+use Rattle.std.proofs.Common.{◌≡◌, ℕ, zero, suc, ◌+◌, ◌-◌, ◌*◌, ◌/◌, ◌%◌, ◌^◌, ◌<◌, ◌≤◌, Bool, true, false, not, ◌&&◌, ◌||◌, eqb, List}
+use Rattle.std.proofs.Common.{length, get_or, set, sym, refl, ap, ◌∙◌, ap₂, pow-suc, arith, length-set, get_or-set_other, get_or-set_same}
+use Rattle.std.proofs.Common.{shr-shr, eq-eqb, ne_eqb}
 use mathlib.Core.Bool.{xor}
 use native.Mathlib.Decide.{ℕ_discrete, dec_lt}
 use lib.Bits.{differ, bit_and, bit_or, bit_xor, xor_shr, xor_step}

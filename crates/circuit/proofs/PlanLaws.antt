@@ -1,5 +1,6 @@
 -- each way that the code takes to a plan, with what it read on the way
-use Rattle.std.proofs.Common.{◌≡◌, ℕ, zero, suc, ◌<◌, ◌≤◌, Bool, true, false, T, eqb, ◌⊎◌, List, [], ◌∷◌, map, get_or, sym, refl, ap, ◌∙◌, subst, ap₂, inl, inr, arith, eqb→eq, eq-eqb, ne_eqb}
+use Rattle.std.proofs.Common.{◌≡◌, ℕ, zero, suc, ◌<◌, ◌≤◌, Bool, true, false, T, eqb, ◌⊎◌, List, [], ◌∷◌, map, get_or, sym, refl, ap, ◌∙◌}
+use Rattle.std.proofs.Common.{subst, ap₂, inl, inr, arith, eqb→eq, eq-eqb, ne_eqb}
 use native.Mathlib.Decide.{ℕ_discrete}
 use Rattle.table.specs.Pick.{pick}
 use Rattle.table.specs.Bytes.{nodes, root, kind, extra, word, first, next}
@@ -28,7 +29,8 @@ module _ (status value : List ℕ) (r x : ℕ) (ex : x ≡ entry status 0 r) whe
   pass_no h = sym (rw (ne_eqb (entry status 0 r) 3 (λ z. h (ex ∙ z))) refl)
 
 -- a self call, and a primitive
-module _ (t status : List ℕ) (n c : ℕ) (ec : c ≡ first t n) (a : Bool) (ea : a ≡ each_done (entry status 0) (leading false (chain t c))) where
+module _ (t status : List ℕ) (n c : ℕ) (ec : c ≡ first t n) (a : Bool)
+    (ea : a ≡ each_done (entry status 0) (leading false (chain t c))) where
   kids : chain t c ≡ children t n
   unfolding children
   kids = ap (chain t) ec

@@ -1,5 +1,6 @@
 -- the third demand of what the entries return in a state that was reached from a start
-use Rattle.std.proofs.Common.{◌≡◌, ℕ, ◌+◌, ◌≤◌, List, [], ◌∷◌, ◌++◌, length, get_or, take, sym, refl, ap, ◌∙◌, subst, ap₂, inl, inr, ⊎_elim, length-append}
+use Rattle.std.proofs.Common.{◌≡◌, ℕ, ◌+◌, ◌≤◌, List, [], ◌∷◌, ◌++◌, length, get_or, take, sym, refl, ap, ◌∙◌, subst, ap₂, inl, inr, ⊎_elim}
+use Rattle.std.proofs.Common.{length-append}
 use Rattle.table.specs.Bytes.{functions, nodes}
 use Rattle.table.specs.Check.{accepted}
 use Rattle.rules.specs.State.{State512, In}
@@ -110,7 +111,8 @@ module _ (t tags args : List ℕ) where
         subst (Drives t tags (lists_of s) budget) (sym e) (drive_drives t tags (lists_of s) budget) in
         let d = drive_demand t tags args s₀ x.start steps budget (driven_of r)
         (subst (λ z. Drives t tags z budget (driven_of r)) (sym x.state) h) in
-        let p : Picks t tags (lists_of s) budget (driven_of r) = subst (λ c. DrivesAfter c t tags (lists_of s) budget (driven_of r)) stands h in
+        let p : Picks t tags (lists_of s) budget (driven_of r) =
+        subst (λ c. DrivesAfter c t tags (lists_of s) budget (driven_of r)) stands h in
         let ns = firsts_of t tags (lists_of s) r.steps in
         let z : Traced t tags (lists_of s) (driven_of r) =
         subst (Traced t tags (lists_of s)) (sym e) ((first_steps t tags (lists_of s)).traced budget) in

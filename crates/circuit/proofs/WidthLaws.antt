@@ -24,7 +24,8 @@ module _ (w : ℕ) (few : w ≤ 32) where
   cut_is v = ap (λ x. v % x) over_is
 
 -- a function's width, as it is read of its cells
-module _ (t cells : List ℕ) (rd : Read t cells) (f : ℕ) (i : IsFunction t f) (w : ℕ) (ew : w ≡ bits (cell_at cells (function_slot f) 1)) where
+module _ (t cells : List ℕ) (rd : Read t cells) (f : ℕ) (i : IsFunction t f) (w : ℕ)
+    (ew : w ≡ bits (cell_at cells (function_slot f) 1)) where
   pub is_width : w ≡ width t f
   is_width = told_width t cells rd f i w ew
 

@@ -44,7 +44,8 @@ module _ (t tags : List ℕ) where
   pub missing_named : (F N : ℕ) → check_with t tags ≡ accepted F N → (n : ℕ) → n ≡ missing_with t tags
       → found_code (found_at n) ≡ found_code (missing_of t tags)
   missing_named F N e n q =
-      ap (λ m. found_code (found_at m)) (q ∙ sym (missing_told t tags F N e)) ∙ sym (ap (λ v. found_code (query_after v (missing t tags))) e)
+      ap (λ m. found_code (found_at m)) (q ∙ sym (missing_told t tags F N e))
+      ∙ sym (ap (λ v. found_code (query_after v (missing t tags))) e)
 
 -- s is the state that was lent, s' the one left in the arrays
 pub start_told : (x : Started) (s : State512) (a : Opening) (s' : State512) {r : ℕ} → OpenedAs s a s' x → r ≡ start_code (opening_of a s')

@@ -1,5 +1,6 @@
 -- the bits of numbers: `|`, `&`, shifts, and the byte that a node's bit is in
-use Rattle.std.proofs.Common.{◌≡◌, ℕ, zero, suc, ◌+◌, ◌-◌, ◌*◌, ◌/◌, ◌%◌, ◌^◌, ◌<◌, ◌≤◌, min, max, false, ◌&&◌, ◌||◌, eqb, List, get_or, replicate, sym, refl, ap, ◌∙◌, mod-eq_of_lt, one-mul, pow-suc, arith, pow_pos, pow-add, eq-eqb, ne_eqb}
+use Rattle.std.proofs.Common.{◌≡◌, ℕ, zero, suc, ◌+◌, ◌-◌, ◌*◌, ◌/◌, ◌%◌, ◌^◌, ◌<◌, ◌≤◌, min, max, false, ◌&&◌, ◌||◌, eqb, List, get_or}
+use Rattle.std.proofs.Common.{replicate, sym, refl, ap, ◌∙◌, mod-eq_of_lt, one-mul, pow-suc, arith, pow_pos, pow-add, eq-eqb, ne_eqb}
 use native.Mathlib.Nat.{div_self, div-eq_of_lt, zero-div, div-div-eq-div-mul}
 use native.Mathlib.Decide.{dec_lt, ℕ_discrete}
 use lib.Pow.{pow-lt, shl-shr}

@@ -1,5 +1,6 @@
 -- the call sets and the conflicts of an accepted table: every call is of a function below main; a body's set; what a node's conflicts are
-use Rattle.std.proofs.Common.{◌≡◌, ℕ, zero, suc, ◌+◌, ◌-◌, ◌<◌, ◌≤◌, Bool, true, false, ◌&&◌, ◌||◌, eqb, List, sym, refl, ap, ◌∙◌, subst, ap₂, inl, inr, suc-add, arith, eq-eqb, ne_eqb}
+use Rattle.std.proofs.Common.{◌≡◌, ℕ, zero, suc, ◌+◌, ◌-◌, ◌<◌, ◌≤◌, Bool, true, false, ◌&&◌, ◌||◌, eqb, List, sym, refl, ap, ◌∙◌, subst}
+use Rattle.std.proofs.Common.{ap₂, inl, inr, suc-add, arith, eq-eqb, ne_eqb}
 use Rattle.table.specs.Pick.{pick, Range}
 use Rattle.table.specs.Syntax.{Expr, Exprs, const, param, prim, call, self, cond, bind, bound, none, some, Sub, Sub*}
 use Rattle.table.specs.Well.{CallIn, CallIn*}

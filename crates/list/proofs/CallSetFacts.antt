@@ -1,5 +1,6 @@
 -- a function's own set holds the calls of its body, and those of the bodies called in it
-use Rattle.std.proofs.Common.{◌≡◌, ℕ, zero, suc, ◌+◌, ◌-◌, ◌<◌, ◌≤◌, ◌⊎◌, sym, refl, ◌∙◌, subst, inl, inr, ⊎_elim, not-suc-le-zero, suc-add, arith}
+use Rattle.std.proofs.Common.{◌≡◌, ℕ, zero, suc, ◌+◌, ◌-◌, ◌<◌, ◌≤◌, ◌⊎◌, sym, refl, ◌∙◌, subst, inl, inr, ⊎_elim, not-suc-le-zero, suc-add}
+use Rattle.std.proofs.Common.{arith}
 use native.Mathlib.Decide.{ℕ_discrete}
 use Rattle.table.specs.Syntax.{Expr, Exprs, const, param, prim, call, self, cond, bind, bound, none, some}
 use Rattle.list.specs.Sets.{Calls}

@@ -111,7 +111,8 @@ module _ (t : List ℕ) (F N : ℕ) (check : check_of t ≡ accepted F N) where
   pub listed_stands : (n : ℕ) → listed t n ≡ true
       → (f : ℕ) × (g : ℕ) × Reached (functions t) (body_of t) f × CallIn n g (body_of t f)
   listed_stands n e =
-      listed_all (λ c. (f : ℕ) × (g : ℕ) × Reached (functions t) (body_of t) f × CallIn c g (body_of t f)) (functions t) (body_of t) (expr_at t)
+      listed_all (λ c. (f : ℕ) × (g : ℕ) × Reached (functions t) (body_of t) f × CallIn c g (body_of t f)) (functions t)
+      (body_of t) (expr_at t)
       (λ f r c g i. (f, g, r, i)) n ((listed_exactly n).0 e)
 
   pub listed_reached : (n : ℕ) → listed t n ≡ true → InReach t n

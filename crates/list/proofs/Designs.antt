@@ -10,7 +10,8 @@ use Rattle.list.specs.Records.{calls_from, records_from, records_of}
 
 -- what closed evaluation has to see through
 unfoldable pub list_open : Unit {0}
-unfolding syntax_open no_calls joined any_up_to calls_in meeting parallel conflicts calls_of reached_in listed_in is_call callee_of listed bits_from
+unfolding syntax_open no_calls joined any_up_to calls_in meeting parallel conflicts calls_of reached_in listed_in is_call
+    callee_of listed bits_from
     bytes_from tag_length tags_of calls_from records_from records_of
 list_open = tt
 

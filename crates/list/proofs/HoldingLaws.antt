@@ -1,5 +1,6 @@
 -- 26: which listed call has no tag, found byte by byte; where there is none the tags hold the list
-use Rattle.std.proofs.Common.{◌≡◌, ℕ, ◌+◌, ◌-◌, ◌*◌, ◌/◌, ◌%◌, ◌<◌, ◌≤◌, Bool, true, false, not, ◌||◌, T, ◌↔◌, List, length, get_or, sym, refl, ap, ◌∙◌, subst, ap₂, true≢false, arith}
+use Rattle.std.proofs.Common.{◌≡◌, ℕ, ◌+◌, ◌-◌, ◌*◌, ◌/◌, ◌%◌, ◌<◌, ◌≤◌, Bool, true, false, not, ◌||◌, T, ◌↔◌, List, length, get_or, sym}
+use Rattle.std.proofs.Common.{refl, ap, ◌∙◌, subst, ap₂, true≢false, arith}
 use native.Mathlib.Decide.{dec_le}
 use lib.Bits.{bit_or}
 use Rattle.table.specs.Bytes.{functions, nodes}

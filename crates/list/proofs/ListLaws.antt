@@ -1,5 +1,7 @@
 -- the conflicts found once main's body is walked are the list, and its bytes are the tag bytes
-use Rattle.std.proofs.Common.{◌≡◌, ℕ, zero, suc, ◌+◌, ◌-◌, ◌*◌, ◌/◌, ◌%◌, ◌^◌, ◌<◌, ◌≤◌, Bool, true, false, ◌&&◌, ◌||◌, eqb, leb, List, length, get_or, take, replicate, sym, refl, ap, ◌∙◌, subst, ap₂, true≢false, mul_comm, pow-suc, div-one, arith, length-take-le, get_or-take, ext_get_or, ne_eqb, le-leb}
+use Rattle.std.proofs.Common.{◌≡◌, ℕ, zero, suc, ◌+◌, ◌-◌, ◌*◌, ◌/◌, ◌%◌, ◌^◌, ◌<◌, ◌≤◌, Bool, true, false, ◌&&◌, ◌||◌, eqb, leb, List}
+use Rattle.std.proofs.Common.{length, get_or, take, replicate, sym, refl, ap, ◌∙◌, subst, ap₂, true≢false, mul_comm, pow-suc, div-one}
+use Rattle.std.proofs.Common.{arith, length-take-le, get_or-take, ext_get_or, ne_eqb, le-leb}
 use native.Mathlib.Nat.{div-div-eq-div-mul}
 use native.Mathlib.Decide.{ℕ_discrete}
 use Rattle.table.proofs.Tests.{and_no}
@@ -115,7 +117,8 @@ unfolding tag_length
 tags_short t ok = omega (arith, (passed t (functions t) (nodes t) ok).0.n_high)
 
 -- the first bytes of the set are the tag bytes
-module _ (t : List ℕ) (ok : Taken t) (found : List ℕ) (size : length found ≡ 64) (fits : (i : ℕ) → i < tag_length t → get_or found i 0 < 256)
+module _ (t : List ℕ) (ok : Taken t) (found : List ℕ) (size : length found ≡ 64)
+    (fits : (i : ℕ) → i < tag_length t → get_or found i 0 < 256)
     (is : (m : ℕ) → Bit m → tagged found m ≡ listed t m) where
   s : Test
   s n = leb n (nodes t) && listed t n

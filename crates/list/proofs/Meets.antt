@@ -1,5 +1,6 @@
 -- sets added one after the other, and the sites of the functions that a mask names, function by function
-use Rattle.std.proofs.Common.{◌≡◌, ℕ, zero, suc, ◌+◌, ◌-◌, ◌*◌, ◌/◌, ◌%◌, ◌^◌, ◌<◌, ◌≤◌, Bool, true, false, ◌&&◌, ◌||◌, eqb, List, length, get_or, replicate, sym, refl, ap, ◌∙◌, ap₂, pow-suc, add-one, arith, eq-eqb, ne_eqb}
+use Rattle.std.proofs.Common.{◌≡◌, ℕ, zero, suc, ◌+◌, ◌-◌, ◌*◌, ◌/◌, ◌%◌, ◌^◌, ◌<◌, ◌≤◌, Bool, true, false, ◌&&◌, ◌||◌, eqb, List, length}
+use Rattle.std.proofs.Common.{get_or, replicate, sym, refl, ap, ◌∙◌, ap₂, pow-suc, add-one, arith, eq-eqb, ne_eqb}
 use native.Mathlib.Nat.{div-eq_of_lt, div-div-eq-div-mul}
 use native.Mathlib.Decide.{dec_lt}
 use lib.Bits.{bit_or, bit_and}
@@ -53,7 +54,8 @@ pub record Unites (rows : List ℕ) (mask k left : ℕ) (all : List ℕ) : Type 
   pub bits : (m : ℕ) → Bit m → packed all m ≡ union_of rows mask h m
 
 module _ (rows : List ℕ) (mask : ℕ) where
-  union_next : (h m : ℕ) → union_of rows mask (h + 1) m ≡ (bit_at mask (h + 1) && packed rows (site_bit (h + 1) m)) || union_of rows mask h m
+  union_next : (h m : ℕ) → union_of rows mask (h + 1) m ≡ (bit_at mask (h + 1) && packed rows (site_bit (h + 1) m))
+      || union_of rows mask h m
   unfolding union_of any_up_to
   union_next h m = rw add-one refl
 
@@ -125,7 +127,8 @@ module _ (rows : List ℕ) (mask : ℕ) where
         same h = omega arith
     union_rest h (suc d) m l =
         ap (λ j. union_of rows mask j m) (next h d) ∙ union_next (h + d) m
-        ∙ ap (λ p. (p && packed rows (site_bit (h + d + 1) m)) || union_of rows mask (h + d) m) (high_bit mask h (h + d + 1) l (omega arith))
+        ∙ ap (λ p. (p && packed rows (site_bit (h + d + 1) m)) || union_of rows mask (h + d) m)
+        (high_bit mask h (h + d + 1) l (omega arith))
         ∙ union_rest h d m l
       where
         next : (h d : ℕ) → h + suc d ≡ h + d + 1

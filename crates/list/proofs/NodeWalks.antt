@@ -1,5 +1,6 @@
 -- what the walk of a node comes to, by its kind, from what it called
-use Rattle.std.proofs.Common.{◌≡◌, ℕ, ◌+◌, ◌*◌, ◌^◌, ◌<◌, ◌≤◌, true, false, eqb, List, length, get_or, set, replicate, sym, refl, ap, ◌∙◌, subst, arith}
+use Rattle.std.proofs.Common.{◌≡◌, ℕ, ◌+◌, ◌*◌, ◌^◌, ◌<◌, ◌≤◌, true, false, eqb, List, length, get_or, set, replicate, sym, refl, ap, ◌∙◌}
+use Rattle.std.proofs.Common.{subst, arith}
 use lib.Bits.{bit_or}
 use Rattle.table.specs.Bytes.{functions, nodes, root, kind, word, first}
 use Rattle.table.specs.Expressions.{expr_at, final_at}

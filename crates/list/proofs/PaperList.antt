@@ -112,7 +112,8 @@ module _ (t : List ℕ) (ok : Taken t) where
       let y = decided_in (body_of t f) m in
       (λ h. y.0 (sym e ∙ x.1 h), λ h. x.0 (e ∙ y.1 h))
 
-  a_in : (f n : ℕ) → Iff (A (callee_at (expr_at t)) (body_sets t) (body_of t f) n) (paper_a (callee_at (expr_at t)) (body_sets t) (body_of t f) n)
+  a_in : (f n : ℕ) → Iff (A (callee_at (expr_at t)) (body_sets t) (body_of t f) n)
+      (paper_a (callee_at (expr_at t)) (body_sets t) (body_of t f) n)
   a_in f n = a_paper (callee_at (expr_at t)) (body_sets t) n (body_of t f)
 
   whole : (n : ℕ) → Iff (Listed (body_of t) (expr_at t) (functions t) n) (PaperListed t n)

@@ -1,5 +1,6 @@
 -- PC from two masks: a call of the children's sets is in conflict exactly if its function is called in two of them
-use Rattle.std.proofs.Common.{◌≡◌, ℕ, zero, suc, ◌≤◌, Bool, true, false, not, ◌&&◌, ◌||◌, eqb, List, sym, refl, ap, ◌∙◌, ap₂, true≢false, arith, eq-eqb, eqb-true}
+use Rattle.std.proofs.Common.{◌≡◌, ℕ, zero, suc, ◌≤◌, Bool, true, false, not, ◌&&◌, ◌||◌, eqb, List, sym, refl, ap, ◌∙◌, ap₂, true≢false}
+use Rattle.std.proofs.Common.{arith, eq-eqb, eqb-true}
 use native.Mathlib.Decide.{ℕ_discrete}
 use Rattle.table.specs.Pick.{pick, Range}
 use Rattle.table.specs.Syntax.{Exprs, none, some}
@@ -159,7 +160,8 @@ module _ (t : List ℕ) where
         (λ q. member (calls_at* t es) m (r (or_right (calls_at t e m) (calls_at* t es m) q)) q) (twice_called es h)
 
     -- PC of the expressions' sets
-    pub parallel_is : (es : Exprs) → (calls_at* t es m ≡ true → Range (nodes t) m) → parallel_at t es m ≡ calls_at* t es m && twice_in t es h
+    pub parallel_is : (es : Exprs) → (calls_at* t es m ≡ true → Range (nodes t) m)
+        → parallel_at t es m ≡ calls_at* t es m && twice_in t es h
     unfolding parallel_at
     parallel_is es r =
         after_set no_calls es r ∙ ap (λ p. calls_at* t es m && (twice_in t es h || p)) (called_none no_calls h none_there)

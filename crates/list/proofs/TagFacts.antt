@@ -1,5 +1,7 @@
 -- the tag bytes of the arbiter list mark exactly the list, hold it, and are taken; 10 takes tags in order and no others
-use Rattle.std.proofs.Common.{◌≡◌, ℕ, zero, suc, ◌+◌, ◌-◌, ◌*◌, ◌/◌, ◌%◌, ◌^◌, ◌<◌, ◌≤◌, Bool, true, false, not, ◌&&◌, ◌||◌, T, eqb, leb, ◌↔◌, List, length, get_or, sym, refl, ap, ◌∙◌, subst, true≢false, add-suc, mul_comm, suc-add, pow-suc, div-one, arith, le→leb, eqb→eq}
+use Rattle.std.proofs.Common.{◌≡◌, ℕ, zero, suc, ◌+◌, ◌-◌, ◌*◌, ◌/◌, ◌%◌, ◌^◌, ◌<◌, ◌≤◌, Bool, true, false, not, ◌&&◌, ◌||◌, T, eqb, leb}
+use Rattle.std.proofs.Common.{◌↔◌, List, length, get_or, sym, refl, ap, ◌∙◌, subst, true≢false, add-suc, mul_comm, suc-add, pow-suc}
+use Rattle.std.proofs.Common.{div-one, arith, le→leb, eqb→eq}
 use native.Mathlib.Decide.{dec_le}
 use native.Mathlib.Nat.{div-div-eq-div-mul}
 use lib.Arith.{lt→nleb}

@@ -1,5 +1,6 @@
 -- refusal 10, case by case, and what a lent tag list holds then
-use Rattle.std.proofs.Common.{◌≡◌, ℕ, zero, suc, ◌+◌, ◌-◌, ◌*◌, ◌/◌, ◌<◌, Bool, true, false, not, ◌&&◌, ◌||◌, eqb, List, length, get_or, take, sym, refl, ap, ◌∙◌, subst, ap₂, arith, get_or-take, eq-eqb, ne_eqb}
+use Rattle.std.proofs.Common.{◌≡◌, ℕ, zero, suc, ◌+◌, ◌-◌, ◌*◌, ◌/◌, ◌<◌, Bool, true, false, not, ◌&&◌, ◌||◌, eqb, List, length, get_or}
+use Rattle.std.proofs.Common.{take, sym, refl, ap, ◌∙◌, subst, ap₂, arith, get_or-take, eq-eqb, ne_eqb}
 use Rattle.table.specs.Bytes.{functions, nodes, kind, word}
 use Rattle.table.specs.Naming.{owner}
 use Rattle.table.specs.Decoded.{cell_at, node_slot, table_slot}

@@ -1,5 +1,6 @@
 -- when a tag fits its node, from what was read of the node; and bytes that have no tag
-use Rattle.std.proofs.Common.{◌≡◌, ℕ, ◌+◌, ◌-◌, ◌/◌, ◌%◌, ◌<◌, ◌≤◌, true, false, not, ◌&&◌, ◌||◌, eqb, List, get_or, ap, ◌∙◌, ap₂, arith, eq-eqb, ne_eqb}
+use Rattle.std.proofs.Common.{◌≡◌, ℕ, ◌+◌, ◌-◌, ◌/◌, ◌%◌, ◌<◌, ◌≤◌, true, false, not, ◌&&◌, ◌||◌, eqb, List, get_or, ap, ◌∙◌, ap₂, arith}
+use Rattle.std.proofs.Common.{eq-eqb, ne_eqb}
 use Rattle.table.specs.Decoded.{cell_at, node_slot}
 use Rattle.table.specs.Find.{lowest}
 use Rattle.table.proofs.Tests.{and_no, or_yes}

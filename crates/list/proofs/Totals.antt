@@ -1,5 +1,6 @@
 -- the number of bits set in the tag bytes is the number of records
-use Rattle.std.proofs.Common.{◌≡◌, ℕ, zero, suc, ◌+◌, ◌-◌, ◌*◌, ◌%◌, ◌^◌, ◌<◌, ◌≤◌, Bool, true, false, ◌&&◌, eqb, leb, List, ◌∷◌, length, sym, refl, ap, ◌∙◌, subst, ap₂, mod-eq_of_lt, suc-add, arith, length-append, eq-eqb, ne_eqb, le-leb}
+use Rattle.std.proofs.Common.{◌≡◌, ℕ, zero, suc, ◌+◌, ◌-◌, ◌*◌, ◌%◌, ◌^◌, ◌<◌, ◌≤◌, Bool, true, false, ◌&&◌, eqb, leb, List, ◌∷◌, length}
+use Rattle.std.proofs.Common.{sym, refl, ap, ◌∙◌, subst, ap₂, mod-eq_of_lt, suc-add, arith, length-append, eq-eqb, ne_eqb, le-leb}
 use native.Mathlib.Decide.{ℕ_discrete}
 use lib.Count.{ones, ones_step}
 use borrow.Author.Tests.{lt-leb}
@@ -129,7 +130,8 @@ module _ (t : List ℕ) where
           zero_plus : (a : ℕ) → a ≡ 0 + a
           zero_plus a = omega arith
 
-  records_length : (k f : ℕ) → length (records_from t k f) ≡ sum_from (λ g. count (λ i. listed t i && eqb (callee_of t i) g) (nodes t) 1) k f
+  records_length : (k f : ℕ) → length (records_from t k f) ≡ sum_from (λ g.
+      count (λ i. listed t i && eqb (callee_of t i) g) (nodes t) 1) k f
   unfolding records_from sum_from
   records_length zero f = refl
   records_length (suc k) f =

@@ -1,5 +1,7 @@
 -- the walk, put together: nothing, one walk after the other, siblings held against each other, a call, a body
-use Rattle.std.proofs.Common.{◌≡◌, ℕ, ◌+◌, ◌*◌, ◌^◌, ◌<◌, ◌≤◌, Bool, true, false, ◌&&◌, ◌||◌, eqb, ◌⊎◌, List, length, get_or, set, replicate, sym, refl, ap, ◌∙◌, subst, ap₂, inl, inr, ⊎_elim, true≢false, arith, length-set, get_or-set_other, get_or-set_same, eq-eqb, ne_eqb, eqb-true}
+use Rattle.std.proofs.Common.{◌≡◌, ℕ, ◌+◌, ◌*◌, ◌^◌, ◌<◌, ◌≤◌, Bool, true, false, ◌&&◌, ◌||◌, eqb, ◌⊎◌, List, length, get_or, set}
+use Rattle.std.proofs.Common.{replicate, sym, refl, ap, ◌∙◌, subst, ap₂, inl, inr, ⊎_elim, true≢false, arith, length-set, get_or-set_other}
+use Rattle.std.proofs.Common.{get_or-set_same, eq-eqb, ne_eqb, eqb-true}
 use native.Mathlib.Decide.{ℕ_discrete}
 use lib.Bits.{bit_or}
 use Rattle.table.specs.Pick.{Range}
@@ -190,7 +192,8 @@ module _ (t : List ℕ) where
         (λ m b. joined_is (eqb n) (calls_by t g) m ∙ or_swap (eqb n m) (calls_by t g m));
     functions = λ h q. or_bit (get_or c' g 0) (2 ^ g) h
         ∙ ap₂ (λ p q. p || q) (k.masks g h j seen q) (pow_bit g h ∙ turn g h ∙ ap (eqb h) (sym e))
-        ∙ or_swap (called_in t (calls_by t g) h) (eqb h (callee_of t n)) ∙ ap (λ p. p || called_in t (calls_by t g) h) (sym (called_one t n h i))
+        ∙ or_swap (called_in t (calls_by t g) h) (eqb h (callee_of t n))
+        ∙ ap (λ p. p || called_in t (calls_by t g) h) (sym (called_one t n h i))
         ∙ sym (called_two t (eqb n) (calls_by t g) h);
     walked = λ h q p. ⊎_elim (λ z. subst (Seen c') (sym (eqb-true h g (ap (eqb h) (sym e) ∙ sym (called_one t n h i) ∙ z))) seen)
         (λ z. k.closed g h j seen q z)

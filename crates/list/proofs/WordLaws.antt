@@ -1,5 +1,6 @@
 -- packed sets: words joined, a bit written, a set of the rows written; set k of the rows begins at word 8 k
-use Rattle.std.proofs.Common.{◌≡◌, ℕ, ◌+◌, ◌-◌, ◌*◌, ◌/◌, ◌%◌, ◌^◌, ◌<◌, ◌≤◌, Bool, true, false, ◌&&◌, ◌||◌, eqb, List, length, get_or, set, replicate, sym, refl, ap, ◌∙◌, ap₂, arith, length-set, get_or-set_other, get_or-set_same, eq-eqb, ne_eqb}
+use Rattle.std.proofs.Common.{◌≡◌, ℕ, ◌+◌, ◌-◌, ◌*◌, ◌/◌, ◌%◌, ◌^◌, ◌<◌, ◌≤◌, Bool, true, false, ◌&&◌, ◌||◌, eqb, List, length, get_or, set}
+use Rattle.std.proofs.Common.{replicate, sym, refl, ap, ◌∙◌, ap₂, arith, length-set, get_or-set_other, get_or-set_same, eq-eqb, ne_eqb}
 use native.Mathlib.Decide.{dec_lt, ℕ_discrete}
 use lib.Bits.{bit_or}
 use Rattle.list.specs.Arbiters.{Test}
@@ -69,7 +70,8 @@ one_more_lem x n b inside m c = go (ℕ_discrete ((m - 1) / 64) at)
 
     go : Dec ((m - 1) / 64 ≡ at) → packed (set x at v) m ≡ packed x m || eqb n m
     go (yes e) =
-        packed_bit (set x at v) m ∙ ap (λ y. bit_at y ((m - 1) % 64)) (ap (λ i. get_or (set x at v) i 0) e ∙ get_or-set_same x at v 0 inside)
+        packed_bit (set x at v) m ∙ ap (λ y. bit_at y ((m - 1) % 64)) (ap (λ i. get_or (set x at v) i 0) e
+        ∙ get_or-set_same x at v 0 inside)
         ∙ or_bit (get_or x at 0) (2 ^ ((n - 1) % 64)) ((m - 1) % 64)
         ∙ ap₂ (λ p q. p || q) (ap (λ i. bit_at (get_or x i 0) ((m - 1) % 64)) (sym e) ∙ sym (packed_bit x m))
         (pow_bit ((n - 1) % 64) ((m - 1) % 64) ∙ place n m b c e)

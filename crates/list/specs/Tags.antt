@@ -1,6 +1,7 @@
 -- tag lists (document 01, "The arbiter list"): the bits of a tag list, a table's arbiter list and its tag bytes, refusal 10; and what 26
 -- looks for (document 02, Q-7)
-use Rattle.std.specs.Prelude.{◌≡◌, ℕ, zero, suc, ◌+◌, ◌-◌, ◌*◌, ◌/◌, ◌%◌, ◌^◌, ◌<◌, ◌≤◌, Bool, true, false, not, ◌&&◌, ◌||◌, List, [], ◌∷◌, length, ◌==◌, count_ones, nat_le, slice_index}
+use Rattle.std.specs.Prelude.{◌≡◌, ℕ, zero, suc, ◌+◌, ◌-◌, ◌*◌, ◌/◌, ◌%◌, ◌^◌, ◌<◌, ◌≤◌, Bool, true, false, not, ◌&&◌, ◌||◌, List, [], ◌∷◌}
+use Rattle.std.specs.Prelude.{length, ◌==◌, count_ones, nat_le, slice_index}
 use Rattle.table.specs.Pick.{pick, Range}
 use Rattle.list.specs.Arbiters.{Test, reached_in, listed_in}
 use Rattle.table.specs.Bytes.{functions, nodes, kind, word}

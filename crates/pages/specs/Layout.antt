@@ -111,7 +111,8 @@ pub record SheetStands (t : List ℕ) : Type 0 where
   -- its bytes are those of `sheet_of`, line after line
   pub bytes : sheet_bytes t ≡ sheet_of t
   pub size : length (sheet_of t) ≡ 33 * length (rows_of (records_of t))
-  pub lines : (i : ℕ) → i < length (rows_of (records_of t)) → take 33 (drop (33 * i) (sheet_of t)) ≡ line_of (row_at (rows_of (records_of t)) i)
+  pub lines : (i : ℕ) → i < length (rows_of (records_of t)) → take 33 (drop (33 * i) (sheet_of t))
+      ≡ line_of (row_at (rows_of (records_of t)) i)
   -- each listed call is on it once, and no other; what is said of a call are its callee, its function and its node, and its line tells them
   pub once : (n : ℕ) → times_of n (entries_of (rows_of (records_of t))) ≡ one (listed t n)
   pub call : (i : ℕ) → i < length (records_of t)

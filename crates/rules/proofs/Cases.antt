@@ -75,7 +75,8 @@ reads t tags args ns k v s e =
 -- what closed evaluation has to see through
 unfoldable pub circuit_open : Unit {0}
 unfolding list_open check_open tagged none_past tag_fits tags_refusal after check_with holds_at missing check_start start_after start_of
-    circuit_of step_after step_of plays_of play_of circuit_step circuit_start over entry write register alter fill clear opened blank last_value
+    circuit_of step_after step_of plays_of play_of circuit_step circuit_start over entry write register alter fill clear
+    opened blank last_value
     wrap operate narrow standing run_from run_of
 circuit_open = tt
 

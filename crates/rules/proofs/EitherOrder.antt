@@ -63,7 +63,8 @@ module _ (t : List ℕ) (F N : ℕ) (check : check_of t ≡ accepted F N) (tags 
   unfolding play_of
   pair_answers a b s₁ e = λ i. (e i).answer ∷ (step_of t tags (e i).state b).answer ∷ []
 
-  pair_state : (a b : ℕ) (s₁ : State512) → step_of t tags s a ≡ went s₁ → (play_of t tags s (a ∷ b ∷ [])).state ≡ (step_of t tags s₁ b).state
+  pair_state : (a b : ℕ) (s₁ : State512) → step_of t tags s a ≡ went s₁
+      → (play_of t tags s (a ∷ b ∷ [])).state ≡ (step_of t tags s₁ b).state
   unfolding play_of
   pair_state a b s₁ e = λ i. (step_of t tags (e i).state b).state
 
@@ -152,7 +153,8 @@ module _ (t : List ℕ) (F N : ℕ) (check : check_of t ≡ accepted F N) (tags 
   }
 
 -- after any steps from a start, whatever their tags
-pub either_order : (t tags₀ args : List ℕ) (s : State512) → start_of t tags₀ args ≡ started s → (asked : List (Ask (List ℕ))) (tags : List ℕ)
+pub either_order : (t tags₀ args : List ℕ) (s : State512) → start_of t tags₀ args ≡ started s
+    → (asked : List (Ask (List ℕ))) (tags : List ℕ)
     → WhoGoesFirst t tags (plays_of t s asked).state
 unfolding plays_of
 either_order t tags₀ args s start asked tags =

@@ -70,7 +70,8 @@ unfolding first_open
 no_budget = (refl, refl)
 
 afterwards : ((drive_of pair tags (after_first pair tags start 12) 0).steps ≡ 0)
-    × ((drive_of pair tags (after_first pair tags start 12) 0).ended ≡ gave 9) × (query_of pair tags (after_first pair tags start 12) ≡ nothing)
+    × ((drive_of pair tags (after_first pair tags start 12) 0).ended ≡ gave 9)
+    × (query_of pair tags (after_first pair tags start 12) ≡ nothing)
 unfolding first_open
 afterwards = (refl, refl, refl)
 
@@ -103,7 +104,8 @@ stray = refl
 abbrev entering : State512
 entering = (play_of pair tags start (2 ∷ 3 ∷ 4 ∷ [])).state
 
-before_entry : ((sets_of pair entering).waiting 3 ≡ true) × ((sets_of pair entering).inside 3 ≡ false) × ((sets_of pair entering).held 5 ≡ false)
+before_entry : ((sets_of pair entering).waiting 3 ≡ true) × ((sets_of pair entering).inside 3 ≡ false)
+    × ((sets_of pair entering).held 5 ≡ false)
 unfolding first_open
 before_entry = (refl, refl, refl)
 

@@ -74,7 +74,8 @@ module _ (w : ℕ) where
 
   -- an operation of two operands, on the reduced ones: from 32 bits on these are the operands themselves
   operands : (f : ℕ → ℕ → ℕ) (vs : List ℕ) → (w ≤ 32 → (x y : ℕ) → Word y → narrow w (f (narrow w x) (narrow w y)) ≡ narrow w (f x y))
-      → Words vs → narrow w (f (get_or (map (narrow w) vs) 0 0) (get_or (map (narrow w) vs) 1 0)) ≡ narrow w (f (get_or vs 0 0) (get_or vs 1 0))
+      → Words vs → narrow w (f (get_or (map (narrow w) vs) 0 0) (get_or (map (narrow w) vs) 1 0))
+      ≡ narrow w (f (get_or vs 0 0) (get_or vs 1 0))
   operands f vs law words = (λ i. narrow w (f (narrow_at vs 0 i) (narrow_at vs 1 i))) ∙ go (dec_le w 32)
     where
       whole : (w ≤ 32 → ⊥) → (i : ℕ) → narrow w (get_or vs i 0) ≡ get_or vs i 0

@@ -28,7 +28,8 @@ module _ (t tags : List ℕ) where
   unfolding play_of
   play_more s n ns = refl
 
-  pub play_on : (s : State512) (n : ℕ) (ns : List ℕ) → (play_of t tags s (n ∷ ns)).state ≡ (play_of t tags (step_of t tags s n).state ns).state
+  pub play_on : (s : State512) (n : ℕ) (ns : List ℕ) → (play_of t tags s (n ∷ ns)).state
+      ≡ (play_of t tags (step_of t tags s n).state ns).state
   unfolding play_of
   play_on s n ns = refl
 
@@ -50,7 +51,8 @@ module _ (t tags : List ℕ) where
       s₁ : State512
       s₁ = (step_of t tags s n).state
 
-      on : (a : Reply) → (step_of t tags s n).answer ≡ a → ((l : List ℕ) → noted a n l ≡ n ∷ l) → RunPlays t tags s₁ ns (run_from t tags s₁ ns)
+      on : (a : Reply) → (step_of t tags s n).answer ≡ a → ((l : List ℕ) → noted a n l ≡ n ∷ l)
+          → RunPlays t tags s₁ ns (run_from t tags s₁ ns)
           → RunPlays t tags s (n ∷ ns)
           (record { steps = suc (run_from t tags s₁ ns).steps; halt = (run_from t tags s₁ ns).halt; state = (run_from t tags s₁ ns).state })
       on a e f r = record {
@@ -96,7 +98,8 @@ module _ (t tags : List ℕ) where
       go (unasked k p) y = absurd y
 
   -- one play after another
-  pub play_state : (s : State512) (ns ms : List ℕ) → (play_of t tags s (ns ++ ms)).state ≡ (play_of t tags (play_of t tags s ns).state ms).state
+  pub play_state : (s : State512) (ns ms : List ℕ) → (play_of t tags s (ns ++ ms)).state
+      ≡ (play_of t tags (play_of t tags s ns).state ms).state
   unfolding play_of
   play_state s ns ms =
       ap (λ a. (played (step_of t) s a).state) (asks_join tags ns ms) ∙ played_state (step_of t) s (asks tags ns) (asks tags ms)

@@ -25,7 +25,8 @@ module _ (t tags tags' : List ℕ) (check : check_with t tags ≡ check_with t t
     (on : (s : State512) → P s → (n : ℕ) → P (step_of t tags s n).state) where
   first_same : (s : State512) → P s → first_of t tags s ≡ first_of t tags' s
   unfolding first_of
-  first_same s p = lowest_same (λ n. not (is_taken (step_of t tags s n).answer)) (λ n. not (is_taken (step_of t tags' s n).answer)) (nodes t)
+  first_same s p = lowest_same (λ n. not (is_taken (step_of t tags s n).answer))
+      (λ n. not (is_taken (step_of t tags' s n).answer)) (nodes t)
       (λ n r. ap (λ x. not (is_taken x.answer)) (same s p n))
 
   standing_same : (s : State512) → standing t tags s ≡ standing t tags' s
@@ -57,7 +58,8 @@ module _ (t tags tags' : List ℕ) (check : check_with t tags ≡ check_with t t
   drive_from_lem : (b : ℕ) (s : State512) → P s → drive_from t tags s b ≡ drive_from t tags' s b
   unfolding drive_from onward
   drive_from_lem zero s p = turn_same s p (stays s spent) (stays s spent) refl
-  drive_from_lem (suc b) s p = turn_same s p (one_more (drive_from t tags (onward t tags s) b)) (one_more (drive_from t tags' (onward t tags' s) b))
+  drive_from_lem (suc b) s p = turn_same s p (one_more (drive_from t tags (onward t tags s) b))
+      (one_more (drive_from t tags' (onward t tags' s) b))
       (ap one_more (drive_from_lem b (onward t tags s) (on s p (first_of t tags s)) ∙ ap (λ z. drive_from t tags' z b) (onward_same s p)))
 
   pub asked_alike : (s : State512) → P s → AskedAlike t tags tags' s

@@ -53,7 +53,8 @@ module _ (t : List ℕ) (F N : ℕ) (check : check_of t ≡ accepted F N) (n : �
   by_bytes : (f : ℕ → ℕ → Bool) → of_call f (expr_at t n) ≡ (is_call t n && f n (word t n))
   by_bytes f = go (node_case t (passed t F N check).0 n i)
     where
-      no : (u : Expr) → expr_at t n ≡ u → of_call f u ≡ false → is_call t n ≡ false → of_call f (expr_at t n) ≡ (is_call t n && f n (word t n))
+      no : (u : Expr) → expr_at t n ≡ u → of_call f u ≡ false → is_call t n ≡ false
+          → of_call f (expr_at t n) ≡ (is_call t n && f n (word t n))
       no u e z c = ap (of_call f) e ∙ z ∙ sym (ap (λ b. b && f n (word t n)) c)
 
       go : NodeCase t n → of_call f (expr_at t n) ≡ (is_call t n && f n (word t n))

@@ -183,7 +183,8 @@ missing_alike t tags tags' F N e a =
     go n r false l = holds_other (listed t) tags n l ∙ sym (holds_other (listed t) tags' n l)
 
 -- of the tags a start sees the check's verdict, and what they lack
-pub spare_tags : (t tags tags' args : List ℕ) (F N : ℕ) → check_of t ≡ accepted F N → AlikeInReach t tags tags' → SpareTags t tags tags' args
+pub spare_tags : (t tags tags' args : List ℕ) (F N : ℕ) → check_of t ≡ accepted F N → AlikeInReach t tags tags'
+    → SpareTags t tags tags' args
 unfolding start_of check_start
 spare_tags t tags tags' args F N e a = record {
   start = ap₂ (λ c m. start_after (after c (argued m)) (opening t args)) (checks_alike t tags tags' F N e a)

@@ -125,7 +125,8 @@ module _ (g : ℕ) (vs l : List ℕ) where
           ∙ ap (λ c. pick c (get_or vs ((0 + (8 * f + i)) % 8) 0) (get_or l (8 * f + i) 0)) (eq-eqb _ g (place_function f i b ∙ e))
           ∙ ap (λ j. get_or vs j 0) (place_register f i b)
 
-      by : (f : ℕ) → suc f ≡ g → f < 32 → (b : Bool) → ltb i 8 ≡ b → pick b (get_or (alter (refilled g vs) 0 l) (8 * f + i) 0) 0 ≡ get_or vs i 0
+      by : (f : ℕ) → suc f ≡ g → f < 32 → (b : Bool) → ltb i 8 ≡ b → pick b
+          (get_or (alter (refilled g vs) 0 l) (8 * f + i) 0) 0 ≡ get_or vs i 0
       by f e q true b = small f e q (ltb-true i 8 b)
       by f e q false b = sym (get_or-eq_default vs 0 (omega (arith, ltb-false i 8 b)))
 

@@ -122,7 +122,8 @@ module _ (t : List ℕ) where
         (λ e. by_pick P (all_done (view s) es) _ _ (λ e. narrow_below (width t h) (operate op (values (view s).value es))) (λ e. tt)) tt
     act_below (call n g es) p = by_state P ((view s).status n) _ _ (λ e. tt)
         (λ e. by_pick P ((view s).second n) _ _
-        (λ e. by_pick P (done (view s) (id (body_of t g))) _ _ (λ e. narrow_below (width t h) ((view s).value (id (body_of t g)))) (λ e. tt))
+        (λ e. by_pick P (done (view s) (id (body_of t g))) _ _ (λ e. narrow_below (width t h)
+        ((view s).value (id (body_of t g)))) (λ e. tt))
         (λ e. by_pick P (all_done (view s) es) _ _
         (λ e. by_pick P (eqb ((view s).occupant g) 0) _ _ (λ e. kept_below g (values (view s).value es)) (λ e. tt)) (λ e. tt)))
         tt

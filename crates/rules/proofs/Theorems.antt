@@ -83,11 +83,13 @@ pub spare_bodies : (t tags args : List ℕ) (s : State512) → start_of t tags a
 spare_bodies = SpareTags.spare_bodies
 
 -- .. nor do they change the start, or whether tags hold the list
-pub spare_tags : (t tags tags' args : List ℕ) (F N : ℕ) → check_of t ≡ accepted F N → AlikeInReach t tags tags' → SpareTags t tags tags' args
+pub spare_tags : (t tags tags' args : List ℕ) (F N : ℕ) → check_of t ≡ accepted F N → AlikeInReach t tags tags'
+    → SpareTags t tags tags' args
 spare_tags = SpareTags.spare_tags
 
 -- two hands, either order (document 02, Q-6): after any steps from a start, which of two nodes may step first, and what rivals meet ..
-pub either_order : (t tags₀ args : List ℕ) (s : State512) → start_of t tags₀ args ≡ started s → (asked : List (Ask (List ℕ))) (tags : List ℕ)
+pub either_order : (t tags₀ args : List ℕ) (s : State512) → start_of t tags₀ args ≡ started s
+    → (asked : List (Ask (List ℕ))) (tags : List ℕ)
     → WhoGoesFirst t tags (plays_of t s asked).state
 either_order = EitherOrder.either_order
 

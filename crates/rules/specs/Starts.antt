@@ -16,7 +16,8 @@ pub record Fitting (t tags args : List ℕ) : Type 0 where
 pub record StartsExactly (t tags args : List ℕ) : Type 0 where
   -- table and tags come first, and 11 after them
   pub first : (number place : ℕ) → check_with t tags ≡ refused number place → start_of t tags args ≡ turned number place
-  pub second : (F N : ℕ) → check_with t tags ≡ accepted F N → (length args ≡ params t (functions t) → ⊥) → start_of t tags args ≡ turned 11 0
+  pub second : (F N : ℕ) → check_with t tags ≡ accepted F N → (length args ≡ params t (functions t) → ⊥)
+      → start_of t tags args ≡ turned 11 0
   -- start takes what passes those three with tags that hold the list, and nothing else; its state is the one that the rules name
   pub taken : (s : State512) → (start_of t tags args ≡ started s) ↔ (Fitting t tags args × Holding t tags × (s ≡ opening t args))
   -- 26 at n: those three are passed, and n is the lowest that is listed and has no tag

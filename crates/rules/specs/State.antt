@@ -1,5 +1,6 @@
 -- the circuit's state: lists of 512 nodes and 32 functions, how an entry is read and written, and the start
-use Rattle.std.specs.Prelude.{ℕ, zero, suc, ◌+◌, ◌*◌, ◌/◌, ◌%◌, Bool, false, ◌≡◌, ◌⊎◌, List, [], ◌∷◌, eqb, ltb, length, get_or, set, replicate}
+use Rattle.std.specs.Prelude.{ℕ, zero, suc, ◌+◌, ◌*◌, ◌/◌, ◌%◌, Bool, false, ◌≡◌, ◌⊎◌, List, [], ◌∷◌, eqb, ltb, length, get_or, set}
+use Rattle.std.specs.Prelude.{replicate}
 use Rattle.table.specs.Pick.{pick}
 use Rattle.table.specs.Syntax.{Expr, id}
 

@@ -64,7 +64,8 @@ module _ (t : List ℕ) (ok : Passed t) where
   }
 
   -- a part of a body is the expression of its own number
-  pub part_is : (f : ℕ) → IsFunction t f → (u : Expr) → Sub u (body_of t f) → (u ≡ expr_at t (id u)) × IsNode t (id u) × (owner t (id u) ≡ f)
+  pub part_is : (f : ℕ) → IsFunction t f → (u : Expr) → Sub u (body_of t f)
+      → (u ≡ expr_at t (id u)) × IsNode t (id u) × (owner t (id u) ≡ f)
   part_is f i u s =
       let a = found s in
       let e : id u ≡ a.0 = ap id a.1 ∙ id_at t ok a.0 a.2 in

@@ -73,7 +73,8 @@ row_numbers (suc k) s g cells z b i =
 
 -- the fields are read off the numbers alone
 fields_as : (g h : ℕ → ℕ) → ((k : ℕ) → k < 6 → g k ≡ h k) → (k : ℕ) → k < 8 → field_of g k ≡ field_of h k
-fields_as g h e = by_eight (λ k. field_of g k ≡ field_of h k) (ap (λ x. x % 256) (e 0 (omega arith))) (ap (λ x. x / 256) (e 0 (omega arith)))
+fields_as g h e = by_eight (λ k. field_of g k ≡ field_of h k) (ap (λ x. x % 256) (e 0 (omega arith)))
+    (ap (λ x. x / 256) (e 0 (omega arith)))
     (e 1 (omega arith)) (e 2 (omega arith)) (e 3 (omega arith)) (e 4 (omega arith)) (ap (λ x. x % 64) (e 5 (omega arith)))
     (ap (λ x. x / 64) (e 5 (omega arith)))
 

@@ -27,7 +27,8 @@ unfolding mentions root_of names namer owner parent tail_child tail under_last d
 naming_open = tt
 
 unfoldable pub tests_open : Unit {0}
-unfolding sizes whole root_fits forward linked record_fits fields formed callee_fits operation_counts counts_of counted scoped tailed const_fits
+unfolding sizes whole root_fits forward linked record_fits fields formed callee_fits operation_counts counts_of counted
+    scoped tailed const_fits
 tests_open = tt
 
 unfoldable pub check_open : Unit {0}
@@ -71,7 +72,8 @@ unfolding check_open
 short_refused = refl
 
 -- F 0, F 33, N 513
-sizes_refused : (check_of (header 0 1) ≡ refused 2 0) × (check_of (header 33 1) ≡ refused 2 0) × (check_of (1 ∷ 0 ∷ 1 ∷ 2 ∷ []) ≡ refused 2 0)
+sizes_refused : (check_of (header 0 1) ≡ refused 2 0) × (check_of (header 33 1) ≡ refused 2 0)
+    × (check_of (1 ∷ 0 ∷ 1 ∷ 2 ∷ []) ≡ refused 2 0)
 unfolding check_open
 sizes_refused = (refl, refl, refl)
 

@@ -132,7 +132,8 @@ module _ (t cells : List ℕ) (f : ℕ) (l : f < 32) (h : Filled t f 0 0 cells) 
   abbrev function_numbers : ℕ → ℕ
   function_numbers = over 2 (function_slot (f + 1)) (function_number t (f + 1)) cells
 
-  function_row : Row (function_slot (f + 1)) function_numbers cells (put_numbers 2 (function_slot (f + 1)) (function_number t (f + 1)) cells)
+  function_row : Row (function_slot (f + 1)) function_numbers cells (put_numbers 2 (function_slot (f + 1))
+      (function_number t (f + 1)) cells)
   function_row = row_numbers 2 (function_slot (f + 1)) (function_number t (f + 1)) cells h.size (omega arith) (omega arith)
 
   -- f + 1 is the function whose slot this is

@@ -185,7 +185,8 @@ counts_packed k e = go (ℕ_discrete k 3)
 
 -- a call has its callee's parameters more
 counts_more : (k e p : ℕ)
-    → ((counts_of k e p).low ≡ (counts_of k e 0).low + p * one (eqb k 4)) × ((counts_of k e p).high ≡ (counts_of k e 0).high + p * one (eqb k 4))
+    → ((counts_of k e p).low ≡ (counts_of k e 0).low + p * one (eqb k 4))
+    × ((counts_of k e p).high ≡ (counts_of k e 0).high + p * one (eqb k 4))
 unfolding counts_of
 counts_more k e p = go (ℕ_discrete k 4)
   where

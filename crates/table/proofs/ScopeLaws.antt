@@ -87,7 +87,8 @@ module _ (t : List ℕ) where
       go (yes k) = k
       go (no k) = absurd (e (ap (λ b. one (not (eqb p 0) && b)) (ne_eqb (kind t p) 6 k) ∙ ap one (and_no (not (eqb p 0)))))
 
-  pub in_scope_lem : (d n p : ℕ) → p ≡ parent t d → (p ≡ 0 → ⊥) → kind t p ≡ 6 → (next t d ≡ 0 → ⊥) → T (under_last t p n) → T (in_scope t d n)
+  pub in_scope_lem : (d n p : ℕ) → p ≡ parent t d → (p ≡ 0 → ⊥) → kind t p ≡ 6 → (next t d ≡ 0 → ⊥) → T (under_last t p n)
+      → T (in_scope t d n)
   unfolding in_scope definiens
   in_scope_lem d n p e z k l u =
       pair (definiens t d) (under_last t (parent t d) n) of_let (subst (λ q. T (under_last t q n)) e u)
@@ -145,7 +146,8 @@ pub bound_in : (t : List ℕ) (n : ℕ) → T (in_scope t (word t n) n) → T (b
 unfolding bound_fits
 bound_in t n h = orr (not (eqb (kind t n) 7)) (in_scope t (word t n) n) h
 
-pub one_more_lem : (t bounds : List ℕ) (i : ℕ) → T (bound_fits t (get_or bounds i 0)) → ((j : ℕ) → j < i → T (bound_fits t (get_or bounds j 0)))
+pub one_more_lem : (t bounds : List ℕ) (i : ℕ) → T (bound_fits t (get_or bounds i 0))
+    → ((j : ℕ) → j < i → T (bound_fits t (get_or bounds j 0)))
     → (j : ℕ) → j < i + 1 → T (bound_fits t (get_or bounds j 0))
 one_more_lem t bounds i h f j l = go (ℕ_discrete j i)
   where

@@ -211,7 +211,8 @@ module _ (t : List ℕ) (fr : Framed t) (lk : Linked t) (n : ℕ) (i : IsNode t 
 pub wants_here : (t : List ℕ) (n k e w a r : ℕ) → k ≡ kind t n → e ≡ extra t n → w ≡ word t n → (k ≡ 4 → a ≡ params t w)
     → (r % 256 ≡ (counts_of k e a).low) × (r / 256 ≡ (counts_of k e a).high) → Wants t n r
 wants_here t n k e w a r ek ee ew ea h =
-    let same : counts_of k e a ≡ counts_of (kind t n) (extra t n) (params t (word t n)) = counts_by k e a (params t w) ea ∙ rw (ek, ee, ew) in
+    let same : counts_of k e a ≡ counts_of (kind t n) (extra t n) (params t (word t n)) =
+    counts_by k e a (params t w) ea ∙ rw (ek, ee, ew) in
     record { low = h.0 ∙ ap (λ c. c.low) same; high = h.1 ∙ ap (λ c. c.high) same }
 
 -- 7, from the number of its children

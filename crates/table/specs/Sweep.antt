@@ -1,6 +1,7 @@
 -- what the parts of the sweep ask of each other, no part of what a reader must believe: in four loops the sweep tells that a table is
 -- accepted, and leaves what it does not pass to the check
-use Rattle.std.specs.Prelude.{ℕ, zero, suc, ◌+◌, ◌*◌, ◌/◌, ◌%◌, ◌^◌, ◌≤◌, ◌<◌, Bool, true, ◌&&◌, ◌||◌, not, ◌≡◌, List, T, eqb, length, get_or, set, replicate}
+use Rattle.std.specs.Prelude.{ℕ, zero, suc, ◌+◌, ◌*◌, ◌/◌, ◌%◌, ◌^◌, ◌≤◌, ◌<◌, Bool, true, ◌&&◌, ◌||◌, not, ◌≡◌, List, T, eqb, length}
+use Rattle.std.specs.Prelude.{get_or, set, replicate}
 use Rattle.table.specs.declared.Counts.{Counts}
 use Rattle.table.specs.declared.kinds.Rule.{Rule}
 use Rattle.table.specs.declared.sweep.Sifting.{Sifting}

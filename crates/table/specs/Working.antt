@@ -1,5 +1,6 @@
 -- what the parts of the check ask of each other: the sizes, the links, and the arrays filled in ascending order of the nodes
-use Rattle.std.specs.Prelude.{ℕ, ◌+◌, ◌-◌, ◌*◌, ◌/◌, ◌%◌, ◌≤◌, ◌<◌, Bool, true, false, ◌&&◌, ◌||◌, ◌≡◌, List, T, eqb, ltb, leb, length, get_or}
+use Rattle.std.specs.Prelude.{ℕ, ◌+◌, ◌-◌, ◌*◌, ◌/◌, ◌%◌, ◌≤◌, ◌<◌, Bool, true, false, ◌&&◌, ◌||◌, ◌≡◌, List, T, eqb, ltb, leb, length}
+use Rattle.std.specs.Prelude.{get_or}
 use Rattle.table.specs.declared.Checked.{Checked}
 use Rattle.table.specs.Survey.{verdict_of}
 use Rattle.table.specs.declared.faults.Fault.{Fault}

@@ -42,7 +42,8 @@ loop-i-preserved c =
 pub returns : goal.returns
 returns c =
     let h = c.mark-marked.ensures in
-    let all : c.loop-i.i ≡ length (offered c.args.table.now (length c.args.records.now)) = omega (arith, c.loop-i-test.false, c.loop-i.invariant.0, c.count-n.ensures, h.many) in (
+    let all : c.loop-i.i ≡ length (offered c.args.table.now (length c.args.records.now)) =
+    omega (arith, c.loop-i-test.false, c.loop-i.invariant.0, c.count-n.ensures, h.many) in (
       ap verdict_of c.told.ensures ∙ h.told,
       c.loop-i.invariant.1 ∙ filled_is c.args.table.now c.args.records.now c.loop-i.i all,
     )

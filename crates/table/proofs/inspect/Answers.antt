@@ -56,7 +56,8 @@ pub lowest_unlinked-place-requires : goal.lowest_unlinked-place-requires
 lowest_unlinked-place-requires c = (c.requires, raw _ _ c.requires _ c.links.ensures.1, c.links.ensures.0.counts, c.roots.ensures.0.tops)
 
 pub returns-then-place-ne0 : goal.returns-then-place-ne0
-returns-then-place-ne0 c = refuses _ _ 4 _ (unlinked_refused _ c.requires _ (rooted (search)) c.lowest_unlinked-place.ensures c.if-place-ne0.true)
+returns-then-place-ne0 c = refuses _ _ 4 _ (unlinked_refused _ c.requires _ (rooted (search)) c.lowest_unlinked-place.ensures
+    c.if-place-ne0.true)
 
 pub records_fit-requires : goal.records_fit-requires
 records_fit-requires c = (c.requires, raw _ _ c.requires _ c.links.ensures.1)
@@ -80,7 +81,11 @@ pub returns-then-fault-ne-NONE : goal.returns-then-fault-ne-NONE
 returns-then-fault-ne-NONE c = refuses _ _ _ _ (rest (search) ∙ fault_refused _ _ c.lowest-fault.ensures c.if-fault-ne-NONE.true)
 
 pub recall-requires : goal.recall-requires
-recall-requires c = (c.requires, all_read _ _ c.requires c.collect-tails.ensures.1, links_pass _ c.requires (rooted (search)) (linked_all (search)))
+recall-requires c = (
+  c.requires,
+  all_read _ _ c.requires c.collect-tails.ensures.1,
+  links_pass _ c.requires (rooted (search)) (linked_all (search)),
+)
 
 pub returns : goal.returns
 returns c = let size = sizes_filled _ _ c.requires _ _ _ c.collect-tails.ensures.1 in

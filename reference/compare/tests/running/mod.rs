@@ -12,7 +12,7 @@ pub fn folder(name: &str) -> PathBuf {
 }
 
 pub fn binary(program: &str) -> Result<PathBuf, String> {
-    let binary = folder("target/bin").join(program);
+    let binary = folder("crates").join(program).join("out").join(program);
     ensure(binary.is_file(), || format!("{} is missing: build the program before this test", binary.display()))?;
     Ok(binary)
 }

@@ -10,5 +10,6 @@ returns-in-Refused c = let e = sym (ap verdict_of c.in-Refused.is) ∙ c.survey-
     record { told = at_check _ _ _ _ e; read = λ F N a. absurd (let z : ◌≡◌ {A = ℕ} 0 1 = cc in omega arith) }
 
 pub returns-in-Accepted : goal.returns-in-Accepted
-returns-in-Accepted c = let k = (survey_taken _ _ _ _ _ _ c.requires c.survey-checked.ensures.0 c.survey-checked.ensures.1 c.in-Accepted.is).0 in
+returns-in-Accepted c = let k = (survey_taken _ _ _ _ _ _ c.requires c.survey-checked.ensures.0 c.survey-checked.ensures.1
+    c.in-Accepted.is).0 in
     record { told = after_check _ _ _ k.taken (c.check_held.ensures ∙ held_read _ _ _ k); read = λ F N a. k }

@@ -24,7 +24,8 @@ abbrev state : Start → State512
 state s = state_as s.args.status.now s.args.second.now s.args.value.now s.args.registers.now s.args.occupant.now
 
 pub returns-then-args-count : goal.returns-then-args-count
-returns-then-args-count c = λ tags e m. subst (OpenedAs _ _ _) (start_count _ _ _ (record { fair = c.requires; tagging = e }) _ (count (search)) c.if-args-count.true)
+returns-then-args-count c = λ tags e m. subst (OpenedAs _ _ _) (start_count _ _ _ (record { fair = c.requires; tagging = e }) _
+    (count (search)) c.if-args-count.true)
     (record { answer = refl; state = refl })
 
 pub returns-then-lacking-ne0 : goal.returns-then-lacking-ne0
@@ -35,5 +36,6 @@ returns-then-lacking-ne0 c = λ tags e m. subst (OpenedAs _ _ _)
 pub returns : goal.returns
 returns c = let e = c.open_main.ensures in
     λ tags q m.
-    let goes = start_goes _ _ _ (record { fair = c.requires; tagging = q }) _ (count (search)) c.if-args-count.false _ m c.if-lacking-ne0.false in
+    let goes = start_goes _ _ _ (record { fair = c.requires; tagging = q }) _ (count (search)) c.if-args-count.false _ m
+    c.if-lacking-ne0.false in
     subst (OpenedAs (state (search)) _ _) goes (record { answer = ap started e; state = e })

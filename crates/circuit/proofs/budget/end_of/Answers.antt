@@ -4,7 +4,8 @@ use Rattle.rules.specs.Runs.{gave}
 use Rattle.circuit.proofs.budget.end_of.Goals as goal
 
 pub returns-then-status_at-eq3 : goal.returns-then-status_at-eq3
-returns-then-status_at-eq3 c = λ inside. ap gave c.value_at.ensures ∙ sym (rw (eq-eqb _ 3 (sym c.status_at.ensures ∙ c.if-status_at-eq3.true)) refl)
+returns-then-status_at-eq3 c = λ inside. ap gave c.value_at.ensures ∙ sym
+    (rw (eq-eqb _ 3 (sym c.status_at.ensures ∙ c.if-status_at-eq3.true)) refl)
 
 pub returns-then-n-eq0 : goal.returns-then-n-eq0
 returns-then-n-eq0 c = λ inside. sym (rw (

@@ -19,10 +19,16 @@ pub status_at-requires : goal.status_at-requires
 status_at-requires c = c.top-top.ensures.1
 
 pub returns-then-status_at-eq3 : goal.returns-then-status_at-eq3
-returns-then-status_at-eq3 c = query_done _ _ c.requires.1 (state (search)) c.requires.2 _ _ c.top-top.ensures.0 c.status_at.ensures c.if-status_at-eq3.true
+returns-then-status_at-eq3 c = query_done _ _ c.requires.1 (state (search)) c.requires.2 _ _ c.top-top.ensures.0 c.status_at.ensures
+    c.if-status_at-eq3.true
 
 pub loop-n-init : goal.loop-n-init
-loop-n-init c = (none_yet _ (state (search)), omega arith, told_last _ _ c.requires.0 _ c.last-last.ensures, (ok _ c.requires.0.taken).n_high)
+loop-n-init c = (
+  none_yet _ (state (search)),
+  omega arith,
+  told_last _ _ c.requires.0 _ c.last-last.ensures,
+  (ok _ c.requires.0.taken).n_high,
+)
 
 pub overflow_add-n : goal.overflow_add-n
 overflow_add-n c = omega (arith, c.loop-n.invariant.1, c.loop-n.invariant.2, c.loop-n.invariant.3)
@@ -31,7 +37,8 @@ pub why_not-requires : goal.why_not-requires
 why_not-requires c = (c.requires.0, (omega arith, omega (arith, c.loop-n-test.true, c.loop-n.invariant.2)))
 
 pub returns-then-why_not-eq0 : goal.returns-then-why_not-eq0
-returns-then-why_not-eq0 c = query_found _ _ c.requires.1 (state (search)) c.requires.2 _ _ c.top-top.ensures.0 c.status_at.ensures c.if-status_at-eq3.false _
+returns-then-why_not-eq0 c = query_found _ _ c.requires.1 (state (search)) c.requires.2 _ _ c.top-top.ensures.0 c.status_at.ensures
+    c.if-status_at-eq3.false _
     (omega arith)
     (one_more_lem _ (state (search)) _ _ c.loop-n.invariant.0 _ (c.why_not.ensures _) c.if-why_not-eq0.true
     (omega (arith, c.loop-n-test.true, c.loop-n.invariant.2)))

@@ -6,7 +6,8 @@ use Rattle.circuit.proofs.QueryLaws.{NoneTo}
 use Rattle.circuit.proofs.budget.query.Given as goal
 
 abbrev pub invariant-loop-n : goal.invariant-loop-n
-invariant-loop-n l = NoneTo l.table (state_as l.status l.second l.value l.registers l.occupant) l.n × (l.n ≤ l.end) × (l.end ≡ nodes l.table) × (nodes l.table ≤ 512)
+invariant-loop-n l = NoneTo l.table (state_as l.status l.second l.value l.registers l.occupant) l.n × (l.n ≤ l.end)
+    × (l.end ≡ nodes l.table) × (nodes l.table ≤ 512)
 
 abbrev pub decreases-loop-n : goal.decreases-loop-n
 decreases-loop-n l = l.end - l.n

@@ -27,7 +27,8 @@ pub status_at-requires : goal.status_at-requires
 status_at-requires c = omega (arith, c.loop-at.invariant.0, (ok _ c.requires.0.taken).n_high)
 
 pub returns-then-status_at-ne3 : goal.returns-then-status_at-ne3
-returns-then-status_at-ne3 c = sym (c.loop-at.invariant.1 ∙ done_stops _ c.requires.0.taken c.args.defs _ c.loop-at-test.true c.loop-at.invariant.0
+returns-then-status_at-ne3 c = sym (c.loop-at.invariant.1 ∙ done_stops _ c.requires.0.taken c.args.defs _ c.loop-at-test.true
+    c.loop-at.invariant.0
     _ (read (search)) (entry _ 0)
     (sym c.ends.ensures ∙ c.if-ends.false) _ c.status_at.ensures c.if-status_at-ne3.true)
 

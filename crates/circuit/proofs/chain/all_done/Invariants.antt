@@ -10,7 +10,8 @@ use Rattle.circuit.proofs.chain.all_done.Given as goal
 
 abbrev pub invariant-loop-at : goal.invariant-loop-at
 invariant-loop-at l = (l.at.0 ≤ nodes l.table)
-    × (each_done (entry l.status 0) (leading l.defs (chain l.table l.initial.at.0)) ≡ each_done (entry l.status 0) (leading l.defs (chain l.table l.at.0)))
+    × (each_done (entry l.status 0) (leading l.defs (chain l.table l.initial.at.0))
+    ≡ each_done (entry l.status 0) (leading l.defs (chain l.table l.at.0)))
 
 abbrev pub decreases-loop-at : goal.decreases-loop-at
 decreases-loop-at l = rest l.table l.at.0

@@ -9,7 +9,8 @@ use Rattle.circuit.proofs.ChainLaws.{rest}
 use Rattle.circuit.proofs.chain.open_all.Given as goal
 
 abbrev pub invariant-loop-at : goal.invariant-loop-at
-invariant-loop-at l = (l.at.0 ≤ nodes l.table) × (opened l.initial.status (leading l.defs (chain l.table l.initial.at.0)) ≡ opened l.status (leading l.defs (chain l.table l.at.0)))
+invariant-loop-at l = (l.at.0 ≤ nodes l.table) × (opened l.initial.status (leading l.defs (chain l.table l.initial.at.0))
+    ≡ opened l.status (leading l.defs (chain l.table l.at.0)))
 
 abbrev pub decreases-loop-at : goal.decreases-loop-at
 decreases-loop-at l = rest l.table l.at.0

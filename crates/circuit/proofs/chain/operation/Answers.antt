@@ -34,7 +34,11 @@ pub value_at-x-requires : goal.value_at-x-requires
 value_at-x-requires c = omega (arith, c.requires.1, (ok _ c.requires.0.taken).n_high)
 
 pub value_at-y-requires : goal.value_at-y-requires
-value_at-y-requires c = omega (arith, next_in _ c.requires.0.taken _ c.if-c-eq0.false c.requires.1 _ (read (search)), (ok _ c.requires.0.taken).n_high)
+value_at-y-requires c = omega (
+  arith,
+  next_in _ c.requires.0.taken _ c.if-c-eq0.false c.requires.1 _ (read (search)),
+  (ok _ c.requires.0.taken).n_high,
+)
 
 pub returns : goal.returns
 returns c = of_two _ c.requires.0.taken _ _ _ c.if-c-eq0.false c.requires.1 c.if-op-gt9.false _ (read (search)) _ _ c.value_at-x.ensures

@@ -23,19 +23,26 @@ pub set_status-requires : goal.set_status-requires
 set_status-requires c = omega (arith, c.requires.1.1, (ok _ c.requires.0.taken).n_high)
 
 pub set_status-requires-then-kind-eq5 : goal.set_status-requires-then-kind-eq5
-set_status-requires-then-kind-eq5 c = omega (arith, first_in_lem _ c.requires.0.taken _ c.requires.1 _ (firsts (search)), (ok _ c.requires.0.taken).n_high)
+set_status-requires-then-kind-eq5 c = omega (
+  arith,
+  first_in_lem _ c.requires.0.taken _ c.requires.1 _ (firsts (search)),
+  (ok _ c.requires.0.taken).n_high,
+)
 
 pub returns-then-kind-eq5 : goal.returns-then-kind-eq5
-returns-then-kind-eq5 c = begin_if _ _ _ (kinds (search)) _ (firsts (search)) _ _ c.set_status.ensures c.if-kind-eq5.true _ c.set_status-then-kind-eq5.ensures
+returns-then-kind-eq5 c = begin_if _ _ _ (kinds (search)) _ (firsts (search)) _ _ c.set_status.ensures c.if-kind-eq5.true _
+    c.set_status-then-kind-eq5.ensures
 
 pub open_all-requires : goal.open_all-requires
 open_all-requires c = (c.requires.0, first_in_lem _ c.requires.0.taken _ c.requires.1 _ (firsts (search)))
 
 pub returns-then-kind-eq6 : goal.returns-then-kind-eq6
-returns-then-kind-eq6 c = begin_let _ _ _ (kinds (search)) _ (firsts (search)) _ _ c.set_status.ensures c.if-kind-eq6.true _ c.open_all.ensures
+returns-then-kind-eq6 c = begin_let _ _ _ (kinds (search)) _ (firsts (search)) _ _ c.set_status.ensures c.if-kind-eq6.true
+    _ c.open_all.ensures
 
 pub open_all-requires-2 : goal.open_all-requires-2
 open_all-requires-2 c = (c.requires.0, first_in_lem _ c.requires.0.taken _ c.requires.1 _ (firsts (search)))
 
 pub returns : goal.returns
-returns c = begin_all _ _ _ (kinds (search)) _ (firsts (search)) _ _ c.set_status.ensures c.if-kind-eq5.false c.if-kind-eq6.false _ c.open_all-2.ensures
+returns c = begin_all _ _ _ (kinds (search)) _ (firsts (search)) _ _ c.set_status.ensures c.if-kind-eq5.false c.if-kind-eq6.false _
+    c.open_all-2.ensures

@@ -28,7 +28,8 @@ loop-i-init c = (omega arith, given_start _ _ c.requires.0.taken _ _ c.requires.
 
 -- where the chain ends, the rest is zero
 pub returns-then-at-eq0 : goal.returns-then-at-eq0
-returns-then-at-eq0 c = given_end _ _ c.requires.0.taken _ _ c.requires.2 _ _ _ _ _ _ c.blank.ensures c.loop-i.invariant.1 (inl c.if-at-eq0.true)
+returns-then-at-eq0 c = given_end _ _ c.requires.0.taken _ _ c.requires.2 _ _ _ _ _ _ c.blank.ensures c.loop-i.invariant.1
+    (inl c.if-at-eq0.true)
 
 pub value_at-requires : goal.value_at-requires
 value_at-requires c = omega (arith, c.loop-i.invariant.1.inside, (ok _ c.requires.0.taken).n_high)

@@ -9,7 +9,8 @@ use Rattle.circuit.proofs.changes.give.Given as goal
 
 abbrev pub invariant-loop-i : goal.invariant-loop-i
 invariant-loop-i l = (l.i ≤ 8) × GivenTo ((arithmetic l.table).keep l.g.0) l.table l.value
-    (keep_all (arithmetic l.table) l.g.0 (map (entry l.value 0) (chain l.table l.initial.at.0))) l.initial.registers l.registers l.f l.i l.at.0
+    (keep_all (arithmetic l.table) l.g.0 (map (entry l.value 0) (chain l.table l.initial.at.0))) l.initial.registers
+    l.registers l.f l.i l.at.0
 
 abbrev pub decreases-loop-i : goal.decreases-loop-i
 decreases-loop-i l = 8 - l.i

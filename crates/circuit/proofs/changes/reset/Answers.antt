@@ -22,7 +22,12 @@ pub clear_nodes-requires : goal.clear_nodes-requires
 clear_nodes-requires c = (c.requires.0, c.requires.1, c.requires.2)
 
 pub set_status-requires : goal.set_status-requires
-set_status-requires c = omega (arith, read (search), ((ok _ c.requires.0.taken).linking.roots _ c.requires.2).1, (ok _ c.requires.0.taken).n_high)
+set_status-requires c = omega (
+  arith,
+  read (search),
+  ((ok _ c.requires.0.taken).linking.roots _ c.requires.2).1,
+  (ok _ c.requires.0.taken).n_high,
+)
 
 pub returns : goal.returns
 returns c = (

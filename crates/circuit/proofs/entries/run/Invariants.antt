@@ -10,8 +10,10 @@ use Rattle.circuit.proofs.entries.run.Given as goal
 
 abbrev pub invariant-loop-i : goal.invariant-loop-i
 invariant-loop-i l = (l.i ≤ length l.nodes) × Stands l.table (state_as l.status l.second l.value l.registers l.occupant) ×
-    (run_from l.table l.tags (state_as l.initial.status l.initial.second l.initial.value l.initial.registers l.initial.occupant) l.nodes ≡ plus l.i
-    (run_from l.table l.tags (state_as l.status l.second l.value l.registers l.occupant) (drop l.i l.nodes))) × (length l.nodes < 18446744073709551616)
+    (run_from l.table l.tags (state_as l.initial.status l.initial.second l.initial.value l.initial.registers
+    l.initial.occupant) l.nodes ≡ plus l.i
+    (run_from l.table l.tags (state_as l.status l.second l.value l.registers l.occupant) (drop l.i l.nodes)))
+    × (length l.nodes < 18446744073709551616)
 
 abbrev pub decreases-loop-i : goal.decreases-loop-i
 decreases-loop-i l = length l.nodes - l.i

@@ -30,7 +30,8 @@ pub returns-then-last-n : goal.returns-then-last-n
 returns-then-last-n c = turn_past _ _ c.requires.taken (state (search)) _ c.if-n-eq0.false (omega (arith, c.if-last-n.true, last (search)))
 
 pub returns-then-strays : goal.returns-then-strays
-returns-then-strays c = step_stray _ _ c.requires.taken (state (search)) _ c.if-n-eq0.false (omega (arith, c.if-last-n.false, last (search))) _
+returns-then-strays c = step_stray _ _ c.requires.taken (state (search)) _ c.if-n-eq0.false
+    (omega (arith, c.if-last-n.false, last (search))) _
     c.strays.ensures c.if-strays.true
 
 pub turn-requires : goal.turn-requires

@@ -27,5 +27,6 @@ returns-in-Refused c = driven_kept _ _ (state (search)) c.args.budget _ _ _ _
     (sym (c.admit-checked.ensures.told _ _ _) ∙ ap verdict_of c.in-Refused.is) refl
 
 pub returns-in-Accepted : goal.returns-in-Accepted
-returns-in-Accepted c = let a = admitted_from _ _ (state (search)) _ _ (sym (c.admit-checked.ensures.told _ _ _) ∙ ap verdict_of c.in-Accepted.is) in
+returns-in-Accepted c = let a = admitted_from _ _ (state (search)) _ _
+    (sym (c.admit-checked.ensures.told _ _ _) ∙ ap verdict_of c.in-Accepted.is) in
     driven_counted _ _ (state (search)) _ _ _ _ c.drive-end.result _ (stand_standing _ _ a.0 (state (search)) a.1) c.drive-end.ensures

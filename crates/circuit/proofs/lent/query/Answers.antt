@@ -26,5 +26,6 @@ pub returns-in-Refused : goal.returns-in-Refused
 returns-in-Refused c = query_turned _ _ (state (search)) _ _ (sym (c.admit-checked.ensures.told _ _ _) ∙ ap verdict_of c.in-Refused.is)
 
 pub returns-in-Accepted : goal.returns-in-Accepted
-returns-in-Accepted c = let a = admitted_from _ _ (state (search)) _ _ (sym (c.admit-checked.ensures.told _ _ _) ∙ ap verdict_of c.in-Accepted.is) in
+returns-in-Accepted c = let a = admitted_from _ _ (state (search)) _ _
+    (sym (c.admit-checked.ensures.told _ _ _) ∙ ap verdict_of c.in-Accepted.is) in
     query_goes _ _ (state (search)) _ _ (stand_standing _ _ a.0 (state (search)) a.1) (found_of c.query.result) c.query.ensures

@@ -11,7 +11,8 @@ pub start-requires : goal.start-requires
 start-requires c = (agreed_from _ _ _ _ (sym c.check_coverage-told.ensures.0 ∙ ap verdict_of c.in-Accepted.is)).fair
 
 pub returns-in-Refused : goal.returns-in-Refused
-returns-in-Refused c = subst (OpenedAs _ _ _) (sym (start_first _ _ _ _ _ (sym c.check_coverage-told.ensures.0 ∙ ap verdict_of c.in-Refused.is)))
+returns-in-Refused c = subst (OpenedAs _ _ _) (sym (start_first _ _ _ _ _
+    (sym c.check_coverage-told.ensures.0 ∙ ap verdict_of c.in-Refused.is)))
     (record { answer = refl; state = refl })
 
 pub returns-in-Accepted : goal.returns-in-Accepted

@@ -22,5 +22,6 @@ pub returns-in-Refused : goal.returns-in-Refused
 returns-in-Refused c = step_turned _ _ _ _ (sym c.read_in-checked.ensures.told ∙ ap verdict_of c.in-Refused.is) (state (search)) c.args.n.0
 
 pub returns-in-Accepted : goal.returns-in-Accepted
-returns-in-Accepted c = c.step.ensures ∙ sym (step_is _ _ _ _ (sym c.read_in-checked.ensures.told ∙ ap verdict_of c.in-Accepted.is) (state (search))
+returns-in-Accepted c = c.step.ensures ∙ sym (step_is _ _ _ _ (sym c.read_in-checked.ensures.told
+    ∙ ap verdict_of c.in-Accepted.is) (state (search))
     c.args.n.0)

@@ -54,7 +54,8 @@ returns-then-p-eq0 c = let fair = c.requires.0.taken in
       carries = λ d e s₀ sized q eq tr. (
         follows_none _ fair _ c.requires.1 c.args.plan s₀ sized q _ eq _ _ tr _
             (ended_so _ fair _ _ _ _ _ _ _ _ (parents (search)) _ _ c.args.plan c.requires.7
-            (ended_by _ fair _ c.requires.3 _ c.requires.1 (sym (parents (search)) ∙ c.if-p-eq0.true) _ (owners (search)) (own_in _ fair _ c.requires.1)
+            (ended_by _ fair _ c.requires.3 _ c.requires.1 (sym (parents (search)) ∙ c.if-p-eq0.true) _ (owners (search))
+            (own_in _ fair _ c.requires.1)
             _ _ _ _ _ _ _ _ (z.1 _) c.arm_callers.ensures)
             (λ v m r. c.free-freed.ensures.2 c.args.armed.now c.args.waiting.now c.args.inside.now
             v m c.requires.7 r))
@@ -107,7 +108,8 @@ returns-then-freed c = let fair = c.requires.0.taken in
       three = record { armed = w.0; waiting = w.1; inside = z.0.inside };
       size = f.1;
       carries = λ d e s₀ sized q eq tr. (
-        grown_so _ fair _ c.requires.1 (up (search)) c.args.plan c.requires.7 s₀ sized q _ eq _ _ _ _ _ _ _ _ _ _ tr (z.1 _) _ (parents (search))
+        grown_so _ fair _ c.requires.1 (up (search)) c.args.plan c.requires.7 s₀ sized q _ eq _ _ _ _ _ _ _ _ _ _ tr (z.1 _)
+            _ (parents (search))
             (λ v m r. f.2 c.args.armed.now c.args.waiting.now c.args.inside.now v m c.requires.7 r) _ (w.2 d e) w.3,
         c.first-then-freed.ensures _,
       );
@@ -122,13 +124,15 @@ returns-then-k-eq2 c = let fair = c.requires.0.taken in
       three = record { armed = w.0; waiting = w.1; inside = z.0.inside };
       size = f.1;
       carries = λ d e s₀ sized q eq tr. (
-        grown_so _ fair _ c.requires.1 (up (search)) c.args.plan c.requires.7 s₀ sized q _ eq _ _ _ _ _ _ _ _ _ _ tr (z.1 _) _ (parents (search))
+        grown_so _ fair _ c.requires.1 (up (search)) c.args.plan c.requires.7 s₀ sized q _ eq _ _ _ _ _ _ _ _ _ _ tr (z.1 _)
+            _ (parents (search))
             (λ v m r. f.2 c.args.armed.now c.args.waiting.now c.args.inside.now v m c.requires.7 r) _ (w.2 d e) w.3,
         lifted_first _ fair _ c.requires.1 (up (search)) _ (parents (search)) _ _ _ c.requires.6
             (record { here = (z.1 c.args.held.now).here; others = (z.1 c.args.held.now).others }) _ _ (w.3 _ _)
             c.if-k-eq2.true
             (λ m r. f.2 c.args.armed.now c.args.waiting.now c.args.inside.now c.args.value.now m c.requires.7 r
-            ∙ held_kept _ _ (sets_as c.args.armed.now c.args.waiting.now c.args.inside.now c.args.held.now) _ m c.args.plan c.requires.7 (sym f.0 ∙ c.if-freed.false)),
+            ∙ held_kept _ _ (sets_as c.args.armed.now c.args.waiting.now c.args.inside.now c.args.held.now) _ m c.args.plan c.requires.7
+            (sym f.0 ∙ c.if-freed.false)),
       );
     }
 
@@ -146,12 +150,14 @@ returns-then-is_beside c = let o = beside_so _ _ _ _ c.is_beside.ensures c.if-is
       three = record { armed = w.0; waiting = w.1; inside = z.0.inside };
       size = f.1;
       carries = λ d e s₀ sized q eq tr. (
-        grown_so _ fair _ c.requires.1 (up (search)) c.args.plan c.requires.7 s₀ sized q _ eq _ _ _ _ _ _ _ _ _ _ tr (z.1 _) _ (parents (search))
+        grown_so _ fair _ c.requires.1 (up (search)) c.args.plan c.requires.7 s₀ sized q _ eq _ _ _ _ _ _ _ _ _ _ tr (z.1 _)
+            _ (parents (search))
             (λ v m r. f.2 c.args.armed.now c.args.waiting.now c.args.inside.now v m c.requires.7 r) _ (w.2 d e) w.3,
         beside_first _ fair _ c.requires.1 (up (search)) _ (parents (search)) _ _ _ c.requires.6
             (record { here = (z.1 c.args.held.now).here; others = (z.1 c.args.held.now).others }) _ _ (w.3 _ _)
             (λ m r. f.2 c.args.armed.now c.args.waiting.now c.args.inside.now c.args.value.now m c.requires.7 r
-            ∙ held_kept _ _ (sets_as c.args.armed.now c.args.waiting.now c.args.inside.now c.args.held.now) _ m c.args.plan c.requires.7 (sym f.0 ∙ c.if-freed.false))
+            ∙ held_kept _ _ (sets_as c.args.armed.now c.args.waiting.now c.args.inside.now c.args.held.now) _ m c.args.plan c.requires.7
+            (sym f.0 ∙ c.if-freed.false))
             _ (grown_so _ fair _ c.requires.1 (up (search)) c.args.plan c.requires.7 s₀ sized q _ eq _ _ _ _ _ _ _ _ _ _ tr (z.1 _) _
             (parents (search)) (λ v m r. f.2 c.args.armed.now c.args.waiting.now c.args.inside.now v m c.requires.7 r)
             _ (w.2 d e) w.3) (sym c.if-k-eq0.true ∙ w.2 d e) _ (sibling_in (search) o.0) o.0 o.1,
@@ -167,7 +173,8 @@ returns-then-k-eq0 c = let fair = c.requires.0.taken in
       three = record { armed = w.0; waiting = w.1; inside = z.0.inside };
       size = f.1;
       carries = λ d e s₀ sized q eq tr. (
-        grown_so _ fair _ c.requires.1 (up (search)) c.args.plan c.requires.7 s₀ sized q _ eq _ _ _ _ _ _ _ _ _ _ tr (z.1 _) _ (parents (search))
+        grown_so _ fair _ c.requires.1 (up (search)) c.args.plan c.requires.7 s₀ sized q _ eq _ _ _ _ _ _ _ _ _ _ tr (z.1 _)
+            _ (parents (search))
             (λ v m r. f.2 c.args.armed.now c.args.waiting.now c.args.inside.now v m c.requires.7 r) _ (w.2 d e) w.3,
         c.first-then-k-eq0.ensures _,
       );
@@ -182,7 +189,8 @@ returns c = let fair = c.requires.0.taken in
       three = record { armed = w.0; waiting = w.1; inside = z.0.inside };
       size = f.1;
       carries = λ d e s₀ sized q eq tr. (
-        grown_so _ fair _ c.requires.1 (up (search)) c.args.plan c.requires.7 s₀ sized q _ eq _ _ _ _ _ _ _ _ _ _ tr (z.1 _) _ (parents (search))
+        grown_so _ fair _ c.requires.1 (up (search)) c.args.plan c.requires.7 s₀ sized q _ eq _ _ _ _ _ _ _ _ _ _ tr (z.1 _)
+            _ (parents (search))
             (λ v m r. f.2 c.args.armed.now c.args.waiting.now c.args.inside.now v m c.requires.7 r) _ (w.2 d e) w.3,
         c.first-2.ensures _,
       );

@@ -55,7 +55,8 @@ returns-in-Enters c = let e = c.in-Enters.is in
     (sym (ap frees e), c.requires.3, none (search) (ap ends e) _)
 
 pub returns-in-Leaves : goal.returns-in-Leaves
-returns-in-Leaves c = let f : IsFunction c.args.table.now c.in-Leaves.g.0 = subst (Sound c.args.table.now c.args.n.0) c.in-Leaves.is c.requires.1 in
+returns-in-Leaves c = let f : IsFunction c.args.table.now c.in-Leaves.g.0 = subst (Sound c.args.table.now c.args.n.0)
+    c.in-Leaves.is c.requires.1 in
     let fair = c.requires.0 in
     let e = c.in-Leaves.is in (
       sym (ap frees e),

@@ -45,4 +45,9 @@ pub returns-then-kind-eq3 : goal.returns-then-kind-eq3
 returns-then-kind-eq3 c = λ x y z. c.of_primitive.ensures _ x y z
 
 pub of_call-requires : goal.of_call-requires
-of_call-requires c = (c.requires.0, c.requires.1, (gathers (search)).busy, ⊎_elim (λ e. absurd (c.if-kind-eq3.false (read (search) ∙ e))) (λ e. e) (gathers (search)).kinds)
+of_call-requires c = (
+  c.requires.0,
+  c.requires.1,
+  (gathers (search)).busy,
+  ⊎_elim (λ e. absurd (c.if-kind-eq3.false (read (search) ∙ e))) (λ e. e) (gathers (search)).kinds,
+)

@@ -38,7 +38,9 @@ phase c =
     sym c.second_at.ensures ∙ c.if-second_at.false
 
 pub returns-then-kind-eq3 : goal.returns-then-kind-eq3
-returns-then-kind-eq3 c = gathers_kind _ _ _ _ (busy (search)) (phase (search)) _ (read (search)) _ (ap (λ b. b || eqb c.kind-kind.result 4) (sym (eq-eqb _ 3 c.if-kind-eq3.true)))
+returns-then-kind-eq3 c = gathers_kind _ _ _ _ (busy (search)) (phase (search)) _ (read (search)) _
+    (ap (λ b. b || eqb c.kind-kind.result 4) (sym (eq-eqb _ 3 c.if-kind-eq3.true)))
 
 pub returns : goal.returns
-returns c = gathers_kind _ _ _ _ (busy (search)) (phase (search)) _ (read (search)) _ (ap (λ b. b || eqb c.kind-kind.result 4) (sym (ne_eqb _ 3 c.if-kind-eq3.false)))
+returns c = gathers_kind _ _ _ _ (busy (search)) (phase (search)) _ (read (search)) _
+    (ap (λ b. b || eqb c.kind-kind.result 4) (sym (ne_eqb _ 3 c.if-kind-eq3.false)))

@@ -58,5 +58,6 @@ returns-in-6 c = λ d e. c.of_let.ensures _ d e
 pub returns-in_default : goal.returns-in_default
 returns-in_default c = let p = c.requires in
     let other = c.in_default.in_default-own.rest in
-    λ d e. sort_leaf _ p.0.taken _ p.1 _ _ _ d e (busy (search)) (λ z. other.0.0.0.1 (read (search) ∙ z)) (λ z. other.0.0.1 (read (search) ∙ z))
+    λ d e. sort_leaf _ p.0.taken _ p.1 _ _ _ d e (busy (search)) (λ z. other.0.0.0.1 (read (search) ∙ z))
+    (λ z. other.0.0.1 (read (search) ∙ z))
     (λ z. other.0.1 (read (search) ∙ z)) (λ z. other.1 (read (search) ∙ z))

@@ -94,6 +94,8 @@ loop-top-preserved c = (
 
 pub returns : goal.returns
 returns c = (
-  loop_followed _ _ _ _ _ _ _ _ _ _ _ _ (from (search)) _ _ (state (search)) _ _ _ _ c.loop-top.invariant.0 _ c.going.ensures c.loop-top-test.false,
-  loop_made _ _ _ _ _ _ _ _ _ _ _ _ (from (search)) _ _ (state (search)) _ _ _ _ c.loop-top.invariant.0 _ c.going.ensures c.loop-top-test.false,
+  loop_followed _ _ _ _ _ _ _ _ _ _ _ _ (from (search)) _ _ (state (search)) _ _ _ _ c.loop-top.invariant.0 _ c.going.ensures
+      c.loop-top-test.false,
+  loop_made _ _ _ _ _ _ _ _ _ _ _ _ (from (search)) _ _ (state (search)) _ _ _ _ c.loop-top.invariant.0 _ c.going.ensures
+      c.loop-top-test.false,
 )

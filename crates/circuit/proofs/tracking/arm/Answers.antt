@@ -26,7 +26,11 @@ place-requires c = let p = c.requires in
     (p.2, (omega (arith, i.0, firsts (search)), omega (arith, i.1, firsts (search), (ok _ p.0.taken).n_high)))
 
 pub returns-then-kind-eq5 : goal.returns-then-kind-eq5
-returns-then-kind-eq5 c = (c.place.ensures.0, λ h. arm_if _ _ _ (kinds (search)) _ (firsts (search)) _ _ c.if-kind-eq5.true (c.place.ensures.1 h))
+returns-then-kind-eq5 c = (
+  c.place.ensures.0,
+  λ h. arm_if _ _ _ (kinds (search)) _ (firsts (search)) _ _ c.if-kind-eq5.true
+      (c.place.ensures.1 h),
+)
 
 pub arm_all-requires : goal.arm_all-requires
 arm_all-requires c = let p = c.requires in

@@ -11,7 +11,8 @@ use Rattle.circuit.proofs.tracking.arm_all.Given as goal
 
 abbrev pub invariant-loop-at : goal.invariant-loop-at
 invariant-loop-at l = (l.at.0 ≤ nodes l.table) × Three l.armed l.waiting l.inside
-    × Arming (leading l.defs (chain l.table l.initial.at.0)) (leading l.defs (chain l.table l.at.0)) l.initial.armed l.initial.waiting l.initial.inside l.armed l.waiting l.inside
+    × Arming (leading l.defs (chain l.table l.initial.at.0)) (leading l.defs (chain l.table l.at.0)) l.initial.armed l.initial.waiting
+    l.initial.inside l.armed l.waiting l.inside
 
 abbrev pub decreases-loop-at : goal.decreases-loop-at
 decreases-loop-at l = rest l.table l.at.0

@@ -57,13 +57,23 @@ pub put_at-requires : goal.put_at-requires
 put_at-requires c = (c.requires.3.size, omega (arith, few (search)), bit (search))
 
 pub put_at-requires-then-is_call : goal.put_at-requires-then-is_call
-put_at-requires-then-is_call c = (c.put_at.ensures.size, omega (arith, word_read (search), (function (search)).1, (ok _ (start (search)).requires.0.taken).f_high), bit (start (search)))
+put_at-requires-then-is_call c = (
+  c.put_at.ensures.size,
+  omega (
+    arith,
+    word_read (search),
+    (function (search)).1,
+    (ok _ (start (search)).requires.0.taken).f_high,
+  ),
+  bit (start (search)),
+)
 
 pub returns-then-is_call : goal.returns-then-is_call
 returns-then-is_call c = let s = start (search) in
     let p = s.requires in (
       rowed_call _ p.0.taken _ p.1 _ p.3 _ (own_read (search)) (few (search)) _ c.put_at.ensures _
-          c.is_call.ensures c.if-is_call.true _ (word_read (search)) (omega (arith, word_read (search), (function (search)).0)) _ c.put_at-then-is_call.ensures,
+          c.is_call.ensures c.if-is_call.true _ (word_read (search)) (omega (arith, word_read (search), (function (search)).0)) _
+          c.put_at-then-is_call.ensures,
       λ x y z u. marked_as _ _ _ s.args.held.now _ (c.barred.ensures x y z u) c.mark.ensures,
     )
 

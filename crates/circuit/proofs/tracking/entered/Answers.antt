@@ -17,7 +17,8 @@ returns-then-status_at-eq2 c = λ x y z. inside_is _ c.requires.0.taken _ c.requ
     _ c.second_at.ensures c.if-second_at.true
 
 pub returns-else-status_at-eq2 : goal.returns-else-status_at-eq2
-returns-else-status_at-eq2 c = λ x y z. inside_idle _ c.requires.0.taken _ c.requires.1 (state_as c.args.status.now c.args.second.now x y z) _
+returns-else-status_at-eq2 c = λ x y z. inside_idle _ c.requires.0.taken _ c.requires.1
+    (state_as c.args.status.now c.args.second.now x y z) _
     c.status_at.ensures c.if-status_at-eq2.false
 
 pub returns-else-second_at : goal.returns-else-second_at

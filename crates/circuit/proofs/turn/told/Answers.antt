@@ -9,7 +9,8 @@ pub value_at-requires : goal.value_at-requires
 value_at-requires c = c.requires
 
 pub returns-then-status_at-eq3 : goal.returns-then-status_at-eq3
-returns-then-status_at-eq3 c = ap answered c.value_at.ensures ∙ sym (ap (λ b. pick b (answered (entry c.args.value.now 0 c.args.top.0)) taken)
+returns-then-status_at-eq3 c = ap answered c.value_at.ensures ∙ sym (ap
+    (λ b. pick b (answered (entry c.args.value.now 0 c.args.top.0)) taken)
     (eq-eqb _ 3 (sym c.status_at.ensures ∙ c.if-status_at-eq3.true)))
 
 pub returns : goal.returns

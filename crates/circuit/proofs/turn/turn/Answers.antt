@@ -59,14 +59,16 @@ pub status_at-requires : goal.status_at-requires
 status_at-requires c = c.top-root.ensures.1
 
 pub returns-then-status_at-eq3 : goal.returns-then-status_at-eq3
-returns-then-status_at-eq3 c = turn_over _ _ c.requires.0.taken (state (search)) _ c.if-n-eq0.false (node (search)).1 c.requires.2 _ _ c.top-root.ensures.0
+returns-then-status_at-eq3 c = turn_over _ _ c.requires.0.taken (state (search)) _ c.if-n-eq0.false (node (search)).1 c.requires.2 _ _
+    c.top-root.ensures.0
     c.status_at.ensures c.if-status_at-eq3.true
 
 pub why_not-why-requires : goal.why_not-why-requires
 why_not-why-requires c = (c.requires.0, node (search))
 
 pub returns-then-why-ne0 : goal.returns-then-why-ne0
-returns-then-why-ne0 c = out_refused _ c.args.tags.now c.requires.0.taken (state (search)) c.args.n.0 (act (search)) _ (c.why_not-why.ensures _) c.if-why-ne0.true
+returns-then-why-ne0 c = out_refused _ c.args.tags.now c.requires.0.taken (state (search)) c.args.n.0 (act (search)) _
+    (c.why_not-why.ensures _) c.if-why-ne0.true
     ∙ sym (on (search))
 
 pub go-requires : goal.go-requires

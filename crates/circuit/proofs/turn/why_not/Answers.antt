@@ -20,7 +20,8 @@ pub returns-then-k-eq2 : goal.returns-then-k-eq2
 returns-then-k-eq2 c = λ d. why_moves _ (state (search) d) _ _ (sym (c.sort_at-k.ensures d _) ∙ c.if-k-eq2.true)
 
 pub returns-then-k-eq0 : goal.returns-then-k-eq0
-returns-then-k-eq0 c = λ d. why_stuck _ (act_of c.args.table.now (state (search) d) c.args.n.0) (sym (c.sort_at-k.ensures d _) ∙ c.if-k-eq0.true)
+returns-then-k-eq0 c = λ d. why_stuck _ (act_of c.args.table.now (state (search) d) c.args.n.0)
+    (sym (c.sort_at-k.ensures d _) ∙ c.if-k-eq0.true)
 
 pub returns-then-barred : goal.returns-then-barred
 returns-then-barred c = λ d. why_held _ (state (search) d) _ _ (λ e. c.if-k-eq2.false (c.sort_at-k.ensures d _ ∙ e))

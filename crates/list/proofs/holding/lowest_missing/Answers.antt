@@ -24,7 +24,8 @@ pub loop-n-init : goal.loop-n-init
 loop-n-init c = (omega (arith, c.covered.ensures.0), c.covered.ensures.1, refl)
 
 pub returns-then-not-marks : goal.returns-then-not-marks
-returns-then-not-marks c = sym (lowest_found (holds_at _ _) _ _ c.loop-n.invariant.1 (holds_not _ _ _ (sym c.marks.ensures ∙ c.if-marks.true)
+returns-then-not-marks c = sym (lowest_found (holds_at _ _) _ _ c.loop-n.invariant.1
+    (holds_not _ _ _ (sym c.marks.ensures ∙ c.if-marks.true)
     (sym c.marks-then-marks.ensures ∙ c.if-not-marks.true)) (omega (arith, c.loop-n.invariant.2, c.loop-n-test.true)))
 
 pub loop-n-smaller-else-not-marks : goal.loop-n-smaller-else-not-marks
@@ -48,5 +49,10 @@ loop-n-preserved c = (
 )
 
 pub returns : goal.returns
-returns c = let e : c.loop-n.n ≡ 8 * length c.args.tags.now = omega (arith, c.loop-n.invariant.0, c.loop-n.invariant.2, c.loop-n-test.false) in
+returns c = let e : c.loop-n.n ≡ 8 * length c.args.tags.now = omega (
+  arith,
+  c.loop-n.invariant.0,
+  c.loop-n.invariant.2,
+  c.loop-n-test.false,
+) in
     sym (sym (ap (lowest (holds_at (tagged c.args.set.now) c.args.tags.now)) e) ∙ c.loop-n.invariant.1)

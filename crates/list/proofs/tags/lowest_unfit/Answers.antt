@@ -47,7 +47,8 @@ pub overflow_cast-n : goal.overflow_cast-n
 overflow_cast-n c = omega (arith, c.loop-k.invariant.0, c.loop-k-test.true)
 
 pub returns-then-kind-ne4 : goal.returns-then-kind-ne4
-returns-then-kind-ne4 c = sym (lowest_found (cell_fits _ _) _ _ c.loop-k.invariant.1 (tag_other _ _ _ (marked (search)) (λ q. c.if-kind-ne4.true (c.kind.ensures ∙ q)))
+returns-then-kind-ne4 c = sym (lowest_found (cell_fits _ _) _ _ c.loop-k.invariant.1
+    (tag_other _ _ _ (marked (search)) (λ q. c.if-kind-ne4.true (c.kind.ensures ∙ q)))
     (inside (search)))
 
 pub returns-then-callee-owner : goal.returns-then-callee-owner

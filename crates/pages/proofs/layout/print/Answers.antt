@@ -56,7 +56,8 @@ pub bounds-found-i : goal.bounds-found-i
 bounds-found-i c = few (search)
 
 pub add-w-requires : goal.add-w-requires
-add-w-requires c = stands_roomy (all (search)) _ _ c.loop-i.text c.loop-i.w (next (search)) (next_left (search) _ (stands (search))) (arranged_fit _)
+add-w-requires c = stands_roomy (all (search)) _ _ c.loop-i.text c.loop-i.w (next (search))
+    (next_left (search) _ (stands (search))) (arranged_fit _)
 
 pub overflow_add-i : goal.overflow_add-i
 overflow_add-i c = record { fits = omega (arith, few (search)) }

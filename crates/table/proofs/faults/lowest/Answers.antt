@@ -40,7 +40,11 @@ pub loop-n-smaller : goal.loop-n-smaller
 loop-n-smaller c = omega arith
 
 pub loop-n-preserved : goal.loop-n-preserved
-loop-n-preserved c = (omega arith, rw c.lower-best.ensures (lowest_next _ _ _ _ c.loop-n.invariant.1 c.fault_at-number.ensures), c.loop-n.invariant.2)
+loop-n-preserved c = (
+  omega arith,
+  rw c.lower-best.ensures (lowest_next _ _ _ _ c.loop-n.invariant.1 c.fault_at-number.ensures),
+  c.loop-n.invariant.2,
+)
 
 pub returns : goal.returns
 returns c = let e : c.loop-n.n ≡ nodes c.args.table.now = omega (arith, c.loop-n.invariant.0, c.loop-n.invariant.2) in

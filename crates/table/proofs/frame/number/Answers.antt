@@ -16,7 +16,12 @@ returns-then-f-lt1 c = simp (le-leb 4 _ c.if-len-lt4.false, sym c.two_at-f.ensur
 
 pub returns-then-f-gt32 : goal.returns-then-f-gt32
 unfolding frame_number sizes whole functions nodes
-returns-then-f-gt32 c = simp (le-leb 4 _ c.if-len-lt4.false, sym c.two_at-f.ensures, le-leb 1 _ c.if-f-lt1.false, lt-leb _ 32 c.if-f-gt32.true)
+returns-then-f-gt32 c = simp (
+  le-leb 4 _ c.if-len-lt4.false,
+  sym c.two_at-f.ensures,
+  le-leb 1 _ c.if-f-lt1.false,
+  lt-leb _ 32 c.if-f-gt32.true,
+)
 
 pub returns-then-n-lt1 : goal.returns-then-n-lt1
 unfolding frame_number sizes whole functions nodes

@@ -45,13 +45,18 @@ pub overflow_add-f : goal.overflow_add-f
 overflow_add-f c = omega arith
 
 pub returns-then-not-root_fits : goal.returns-then-not-root_fits
-returns-then-not-root_fits c = sym (all_fails (root_fits _) _ _ (function (search)).0 (function (search)).1 (sym (tests (search)) ∙ c.if-not-root_fits.true))
+returns-then-not-root_fits c = sym (all_fails (root_fits _) _ _ (function (search)).0 (function (search)).1
+    (sym (tests (search)) ∙ c.if-not-root_fits.true))
 
 pub loop-f-smaller : goal.loop-f-smaller
 loop-f-smaller c = omega arith
 
 pub loop-f-preserved : goal.loop-f-preserved
-loop-f-preserved c = (omega arith, all_more (root_fits _) _ c.loop-f.invariant.1 (sym (tests (search)) ∙ c.if-not-root_fits.false), c.loop-f.invariant.2)
+loop-f-preserved c = (
+  omega arith,
+  all_more (root_fits _) _ c.loop-f.invariant.1 (sym (tests (search)) ∙ c.if-not-root_fits.false),
+  c.loop-f.invariant.2,
+)
 
 pub returns : goal.returns
 returns c = let e : c.loop-f.f ≡ functions c.args.table.now = omega (arith, c.loop-f.invariant.0, c.loop-f.invariant.2) in

@@ -36,7 +36,13 @@ up_lower c =
     omega (arith, c.relate-up.ensures.0, parent_lower c.args.table.now (c.loop-n.n + 1) (omega arith))
 
 pub loop-n-init : goal.loop-n-init
-loop-n-init c = (omega arith, c.requires.3, tails_none _, c.last-last.ensures ∙ sizes_filled _ _ c.requires.0 _ _ _ c.requires.3 1 (omega arith))
+loop-n-init c = (
+  omega arith,
+  c.requires.3,
+  tails_none _,
+  c.last-last.ensures
+      ∙ sizes_filled _ _ c.requires.0 _ _ _ c.requires.3 1 (omega arith),
+)
 
 pub overflow_add-n : goal.overflow_add-n
 overflow_add-n c = omega (arith, room (search))

@@ -8,7 +8,8 @@ use Rattle.table.proofs.KinLoops.{TailsTo}
 use Rattle.table.proofs.kin.collect.Given as goal
 
 abbrev pub invariant-loop-n : goal.invariant-loop-n
-invariant-loop-n l = (l.n ≤ l.last) × Filled l.table (functions l.table) (nodes l.table) l.n l.cells × TailsTo l.table l.tail l.n × (l.last ≡ nodes l.table)
+invariant-loop-n l = (l.n ≤ l.last) × Filled l.table (functions l.table) (nodes l.table) l.n l.cells × TailsTo l.table l.tail l.n
+    × (l.last ≡ nodes l.table)
 
 abbrev pub decreases-loop-n : goal.decreases-loop-n
 decreases-loop-n l = l.last - l.n

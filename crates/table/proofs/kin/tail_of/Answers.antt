@@ -40,11 +40,19 @@ returns-then-p-eq0 c = simp (eq-eqb _ _ c.if-p-eq0.true)
 
 pub returns-then-first-n : goal.returns-then-first-n
 unfolding tail_child
-returns-then-first-n c = simp (ne_eqb _ _ c.if-p-eq0.false, sym (kinded (search)) ∙ c.if-kind-eq5.true, told_yes _ (firsts (search)) c.if-first-n.true)
+returns-then-first-n c = simp (
+  ne_eqb _ _ c.if-p-eq0.false,
+  sym (kinded (search)) ∙ c.if-kind-eq5.true,
+  told_yes _ (firsts (search)) c.if-first-n.true,
+)
 
 pub returns-else-first-n : goal.returns-else-first-n
 unfolding tail_child
-returns-else-first-n c = simp (ne_eqb _ _ c.if-p-eq0.false, sym (kinded (search)) ∙ c.if-kind-eq5.true, told_no _ (firsts (search)) c.if-first-n.false)
+returns-else-first-n c = simp (
+  ne_eqb _ _ c.if-p-eq0.false,
+  sym (kinded (search)) ∙ c.if-kind-eq5.true,
+  told_no _ (firsts (search)) c.if-first-n.false,
+)
 
 pub returns-then-next-eq0 : goal.returns-then-next-eq0
 unfolding tail_child
@@ -66,4 +74,8 @@ returns-else-next-eq0 c = simp (
 
 pub returns : goal.returns
 unfolding tail_child
-returns c = simp (ne_eqb _ _ c.if-p-eq0.false, told_no 5 (kinded (search)) c.if-kind-eq5.false, told_no 6 (kinded (search)) c.if-kind-eq6.false)
+returns c = simp (
+  ne_eqb _ _ c.if-p-eq0.false,
+  told_no 5 (kinded (search)) c.if-kind-eq5.false,
+  told_no 6 (kinded (search)) c.if-kind-eq6.false,
+)

@@ -15,7 +15,11 @@ pub loop-kind-smaller : goal.loop-kind-smaller
 loop-kind-smaller c = omega arith
 
 pub loop-kind-preserved : goal.loop-kind-preserved
-loop-kind-preserved c = (omega arith, rules_more _ _ _ _ c.loop-kind.invariant.1 c.rule_of-r.ensures (c.packed.ensures ∙ ap packed c.child_counts.ensures))
+loop-kind-preserved c = (
+  omega arith,
+  rules_more _ _ _ _ c.loop-kind.invariant.1 c.rule_of-r.ensures
+      (c.packed.ensures ∙ ap packed c.child_counts.ensures),
+)
 
 pub returns : goal.returns
 returns c = c.loop-kind.invariant.1 ∙ ap kind_rules (omega arith)

@@ -27,4 +27,5 @@ next-requires c = record {
 
 pub returns : goal.returns
 returns c e = root_told _ _ _ _ _ _ c.root-root.ensures c.params.ensures c.width_byte.ensures c.next.ensures
-    c.if-root-lt1.false (omega (arith, c.if-last-root.false, c.requires.3)) c.if-params-gt8.false c.if-width_byte-gt32.false (eqb-true _ _ e)
+    c.if-root-lt1.false (omega (arith, c.if-last-root.false, c.requires.3)) c.if-params-gt8.false
+    c.if-width_byte-gt32.false (eqb-true _ _ e)

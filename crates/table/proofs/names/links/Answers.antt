@@ -39,13 +39,15 @@ Read = lts.After-next tie.the-claims reads.Pre reads.Post goal.the-invariant-loo
 first_read : (c : Read) →
     c.first-first.result.0 ≡ first c.args.table.now (c.loop-n.n + 1)
 first_read c =
-    c.first-first.ensures ∙ filled_at _ _ _ _ _ _ (node (search)).0 (omega (arith, (node (search)).1, c.requires.0.n_high)) (filled (search)) 4
+    c.first-first.ensures ∙ filled_at _ _ _ _ _ _ (node (search)).0 (omega
+    (arith, (node (search)).1, c.requires.0.n_high)) (filled (search)) 4
     (omega arith) (omega arith)
 
 next_read : (c : Read) →
     c.next-next.result.0 ≡ next c.args.table.now (c.loop-n.n + 1)
 next_read c =
-    c.next-next.ensures ∙ filled_at _ _ _ _ _ _ (node (search)).0 (omega (arith, (node (search)).1, c.requires.0.n_high)) (filled (search)) 5
+    c.next-next.ensures ∙ filled_at _ _ _ _ _ _ (node (search)).0 (omega
+    (arith, (node (search)).1, c.requires.0.n_high)) (filled (search)) 5
     (omega arith) (omega arith)
 
 pub base-base-requires : goal.base-base-requires
@@ -67,7 +69,13 @@ pub bounds-mentions-a : goal.bounds-mentions-a
 bounds-mentions-a c = omega arith
 
 pub overflow_add-mentions : goal.overflow_add-mentions
-overflow_add-mentions c = omega (arith, c.loop-n.invariant.1.few c.slot-a.result, (node (search)).1, c.requires.0.n_high, c.requires.0.f_high)
+overflow_add-mentions c = omega (
+  arith,
+  c.loop-n.invariant.1.few c.slot-a.result,
+  (node (search)).1,
+  c.requires.0.n_high,
+  c.requires.0.f_high,
+)
 
 pub bounds-mentions-a-in-loop-n : goal.bounds-mentions-a-in-loop-n
 bounds-mentions-a-in-loop-n c = omega arith

@@ -8,7 +8,8 @@ use Rattle.table.proofs.NameLoops.{LinksTo}
 use Rattle.table.proofs.names.links.Given as goal
 
 abbrev pub invariant-loop-n : goal.invariant-loop-n
-invariant-loop-n l = (l.n ≤ l.last) × LinksTo l.table l.initial.mentions l.mentions l.namers l.n × Filled l.table (functions l.table) l.n 0 l.cells × (l.last ≡ nodes l.table)
+invariant-loop-n l = (l.n ≤ l.last) × LinksTo l.table l.initial.mentions l.mentions l.namers l.n
+    × Filled l.table (functions l.table) l.n 0 l.cells × (l.last ≡ nodes l.table)
 
 abbrev pub decreases-loop-n : goal.decreases-loop-n
 decreases-loop-n l = l.last - l.n

@@ -49,13 +49,18 @@ pub bounds-roots-n : goal.bounds-roots-n
 bounds-roots-n c = omega (arith, room (search))
 
 pub returns-then-not-linked_at : goal.returns-then-not-linked_at
-returns-then-not-linked_at c = sym (lowest_found (linked _) _ _ c.loop-n.invariant.1 (sym (tests (search)) ∙ c.if-not-linked_at.true) (node (search)).1)
+returns-then-not-linked_at c = sym (lowest_found (linked _) _ _ c.loop-n.invariant.1
+    (sym (tests (search)) ∙ c.if-not-linked_at.true) (node (search)).1)
 
 pub loop-n-smaller : goal.loop-n-smaller
 loop-n-smaller c = omega arith
 
 pub loop-n-preserved : goal.loop-n-preserved
-loop-n-preserved c = (omega arith, lowest_more (linked _) _ c.loop-n.invariant.1 (sym (tests (search)) ∙ c.if-not-linked_at.false), c.loop-n.invariant.2)
+loop-n-preserved c = (
+  omega arith,
+  lowest_more (linked _) _ c.loop-n.invariant.1 (sym (tests (search)) ∙ c.if-not-linked_at.false),
+  c.loop-n.invariant.2,
+)
 
 pub returns : goal.returns
 returns c = let e : c.loop-n.n ≡ nodes c.args.table.now = omega (arith, c.loop-n.invariant.0, c.loop-n.invariant.2) in

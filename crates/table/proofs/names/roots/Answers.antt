@@ -32,7 +32,8 @@ small c = omega (arith, c.shared_slice_known-1.given (function_at (c.loop-f.f + 
 filled : (c : AfterFunction)
     → Filled c.args.table.now (c.loop-f.f + 1) 0 0 c.function.new.cells
 filled c =
-    filled_function _ _ _ (omega (arith, (function (search)).1, c.requires.0.f_high)) c.loop-f.invariant.2 (small (search)) _ c.function.ensures
+    filled_function _ _ _ (omega (arith, (function (search)).1, c.requires.0.f_high)) c.loop-f.invariant.2 (small (search))
+    _ c.function.ensures
 
 root_read : (c : AfterRoot) →
     c.root-root.result.0 ≡ root c.args.table.now (c.loop-f.f + 1)
@@ -68,7 +69,12 @@ pub loop-f-smaller : goal.loop-f-smaller
 loop-f-smaller c = omega arith
 
 pub loop-f-preserved : goal.loop-f-preserved
-loop-f-preserved c = (omega arith, roots_more _ _ _ _ _ _ c.loop-f.invariant.1 (root_read (search)) c.slot-at.ensures.0, filled (search), c.loop-f.invariant.3)
+loop-f-preserved c = (
+  omega arith,
+  roots_more _ _ _ _ _ _ c.loop-f.invariant.1 (root_read (search)) c.slot-at.ensures.0,
+  filled (search),
+  c.loop-f.invariant.3,
+)
 
 pub returns : goal.returns
 returns c = let e : c.loop-f.f ≡ functions c.args.table.now = omega arith in

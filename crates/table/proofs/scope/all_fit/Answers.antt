@@ -38,11 +38,12 @@ pub loop-i-smaller : goal.loop-i-smaller
 loop-i-smaller c = omega arith
 
 pub loop-i-preserved : goal.loop-i-preserved
-loop-i-preserved c = let here = bound_in c.args.table.now (get_or c.args.bounds.now c.loop-i.i 0) (c.bound_fits.ensures c.if-not-bound_fits.false) in (
-  omega (arith, c.loop-i-test.true),
-  λ j h. one_more_lem c.args.table.now c.args.bounds.now c.loop-i.i here
-      c.loop-i.invariant.1 j h,
-)
+loop-i-preserved c = let here = bound_in c.args.table.now (get_or c.args.bounds.now c.loop-i.i 0)
+    (c.bound_fits.ensures c.if-not-bound_fits.false) in (
+      omega (arith, c.loop-i-test.true),
+      λ j h. one_more_lem c.args.table.now c.args.bounds.now c.loop-i.i here
+          c.loop-i.invariant.1 j h,
+    )
 
 pub returns : goal.returns
 returns c e n i = c.requires.4.all (λ j h. c.loop-i.invariant.1 j (omega (arith, c.loop-i-test.false))) n i.0 i.1

@@ -49,7 +49,8 @@ loop-n-preserved c = let inv = c.loop-n.invariant in
     let each : sum ≡ 0 → (m : ℕ) → 1 ≤ m → m ≤ n (search) → Dec (m ≡ n (search)) → T (counted table m) = λ z m a b. elim [
       | yes q ↦ (
           let here = c.outside-wrong.ensures.1 (omega arith) in
-          rw q (counted_by table (n (search)) _ _ (p.2.each (n (search)) (node (search)).0 (node (search)).1) (p.1.each (n (search)) (node (search))) here.0 here.1))
+          rw q (counted_by table (n (search)) _ _ (p.2.each (n (search)) (node (search)).0 (node (search)).1)
+          (p.1.each (n (search)) (node (search))) here.0 here.1))
       | no q ↦ inv.3 (omega arith) m a (omega arith)
     ] in (
       omega (arith, (node (search)).1, inv.1),

@@ -8,7 +8,8 @@ use Rattle.table.specs.Check.{counted}
 use Rattle.table.proofs.sweep.all_counted.Given as goal
 
 abbrev pub invariant-loop-n : goal.invariant-loop-n
-invariant-loop-n l = (l.n ≤ l.end) × (l.end ≡ nodes l.table) × (l.wrong ≤ l.n) × (l.wrong ≡ 0 → (m : ℕ) → 1 ≤ m → m ≤ l.n → T (counted l.table m))
+invariant-loop-n l = (l.n ≤ l.end) × (l.end ≡ nodes l.table) × (l.wrong ≤ l.n)
+    × (l.wrong ≡ 0 → (m : ℕ) → 1 ≤ m → m ≤ l.n → T (counted l.table m))
 
 abbrev pub decreases-loop-n : goal.decreases-loop-n
 decreases-loop-n l = l.end - l.n

@@ -29,5 +29,6 @@ pub returns-then-word-call : goal.returns-then-word-call
 returns-then-word-call c = never
 
 pub returns : goal.returns
-returns c e = fits_told _ _ _ _ _ _ _ _ _ _ c.requires.1 c.rule.ensures c.rule-2.ensures c.rule-call.ensures c.requires.2 c.requires.4 c.requires.5
+returns c e = fits_told _ _ _ _ _ _ _ _ _ _ c.requires.1 c.rule.ensures c.rule-2.ensures c.rule-call.ensures c.requires.2
+    c.requires.4 c.requires.5
     c.if-below-extra.false c.if-word-call.false (omega (arith, c.most_word.ensures, leb-true c.args.word c.most_word.result e))

@@ -208,7 +208,11 @@ wants-requires c = let r = start (search) in (
   c.requires.1,
   kinds r,
   (fits (search)).small,
-  λ e. omega (arith, c.arguments-args.ensures.0 (call_yes (search) e), params_few _ (node r).roots _ (callee (search) (call_yes (search) e))),
+  λ e. omega (
+    arith,
+    c.arguments-args.ensures.0 (call_yes (search) e),
+    params_few _ (node r).roots _ (callee (search) (call_yes (search) e)),
+  ),
   λ e. c.arguments-args.ensures.1 (λ z. e (one_yes _ 4 (sym (call (search)) ∙ z))),
 )
 

@@ -1,6 +1,5 @@
 use native.Mathlib.Omega.{arith}
 use borrow.Author.Tests.{not-false}
-use borrow.Author.Tests.{not-false}
 use Prim.Native.Nat.{ℕ, ◌+◌, ◌/◌, ◌%◌, ◌≤◌, ◌<◌}
 use mathlib.Core.Path.{◌≡◌, ap, ◌∙◌}
 use mathlib.Core.List.{List}
@@ -122,7 +121,15 @@ pub bounds-bounds-count : goal.bounds-bounds-count
 bounds-bounds-count c = omega (arith, c.loop-n.invariant.3.bounded.few, (node (search)).1, c.requires.0.n_high)
 
 pub overflow_add-count : goal.overflow_add-count
-overflow_add-count c = record { fits = omega (arith, c.loop-n.invariant.3.bounded.few, (node (t (search))).1, c.requires.0.n_high, bound_few (search)) }
+overflow_add-count c = record {
+  fits = omega (
+    arith,
+    c.loop-n.invariant.3.bounded.few,
+    (node (t (search))).1,
+    c.requires.0.n_high,
+    bound_few (search),
+  );
+}
 
 pub loop-n-smaller : goal.loop-n-smaller
 loop-n-smaller c = omega arith

@@ -8,7 +8,8 @@ use Rattle.table.proofs.SiftLoop.{SiftedTo}
 use Rattle.table.proofs.sweep.sift.Given as goal
 
 abbrev pub invariant-loop-n : goal.invariant-loop-n
-invariant-loop-n l = (l.n ≤ l.end) × (l.end ≡ nodes l.table) × LinkedTo l.table l.n l.kin l.kids × SiftedTo l.table l.n l.wanted l.offspring l.bounds l.count
+invariant-loop-n l = (l.n ≤ l.end) × (l.end ≡ nodes l.table) × LinkedTo l.table l.n l.kin l.kids
+    × SiftedTo l.table l.n l.wanted l.offspring l.bounds l.count
 
 abbrev pub decreases-loop-n : goal.decreases-loop-n
 decreases-loop-n l = l.end - l.n

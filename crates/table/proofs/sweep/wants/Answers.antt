@@ -83,4 +83,5 @@ pub overflow_cast-result : goal.overflow_cast-result
 overflow_cast-result c = record { fits = omega (arith, few (search), more (s (search))) }
 
 pub returns : goal.returns
-returns c = wants_told (s (search)).args.kind (s (search)).args.extra (s (search)).args.params (x (search)) _ (told (search)) (more (s (search))) (s (search)).requires.4 refl
+returns c = wants_told (s (search)).args.kind (s (search)).args.extra (s (search)).args.params (x (search)) _ (told (search))
+    (more (s (search))) (s (search)).requires.4 refl
