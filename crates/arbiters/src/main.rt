@@ -3,57 +3,40 @@
 
 ghost use Rattle.std.specs.Prelude.{◌≤◌};
 
-use list::{Listing, Record};
-use std::env::{Env, FillError};
+use list::Listing;
+use std::env::Env;
 use std::io;
-use table::{Checked, Function, Node};
-
-fn refused(rt: &impl Print, k: u8, place: Node) -> io::Result<()> {
-    println!(rt; "refused {k} {}", place.0)
-}
-
-// F and N: the numbers of main and of the last node.
-fn design(rt: &impl Print, main: Function, last: Node) -> io::Result<()> {
-    println!(rt; "design {} {}", main.0, last.0)
-}
-
-fn arbiter(rt: &impl Print, r: Record) -> io::Result<()> {
-    println!(rt; "arbiter {} {} {}", r.callee.0, r.caller.0, r.node.0)
-}
+use table::Node;
 
 // The lines of the records, in order.
 fn arbiters(rt: &impl Print, found: Listing) -> io::Result<()>
     requires { found.count ≤ 512 }
 {
     for r in &found.items[..found.count] {
-        arbiter(rt, *r)?;
+        println!(rt; "arbiter {} {} {}", r.callee, r.caller, r.node)?;
     }
     Ok(())
 }
 
-// The number of bits set in the tag list, filled in a list that is lent.
-fn counted(table: &[u8], tags: &mut [u8]) -> u64 {
-    list::fill_tags(table, tags);
-    list::total(tags)
-}
-
+// The number of bits set in the tag list, which is filled here: one bit to a node.
 fn total(rt: &impl Print, table: &[u8], last: Node) -> io::Result<()>
     requires { last.0 ≤ 512 }
 {
     let mut tags = [0u8; 64];
-    let len = ((last.0 as usize) + 7) / 8;
-    let n = counted(table, &mut tags[..len]);
-    println!(rt; "total {n}")
+    let length = usize::from(last.0).div_ceil(8);
+    // Not refused: the table gave records, and the list is as long as its nodes ask.
+    let _ = list::fill_tags(table, &mut tags[..length]);
+    println!(rt; "total {}", list::total(&tags[..length]))
 }
 
 fn show(rt: &impl Print, table: &[u8]) -> io::Result<()> {
-    let found = list::list_records(table);
-    match found.checked {
-        Checked::Refused(k, place) => refused(rt, k, place),
-        Checked::Accepted(main, last) => {
-            design(rt, main, last)?;
+    match list::list_records(table) {
+        Err(refusal) => println!(rt; "{refusal}"),
+        Ok(found) => {
+            let design = found.design;
+            println!(rt; "design {} {}", design.main, design.last)?;
             arbiters(rt, found)?;
-            total(rt, table, last)
+            total(rt, table, design.last)
         }
     }
 }
@@ -61,20 +44,14 @@ fn show(rt: &impl Print, table: &[u8]) -> io::Result<()> {
 // The longest table has 5252 bytes: one byte more tells that the input is longer than any.
 fn list(rt: &(impl Input + Print + Eprint)) -> io::Result<()> {
     let mut input = [0u8; 5253];
-    let got = intake::whole(&mut rt.reader(), &mut input);
-    if got.failed {
-        return eprintln!(rt; "arbiters: standard input can't be read");
+    match intake::whole(&mut rt.reader(), &mut input) {
+        Ok(count) => show(rt, &input[..count]),
+        Err(_) => eprintln!(rt; "arbiters: standard input can't be read"),
     }
-    show(rt, &input[..got.count])
-}
-
-// Whether the program was called with an argument, if only an empty one.
-fn has_argument(rt: &impl Env) -> bool {
-    !matches!(rt.arg(1, &mut []), Err(FillError::NotPresent))
 }
 
 fn main(rt: HostRuntime) -> io::Result<()> {
-    if has_argument(&rt) {
+    if intake::is_given(rt.arg(1, &mut [])) {
         eprintln!(rt; "usage: arbiters < FILE.table")
     } else {
         list(&rt)

@@ -1,9 +1,10 @@
 -- the state that a start makes
-use Rattle.std.proofs.Common.{◌≡◌, ℕ, ◌≤◌, false, List, length, get_or, replicate, sym, ap, ◌∙◌, arith}
+use Rattle.std.proofs.Common.{◌≡◌, ℕ, zero, suc, ◌≤◌, false, Option, Some, List, length, get_or, replicate, sym, refl, ap, ◌∙◌, arith}
 use Rattle.table.specs.Syntax.{id}
 use Rattle.table.specs.Bytes.{functions, width, root, params}
 use Rattle.table.specs.Expressions.{body_of}
-use Rattle.list.specs.Tags.{missing}
+use Rattle.table.specs.declared.Node.{Node}
+use Rattle.list.specs.Tags.{missing, found}
 use Rattle.rules.specs.State.{write, fill, blank, circuit_start}
 use Rattle.rules.specs.Arithmetic.{keep_all, arithmetic}
 use Rattle.rules.specs.Circuit.{started, opening, turned, start_of}
@@ -27,17 +28,24 @@ start_is t args fair a d r er ea ed =
     (er ∙ sym (main_root t fair)) in
     λ i. state_as (q i) (replicate 512 false) (replicate 512 0) (ed i) (replicate 32 0)
 
+-- what a search for a node found, and whether it found one
+found_some : (k : ℕ) (n : Node) → Some n ≡ found k → (1 ≤ n.0) × (n.0 ≡ k)
+found_some zero n e = cc
+found_some (suc k) n e = let q : n.0 ≡ suc k = cc in (omega arith, q)
+
+pub none_found : (o : Option Node) (k : ℕ) → o ≡ found k → ((n : Node) → o ≡ Some n → ⊥) → k ≡ 0
+none_found o zero e d = refl
+none_found o (suc k) e d = absurd (d _ e)
+
 -- 11, 26, and the rest, by what was read of the table and told of the tags
 module _ (t tags args : List ℕ) (ag : Agreed t tags) (p : ℕ) (ep : p ≡ params t (functions t)) where
   pub start_count : (length args ≡ p → ⊥) → turned 11 0 ≡ start_of t tags args
   start_count d = sym (start_second t tags args _ _ ag.tagging (λ z. d (z ∙ sym ep)))
 
-  module _ (e : length args ≡ p) (n : ℕ) (en : n ≡ missing t tags) where
-    pub start_short : (n ≡ 0 → ⊥) → turned 26 n ≡ start_of t tags args
-    start_short d = sym (start_lacks t tags args _ _ ag.tagging (e ∙ ep) n (some n d) (sym en))
-      where
-        some : (n : ℕ) → (n ≡ 0 → ⊥) → 1 ≤ n
-        some n d = omega arith
+  module _ (e : length args ≡ p) where
+    pub start_short : (n : Node) → Some n ≡ found (missing t tags) → turned 26 n.0 ≡ start_of t tags args
+    start_short n q = let x = found_some (missing t tags) n q in
+        sym (start_lacks t tags args _ _ ag.tagging (e ∙ ep) n.0 x.0 (sym x.1))
 
-    pub start_goes : n ≡ 0 → started (opening t args) ≡ start_of t tags args
-    start_goes z = sym (start_taken t tags args _ _ ag.tagging (e ∙ ep) (sym en ∙ z))
+    pub start_goes : missing t tags ≡ 0 → started (opening t args) ≡ start_of t tags args
+    start_goes z = sym (start_taken t tags args _ _ ag.tagging (e ∙ ep) z)

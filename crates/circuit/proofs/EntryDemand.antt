@@ -1,5 +1,5 @@
 -- what start returns, and the third demand of what start and step return: they play as the rules do
-use Rattle.std.proofs.Common.{◌≡◌, ℕ, zero, suc, ◌+◌, ◌≤◌, List, [], ◌∷◌, length, take, sym, refl, ap, ◌∙◌, subst, inl, inr, ⊎_elim, arith}
+use Rattle.std.proofs.Common.{◌≡◌, ℕ, zero, suc, ◌+◌, ◌≤◌, List, [], ◌∷◌, length, take, sym, refl, ap, ◌∙◌, subst, inl, inr, ⊎_elim}
 use Rattle.rules.specs.State.{In}
 use Rattle.rules.specs.Step.{answered, denied}
 use Rattle.rules.specs.Play.{IsTaken, noted}
@@ -9,7 +9,8 @@ use Rattle.rules.specs.Reading.{ReadsTo}
 use Rattle.rules.specs.Runs.{MainDone, main_value}
 use Rattle.circuit.specs.Meaning.{lists_of, reply_of, opening_of}
 use Rattle.circuit.specs.Entries.{StepsOf, answers_of, taken_of, last_state, Takes, StartOfEntry, DemandOfEntries}
-use Rattle.circuit.specs.declared.types.Opening.{Opening}
+use Rattle.std.proofs.Common.{Result, Ok, Err}
+use Rattle.table.specs.declared.refusals.Refusal.{Refusal}
 use Rattle.circuit.specs.declared.types.State.{State}
 use Rattle.circuit.specs.declared.types.Stepped.{Stepped}
 use Rattle.rules.proofs.Starts.{starts_exactly}
@@ -66,12 +67,12 @@ start_of_entry t tags args old r a = record {
     exact : StartsExactly t tags args
     exact = starts_exactly t tags args
 
-    said : r.opening ≡ Opening.Opened → start_of t tags args ≡ started (lists_of r.state)
+    said : r.opening ≡ Ok tt → start_of t tags args ≡ started (lists_of r.state)
     said o = sym a.answer ∙ ap (λ x. opening_of x (lists_of r.state)) o
 
-    opens : (o : Opening) → opening_of o (lists_of r.state) ≡ started (opening t args) → o ≡ Opening.Opened
-    opens Opening.Opened e = refl
-    opens (Opening.Refused k p) e = absurd (let z : ◌≡◌ {A = ℕ} 0 1 = cc in omega arith)
+    opens : (o : Result (Unit {0}) Refusal) → opening_of o (lists_of r.state) ≡ started (opening t args) → o ≡ Ok tt
+    opens (Ok u) e = refl
+    opens (Err q) e = cc
 
 pub demand_of_entries : DemandOfEntries
 demand_of_entries t tags args old r₀ a o ns rs h =

@@ -3,6 +3,7 @@ use Rattle.std.proofs.Common.{◌≡◌, ℕ, suc, ◌+◌, ◌<◌, ◌≤◌, 
 use Rattle.std.proofs.Common.{refl, ap, ◌∙◌, subst, add-one, arith, drop_of_length-le, drop-cons}
 use Rattle.table.specs.Bytes.{functions, nodes}
 use Rattle.table.specs.Check.{accepted, refused, stage}
+use Rattle.table.specs.declared.refusals.Reason.{Reason}
 use Rattle.table.specs.declared.Node.{Node}
 use Rattle.table.proofs.Passed.{passes}
 use Rattle.list.specs.Tags.{after, check_with}
@@ -10,7 +11,8 @@ use Rattle.rules.specs.State.{State512}
 use Rattle.rules.specs.Step.{Reply, taken, answered, denied, Stepped, refusal, over}
 use Rattle.rules.specs.Circuit.{circuit_of, step_of}
 use Rattle.rules.specs.Runs.{standing, Ran, whole, stopped, and_then, run_from, run_of}
-use Rattle.circuit.specs.Meaning.{numbers, state_as}
+use Rattle.circuit.specs.Meaning.{numbers, reply_of}
+use Rattle.circuit.specs.declared.types.Answer.{Answer}
 use Rattle.table.specs.Working.{Taken}
 use Rattle.circuit.specs.Working.{Stands, Agreed, stray_in}
 use Rattle.circuit.proofs.TurnLaws.{step_is, turn_stands, turn_stray, turn_stray'}
@@ -129,23 +131,22 @@ module _ (t tags : List ℕ) (ag : Agreed t tags) (s : State512) (ns : List ℕ)
         sum : (x : ℕ) → i + (1 + x) ≡ i + 1 + x
         sum x = omega arith
 
-    pub run_takes : r ≡ taken → plus i (run_from t tags s (drop i ns)) ≡ plus (i + 1) (run_from t tags s' (drop (i + 1) ns))
-    run_takes q = run_on taken q one_more_lem
-
-    pub run_answers : {v : ℕ} → r ≡ answered v → plus i (run_from t tags s (drop i ns))
-        ≡ plus (i + 1) (run_from t tags s' (drop (i + 1) ns))
-    run_answers {v} q = run_on (answered v) q one_more_lem
+    pub run_goes_on : (a : Answer) → ((k : Reason) (p : Node) → a ≡ Answer.Refused k p → ⊥) → r ≡ reply_of a
+        → plus i (run_from t tags s (drop i ns)) ≡ plus (i + 1) (run_from t tags s' (drop (i + 1) ns))
+    run_goes_on Answer.Taken d q = run_on taken q one_more_lem
+    run_goes_on (Answer.Answered v) d q = run_on (answered v) q one_more_lem
+    run_goes_on (Answer.Refused k p) d q = absurd (d k p refl)
 
     pub run_stands : Stands t s → Stands t s'
     run_stands st = subst (λ x. Stands t x.state) (sym e) (turn_stands t tags ag.fair s st (get_or ns i 0))
 
-  pub run_ends : length ns ≤ i → (u : State512) → u ≡ s
-      → ◌≡◌ {A = Ran} (record { steps = i; halt = whole; state = u }) (plus i (run_from t tags s (drop i ns)))
+  pub run_ends : length ns ≡ i → (u : State512) → u ≡ s
+      → ◌≡◌ {A = Ran} (record { steps = length ns; halt = whole; state = u }) (plus i (run_from t tags s (drop i ns)))
   unfolding run_from
   run_ends h u w = (λ j. record { steps = plain j; halt = whole; state = w j })
-      ∙ sym (ap (λ l. plus i (run_from t tags s l)) (drop_of_length-le ns {i = i} h))
+      ∙ sym (ap (λ l. plus i (run_from t tags s l)) (drop_of_length-le ns {i = i} (omega arith)))
     where
-      plain : i ≡ i + 0
+      plain : length ns ≡ i + 0
       plain = omega arith
 
 pub run_begins : (r : Ran) → r ≡ plus 0 r
@@ -153,17 +154,3 @@ run_begins r = λ j. record { steps = plain r.steps j; halt = r.halt; state = r.
   where
     plain : (k : ℕ) → k ≡ 0 + k
     plain k = omega arith
-
--- a state handed over by value, lent as arrays and packed again; l₀ and l are its occupants with their names, before and after
-module _ (a₀ : List ℕ) (b₀ : List Bool) (c₀ d₀ : List ℕ) (l₀ : List Node) (e₀ : List ℕ) (n₀ : e₀ ≡ numbers l₀)
-    (a : List ℕ) (b : List Bool) (c d : List ℕ) (l : List Node) (e : List ℕ) (n : numbers l ≡ e) where
-  lent : state_as a₀ b₀ c₀ d₀ e₀ ≡ state_as a₀ b₀ c₀ d₀ (numbers l₀)
-  lent = λ i. state_as a₀ b₀ c₀ d₀ (n₀ i)
-
-  packed : state_as a b c d (numbers l) ≡ state_as a b c d e
-  packed = λ i. state_as a b c d (n i)
-
-  -- what is true of the lent states is true of those by value
-  pub by_value : (P : State512 → State512 → Type 0) → P (state_as a₀ b₀ c₀ d₀ e₀) (state_as a b c d e)
-      → P (state_as a₀ b₀ c₀ d₀ (numbers l₀)) (state_as a b c d (numbers l))
-  by_value P h = subst (λ s. P s (state_as a b c d (numbers l))) lent (subst (P (state_as a₀ b₀ c₀ d₀ e₀)) (sym packed) h)

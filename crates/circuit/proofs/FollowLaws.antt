@@ -9,86 +9,77 @@ use Rattle.table.specs.Working.{Taken, IsNode}
 use Rattle.table.proofs.Family.{parent_node}
 use Rattle.table.specs.declared.Function.{Function}
 use Rattle.table.specs.declared.Node.{Node}
-use Rattle.list.specs.Working.{packed}
 use Rattle.rules.specs.State.{State512, Sized, In}
 use Rattle.rules.specs.Circuit.{act_of}
 use Rattle.rules.specs.Sets.{Sets, sets_of, Stays, holds, sort}
 use Rattle.rules.proofs.SetsExact.{placed_next, held_next}
 use Rattle.circuit.specs.declared.plan.Plan.{Plan}
-use Rattle.circuit.specs.Working.{opens, gathers_at, planned, Planned, performed}
-use Rattle.circuit.specs.Packed.{sets_as, Tracks, Places, Arms, Ends, Renews, Updates}
+use Rattle.circuit.specs.Working.{opens, gathers_at, planned, calling, Planned, performed}
+use Rattle.circuit.specs.Packed.{Tracks, Places, Arms, Ends, Renews, Updates}
 use Rattle.circuit.specs.Following.{ends, Grows}
 use Rattle.circuit.proofs.ChainLaws.{ok}
 use Rattle.circuit.proofs.UpdateLaws.{node_bit, ended_inner}
 use Rattle.circuit.proofs.GrowLaws.{grown}
 
-module _ (t : List ℕ) (fair : Taken t) (n : ℕ) (a w i a' w' i' : List ℕ) where
-  pub begins_so : (h : List ℕ) → ((m : ℕ) → In m (opens t n) → IsNode t m)
-      → Arms (λ m. In m (opens t n)) (sets_as a w i h) (sets_as a' w' i' h)
-      → Updates t n Plan.Begins n (sets_as a w i h) (sets_as a' w' i' h)
-  begins_so h there y = record {
+module _ (t : List ℕ) (fair : Taken t) (n : ℕ) (x y : Sets) where
+  pub begins_so : ((m : ℕ) → In m (opens t n) → IsNode t m) → Arms (λ m. In m (opens t n)) x y → ((m : ℕ) → y.held m ≡ x.held m)
+      → Updates t n Plan.Begins n x y
+  begins_so there r kept = record {
     again = λ v. refl;
     updated = λ v. record {
       placed = record {
-        opened = λ m r k. y.opened m (node_bit t fair m r) k;
-        others = λ m r d k. y.others m (node_bit t fair m r) k;
+        opened = λ m q k. r.opened m (node_bit t fair m q) k;
+        others = λ m q d k. r.others m (node_bit t fair m q) k;
       };
-      held = λ m r. refl;
+      held = λ m q. kept m;
     };
-    past = λ q m d l. let s = y.others m (omega arith, l) (λ k. omega (arith, (there m k).1)) in
+    past = λ q m d l. let s = r.others m (omega arith, l) (λ k. omega (arith, (there m k).1)) in
         let z = q m d l in (s.0 ∙ z.0, s.1 ∙ z.1);
   }
 
-  pub turns_so : (h : List ℕ) (k : Node) → IsNode t k.0 → Places k.0 true false false (sets_as a w i h) (sets_as a' w' i' h)
-      → Updates t n (Plan.Turns k) n (sets_as a w i h) (sets_as a' w' i' h)
-  turns_so h k there y = record {
+  pub turns_so : (k : Node) → IsNode t k.0 → Places k.0 true false false x y → ((m : ℕ) → y.held m ≡ x.held m)
+      → Updates t n (Plan.Turns k) n x y
+  turns_so k there r kept = record {
     again = λ v. refl;
     updated = λ v. record {
       placed = record {
-        opened = λ m r e. subst (λ j. (packed a' j ≡ true) × (packed w' j ≡ false) × (packed i' j ≡ false)) (sym e) y.here;
-        others = λ m r d e. y.others m (node_bit t fair m r) e;
+        opened = λ m q e. subst (λ j. (y.armed j ≡ true) × (y.waiting j ≡ false) × (y.inside j ≡ false)) (sym e) r.here;
+        others = λ m q d e. r.others m (node_bit t fair m q) e;
       };
-      held = λ m r. refl;
+      held = λ m q. kept m;
     };
-    past = λ q m d l. let s = y.others m (omega arith, l) (λ e. omega (arith, e, there.1)) in
+    past = λ q m d l. let s = r.others m (omega arith, l) (λ e. omega (arith, e, there.1)) in
         let z = q m d l in (s.0 ∙ z.0, s.1 ∙ z.1);
   }
 
   -- a plan by which n is done
-  pub ended_so : (up : ℕ) → up ≡ parent t n → (h h' : List ℕ) (p : Plan) → ends p ≡ true → Ends t n (sets_as a w i h) (sets_as a' w' i' h)
-      → ((v : List ℕ) (m : ℕ) → Range (nodes t) m → packed h' m ≡ holds (expr_at t) (sets_as a w i h) (planned t v n p) m)
-      → Updates t n p up (sets_as a w i h) (sets_as a' w' i' h')
-  ended_so up eu h h' Plan.Begins e y f = absurd (true≢false (sym e))
-  ended_so up eu h h' (Plan.Turns k) e y f = absurd (true≢false (sym e))
-  ended_so up eu h h' (Plan.Enters g anew) e y f = absurd (true≢false (sym e))
-  ended_so up eu h h' (Plan.Finishes v) e y f = record {
+  pub ended_so : (up : ℕ) → up ≡ parent t n → (p : Plan) → ends p ≡ true → Ends t n x y
+      → ((v : List ℕ) (m : ℕ) → Range (nodes t) m → y.held m ≡ holds (expr_at t) x (planned t v n p) m) → Updates t n p up x y
+  ended_so up eu Plan.Begins e r f = absurd (true≢false (sym e))
+  ended_so up eu (Plan.Turns k) e r f = absurd (true≢false (sym e))
+  ended_so up eu (Plan.Enters g) e r f = absurd (true≢false (sym e))
+  ended_so up eu (Plan.Restarts g) e r f = absurd (true≢false (sym e))
+  ended_so up eu (Plan.Finishes v) e r f = record {
     again = λ u. eu;
-    updated = λ u. record {
-      placed = record { own = y.ending.own; armed = y.ending.armed; others = y.ending.others };
-      held = f u;
-    };
-    past = y.past;
+    updated = λ u. record { placed = r.ending; held = f u };
+    past = r.past;
   }
-  ended_so up eu h h' (Plan.Leaves g v) e y f = record {
+  ended_so up eu (Plan.Leaves g v) e r f = record {
     again = λ u. eu;
-    updated = λ u. record {
-      placed = record { own = y.ending.own; armed = y.ending.armed; others = y.ending.others };
-      held = f u;
-    };
-    past = y.past;
+    updated = λ u. record { placed = r.ending; held = f u };
+    past = r.past;
   }
 
-  pub enters_so : (g : Function) (anew : Bool) (h h' : List ℕ) → Renews t n g.0 anew (sets_as a w i h) (sets_as a' w' i' h')
-      → Updates t n (Plan.Enters g anew) 0 (sets_as a w i h) (sets_as a' w' i' h')
-  enters_so g true h h' y = record {
+  pub enters_so : (g : Function) (anew : Bool) → Renews t n g.0 anew x y → Updates t n (calling g anew) 0 x y
+  enters_so g true r = record {
     again = λ v. refl;
-    updated = λ v. record { placed = y.renewing; held = y.held };
-    past = y.past;
+    updated = λ v. record { placed = r.renewing; held = r.held };
+    past = r.past;
   }
-  enters_so g false h h' y = record {
+  enters_so g false r = record {
     again = λ v. refl;
-    updated = λ v. record { placed = y.renewing; held = y.held };
-    past = y.past;
+    updated = λ v. record { placed = r.renewing; held = r.held };
+    past = r.past;
   }
 
 -- after the move the updated sets are those of the state, but for one node
@@ -125,25 +116,21 @@ module _ (t : List ℕ) (fair : Taken t) (n : ℕ) (i : IsNode t n) (p : Plan) (
           let b = pl.others m (node_bit t fair m r) k in
           (b.0 ∙ a.0, b.1 ∙ a.1, b.2 ∙ a.2)
 
--- node n is done, and its parent is grown: of the packed sets
+-- node n is done, y are the sets without it, and its parent is grown
 module _ (t : List ℕ) (fair : Taken t) (n : ℕ) (i : IsNode t n) (up : parent t n ≡ 0 → ⊥) (p : Plan) (e : ends p ≡ true) (s : State512)
-    (sized : Sized s) (q : Planned t s n p) (s' : State512) (eq : s' ≡ performed t s n p) (a w v h a₁ w₁ v₁ a₂ w₂ h' : List ℕ) where
-  grown_parent : Tracks t s (sets_as a w v h) → Places n false false false (sets_as a w v h) (sets_as a₁ w₁ v₁ h)
-      → ((l : List ℕ) (m : ℕ) → Range (nodes t) m → packed h' m ≡ holds (expr_at t) (sets_as a w v h) (planned t l n p) m)
-      → (k : ℕ) → k ≡ sort (act_of t s' (parent t n))
-      → Grows (parent t n) k (gathers_at t s'.status s'.second (parent t n)) (sets_as a₁ w₁ v₁ h') (sets_as a₂ w₂ v₁ h')
-      → Tracks t s' (sets_as a₂ w₂ v₁ h')
-  grown_parent tr pl f k ek gr =
-      let pl' : Places n false false false (sets_as a w v h) (sets_as a₁ w₁ v₁ h') = record { here = pl.here; others = pl.others } in
-      follows_anew t fair n i p s sized q s' eq (sets_as a w v h) (sets_as a₁ w₁ v₁ h') tr (parent t n)
-      (ended_so t fair n a w v a₁ w₁ v₁ (parent t n) refl h h' p e (ended_inner t fair n i (sets_as a w v h) (sets_as a₁ w₁ v₁ h) pl up) f)
-      (parent_node t (ok t fair).linking n i up) (sets_as a₂ w₂ v₁ h') refl
-      (grown t fair n i up p e s q s' eq (sets_as a w v h) tr (sets_as a₁ w₁ v₁ h') (sets_as a₂ w₂ v₁ h') pl' k ek gr)
+    (sized : Sized s) (q : Planned t s n p) (s' : State512) (eq : s' ≡ performed t s n p) (x y z : Sets) where
+  grown_parent : Tracks t s x → Places n false false false x y
+      → ((l : List ℕ) (m : ℕ) → Range (nodes t) m → y.held m ≡ holds (expr_at t) x (planned t l n p) m)
+      → (k : ℕ) → k ≡ sort (act_of t s' (parent t n)) → Grows (parent t n) k (gathers_at t s'.status s'.second (parent t n)) y z
+      → z.held ≡ y.held → Tracks t s' z
+  grown_parent tr pl f k ek gr kept =
+      follows_anew t fair n i p s sized q s' eq x y tr (parent t n)
+      (ended_so t fair n x y (parent t n) refl p e (ended_inner t fair n i x y pl up) f)
+      (parent_node t (ok t fair).linking n i up) z kept
+      (grown t fair n i up p e s q s' eq x tr y z pl k ek gr)
 
-  pub grown_so : Tracks t s (sets_as a w v h) → Places n false false false (sets_as a w v h) (sets_as a₁ w₁ v₁ h) → (u : ℕ) → u ≡ parent t n
-      → ((l : List ℕ) (m : ℕ) → Range (nodes t) m → packed h' m ≡ holds (expr_at t) (sets_as a w v h) (planned t l n p) m)
-      → (k : ℕ) → k ≡ sort (act_of t s' u)
-      → ((j l : List ℕ) → Grows u k (gathers_at t s'.status s'.second u) (sets_as a₁ w₁ j l) (sets_as a₂ w₂ j l))
-      → Tracks t s' (sets_as a₂ w₂ v₁ h')
-  grown_so tr pl u eu f k ek gr = grown_parent tr pl f k (ek ∙ ap (λ m. sort (act_of t s' m)) eu)
-      (subst (λ m. Grows m k (gathers_at t s'.status s'.second m) (sets_as a₁ w₁ v₁ h') (sets_as a₂ w₂ v₁ h')) eu (gr v₁ h'))
+  pub grown_so : Tracks t s x → Places n false false false x y → (u : ℕ) → u ≡ parent t n
+      → ((l : List ℕ) (m : ℕ) → Range (nodes t) m → y.held m ≡ holds (expr_at t) x (planned t l n p) m)
+      → (k : ℕ) → k ≡ sort (act_of t s' u) → Grows u k (gathers_at t s'.status s'.second u) y z → z.held ≡ y.held → Tracks t s' z
+  grown_so tr pl u eu f k ek gr kept = grown_parent tr pl f k (ek ∙ ap (λ m. sort (act_of t s' m)) eu)
+      (subst (λ m. Grows m k (gathers_at t s'.status s'.second m) y z) eu gr) kept

@@ -1,8 +1,11 @@
 -- the registers of a function, filled from a chain's values
 use Rattle.std.proofs.Common.{◌≡◌, ℕ, ◌+◌, ◌-◌, ◌*◌, ◌/◌, ◌%◌, ◌<◌, ◌≤◌, Bool, true, false, ◌&&◌, eqb, ltb, ◌⊎◌, List, [], ◌∷◌, map, length}
-use Rattle.std.proofs.Common.{get_or, drop, set, sym, refl, ap, ◌∙◌, subst, inl, inr, arith, length-set, get_or-drop, get_or-set_other}
+use Rattle.std.proofs.Common.{◌++◌, replicate, length-append, length-drop, length-take-le, get_or-take, take, get_or, drop, set, sym}
+use Rattle.std.proofs.Common.{refl, ap, ◌∙◌, subst, inl, inr, arith, length-set, get_or-drop, get_or-set_other}
 use Rattle.std.proofs.Common.{get_or-set_same, drop-drop, ext_get_or, ltb-false, lt-ltb, eq-eqb, ne_eqb}
 use native.Mathlib.Decide.{ℕ_discrete, dec_lt}
+use lib.ListN.{length-replicate, get_or-append}
+use Rattle.std.proofs.lemmas.List.{get_or-append_right, get_or-replicate}
 use Rattle.table.proofs.Tests.{ltb_no}
 use Rattle.table.specs.Pick.{pick}
 use Rattle.table.specs.Bytes.{nodes, next}
@@ -93,6 +96,37 @@ filled_over vs l₀ z l g i ez h zero = ext_get_or 0 l (fill g vs l₀) (h.sized
     each : (k : ℕ) → k < length l₀ → get_or l k 0 ≡ pick (eqb (k / 8 + 1) g) (get_or vs (k % 8) 0) (get_or l₀ k 0)
     each k r = h.each k (omega (arith, sized)) ∙ ap (pick (filled_by g i k) (get_or vs (k % 8) 0)) (before k r)
         ∙ by k r (eqb (k / 8 + 1) g) (ltb (k % 8) i) refl refl
+
+-- the eight registers of g overwritten by zeros
+module _ (l : List ℕ) (g : ℕ) (some : 1 ≤ g) (room : 8 * g ≤ length l) (base : ℕ) (eb : base ≡ 8 * (g - 1)) (z : List ℕ)
+    (ez : z ≡ replicate 8 0) where
+  front : length (take base l) ≡ base
+  front = length-take-le base l (omega arith)
+
+  eight : length z ≡ 8
+  eight = ap length ez ∙ length-replicate {A = ℕ} 8 0
+
+  over : (i : ℕ) → i < length l → Dec (i < base) → Dec (i < base + 8)
+      → get_or (take base l ++ (z ++ drop 8 (drop base l))) i 0 ≡ pick (eqb (i / 8 + 1) g) 0 (get_or l i 0)
+  over i q (yes a) b =
+      get_or-append (take base l) _ 0 i (omega (arith, front)) ∙ get_or-take base l i 0 a
+      ∙ sym (ap (λ c. pick c 0 (get_or l i 0)) (ne_eqb (i / 8 + 1) g (λ e. omega arith)))
+  over i q (no a) (yes b) =
+      get_or-append_right (take base l) _ base i 0 front (omega arith) ∙ get_or-append z _ 0 (i - base) (omega (arith, eight))
+      ∙ ap (λ y. get_or y (i - base) 0) ez ∙ get_or-replicate 8 (i - base) 0 0 (omega arith)
+      ∙ sym (ap (λ c. pick c 0 (get_or l i 0)) (eq-eqb (i / 8 + 1) g (omega arith)))
+  over i q (no a) (no b) =
+      let back : base + (8 + (i - base - 8)) ≡ i = omega arith in
+      get_or-append_right (take base l) _ base i 0 front (omega arith) ∙ get_or-append_right z _ 8 (i - base) 0 eight (omega arith)
+      ∙ get_or-drop 8 (drop base l) (i - base - 8) 0 ∙ get_or-drop base l (8 + (i - base - 8)) 0 ∙ ap (λ j. get_or l j 0) back
+      ∙ sym (ap (λ c. pick c 0 (get_or l i 0)) (ne_eqb (i / 8 + 1) g (λ e. omega arith)))
+
+  pub blanked : take base l ++ (z ++ drop 8 (drop base l)) ≡ fill g [] l
+  blanked =
+      let long : length (take base l ++ (z ++ drop 8 (drop base l))) ≡ length l =
+      simp (length-append, length-drop) (omega (arith, front, eight)) in
+      ext_get_or 0 _ (fill g [] l) (long ∙ sym (length_fill g [] l))
+      (λ i q. over i (omega (arith, long)) (dec_lt i base) (dec_lt i (base + 8)) ∙ sym (fill_at [] l g i (omega (arith, long))))
 
 pub filled_end : (vs l₀ l : List ℕ) (g i : ℕ) → FilledTo vs l₀ l g i → 8 ≤ i → l ≡ fill g vs l₀
 filled_end vs l₀ l g i h q = ext_get_or 0 l (fill g vs l₀) (h.sized ∙ sym (length_fill g vs l₀))

@@ -76,14 +76,16 @@ module _ (t : List ℕ) (n : ℕ) (s : State512) (m : ℕ) (d : m ≡ n → ⊥)
   same_status Plan.Begins e = absurd (true≢false (sym e))
   same_status (Plan.Turns k) e = absurd (true≢false (sym e))
   same_status (Plan.Finishes v) e = entry_other s.status n m 3 0 d
-  same_status (Plan.Enters g anew) e = absurd (true≢false (sym e))
+  same_status (Plan.Enters g) e = absurd (true≢false (sym e))
+  same_status (Plan.Restarts g) e = absurd (true≢false (sym e))
   same_status (Plan.Leaves g v) e = entry_other s.status n m 3 0 d
 
   pub same_second : (p : Plan) → ends p ≡ true → entry (performed t s n p).second false m ≡ entry s.second false m
   same_second Plan.Begins e = absurd (true≢false (sym e))
   same_second (Plan.Turns k) e = absurd (true≢false (sym e))
   same_second (Plan.Finishes v) e = entry_other s.second n m false false d
-  same_second (Plan.Enters g anew) e = absurd (true≢false (sym e))
+  same_second (Plan.Enters g) e = absurd (true≢false (sym e))
+  same_second (Plan.Restarts g) e = absurd (true≢false (sym e))
   same_second (Plan.Leaves g v) e = entry_other s.second n m false false d
 
 -- the parent of n: x are the sets of s, y without n, z with the parent grown; s' is the state after the move

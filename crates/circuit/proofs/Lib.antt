@@ -24,8 +24,8 @@ pub mod UpdateLaws
 pub mod GrowLaws
 pub mod FollowLaws
 pub mod NextLaws
-pub mod LoopLaws
 pub mod QueryLaws
+pub mod MappedLaws
 pub mod EntryLaws
 pub mod LentLaws
 pub mod BeginLaws

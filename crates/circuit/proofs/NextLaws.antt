@@ -16,6 +16,7 @@ use Rattle.rules.specs.Play.{calls}
 use Rattle.rules.specs.Circuit.{act_of}
 use Rattle.rules.specs.Sets.{Sets, Stays, sets_of, sort, ready, first_in, holds}
 use Rattle.rules.proofs.StateLaws.{entry_same, opened_other, opened_in, length_write}
+use Rattle.table.specs.declared.Function.{Function}
 use Rattle.circuit.specs.declared.plan.Plan.{Plan}
 use Rattle.circuit.specs.Working.{opens, planned, Planned, performed}
 use Rattle.circuit.specs.Packed.{Tracks, Places, Arms, Renews}
@@ -151,13 +152,23 @@ renewed_first t fair n i g f anew x y e rn r er h =
         (rn.renewing.waiting m k) (rn.held m k ∙ more (calls (expr_at t m) g) (x.held m))
         (below_first x n e i.0 m p (omega (arith, q, h)))
 
+-- a plan that leaves no callee frees none
+pub none_left : (p : Plan) → ((g : Function) (v : ℕ) → p ≡ Plan.Leaves g v → ⊥) → false ≡ frees p
+none_left Plan.Begins h = refl
+none_left (Plan.Turns k) h = refl
+none_left (Plan.Finishes w) h = refl
+none_left (Plan.Enters g) h = refl
+none_left (Plan.Restarts g) h = refl
+none_left (Plan.Leaves g w) h = absurd (h g w refl)
+
 -- a plan that ends a node and frees no callee holds the same calls
 pub held_kept : (t : List ℕ) (n : ℕ) (x : Sets) (v : List ℕ) (m : ℕ) (p : Plan) → ends p ≡ true → frees p ≡ false
     → holds (expr_at t) x (planned t v n p) m ≡ x.held m
 held_kept t n x v m Plan.Begins e f = absurd (true≢false (sym e))
 held_kept t n x v m (Plan.Turns k) e f = absurd (true≢false (sym e))
 held_kept t n x v m (Plan.Finishes w) e f = refl
-held_kept t n x v m (Plan.Enters g anew) e f = absurd (true≢false (sym e))
+held_kept t n x v m (Plan.Enters g) e f = absurd (true≢false (sym e))
+held_kept t n x v m (Plan.Restarts g) e f = absurd (true≢false (sym e))
 held_kept t n x v m (Plan.Leaves g w) e f = absurd (true≢false f)
 
 -- the parent of a node that is done

@@ -1,6 +1,7 @@
 -- packed sets written word by word or in one bit, and the lowest number that is in one
 use Rattle.std.proofs.Common.{◌≡◌, ℕ, zero, suc, ◌+◌, ◌-◌, ◌*◌, ◌/◌, ◌%◌, ◌^◌, ◌<◌, ◌≤◌, Bool, true, false, not, ◌&&◌, ◌||◌, eqb, List}
-use Rattle.std.proofs.Common.{length, get_or, set, sym, refl, ap, ◌∙◌, ap₂, pow-suc, arith, length-set, get_or-set_other, get_or-set_same}
+use Rattle.std.proofs.Common.{length, get_or, set, sym, refl, ap, ◌∙◌, ap₂, subst, pow-suc, arith, length-set, get_or-set_other}
+use Rattle.std.proofs.Common.{get_or-set_same}
 use Rattle.std.proofs.Common.{shr-shr, eq-eqb, ne_eqb}
 use mathlib.Core.Bool.{xor}
 use native.Mathlib.Decide.{ℕ_discrete, dec_lt}
@@ -14,7 +15,6 @@ use Rattle.list.specs.Arbiters.{Test}
 use Rattle.list.specs.Working.{bit_at, packed, Bit}
 use Rattle.list.proofs.BitLaws.{or_bit, and_bit, zero_bit, pow_bit}
 use Rattle.list.proofs.WordLaws.{packed_bit, by_words, word_of}
-use Rattle.list.proofs.Entrywise.{Upto, upto_none, upto_more}
 use Rattle.rules.specs.Sets.{ready}
 use Rattle.circuit.specs.Packed.{Packs, sets_as, LowBit}
 
@@ -47,35 +47,31 @@ without_bit x y k = xor_bit x (bit_and x y) k ∙ ap (xor (bit_at x k)) (and_bit
     go true false = refl
     go false b = refl
 
--- a set of eight words, of which those up to i are written as f says
-pub record Written (f : ℕ → ℕ) (x₀ x : List ℕ) (i : ℕ) : Type 0 where
-  pub inside : i ≤ 8
-  pub size : length x ≡ 8
-  pub words : Upto f x₀ x i
+-- the k words of a set from word i on are what f says, one by one
+abbrev pub Words : (f : ℕ → ℕ) → List ℕ → (i k : ℕ) → Type 0
+Words f x i zero = Unit {0}
+Words f x i (suc k) = (get_or x i 0 ≡ f i) × Words f x (suc i) k
 
-pub written_none : (f : ℕ → ℕ) (x : List ℕ) → length x ≡ 8 → Written f x x 0
-written_none f x l = record { inside = omega arith; size = l; words = upto_none f x }
+word_at : (f : ℕ → ℕ) (x : List ℕ) (i k : ℕ) → Words f x i k → (j : ℕ) → i ≤ j → j < i + k → get_or x j 0 ≡ f j
+word_at f x i zero w j l h = absurd (omega arith)
+word_at f x i (suc k) w j l h = go (ℕ_discrete j i) (λ l h. word_at f x (suc i) k w.1 j l h)
+  where
+    go : Dec (j ≡ i) → (suc i ≤ j → j < suc i + k → get_or x j 0 ≡ f j) → get_or x j 0 ≡ f j
+    go (yes e) r = subst (λ m. get_or x m 0 ≡ f m) (sym e) w.0
+    go (no e) r = r (omega arith) (omega arith)
 
-pub written_more : (f : ℕ → ℕ) (x₀ x : List ℕ) (i : ℕ) → Written f x₀ x i → i < 8 → Written f x₀ (set x i (f i)) (i + 1)
-written_more f x₀ x i w l = record {
-  inside = omega arith;
-  size = length-set x i (f i) ∙ w.size;
-  words = upto_more f x₀ x i (f i) (omega (arith, w.size)) w.words refl;
-}
-
--- all eight: its members are what the words' bits say
-pub packs_by : (f : ℕ → ℕ) (s : Test) (x₀ x : List ℕ) (i : ℕ) → Written f x₀ x i → 8 ≤ i
+-- its members are what the words' bits say
+pub packs_by : (f : ℕ → ℕ) (s : Test) (x : List ℕ) → length x ≡ 8 → Words f x 0 8
     → ((m : ℕ) → Bit m → bit_at (f ((m - 1) / 64)) ((m - 1) % 64) ≡ s m) → Packs s x
-packs_by f s x₀ x i w l e = record {
-  size = w.size;
-  bits = λ m b. by_words x f 8 (λ j h. w.words.done j (omega arith)) m (word_of m b) ∙ e m b;
+packs_by f s x l w e = record {
+  size = l;
+  bits = λ m b. by_words x f 8 (λ j h. word_at f x 0 8 w j (omega arith) (omega arith)) m (word_of m b) ∙ e m b;
 }
 
 -- words of two sets joined by an operation of which each bit is that of two bits
 pub packs_two : (op : ℕ → ℕ → ℕ) (q : Bool → Bool → Bool) → ((x y k : ℕ) → bit_at (op x y) k ≡ q (bit_at x k) (bit_at y k))
-    → (u v x₀ x : List ℕ) (i : ℕ) → Written (λ j. op (get_or u j 0) (get_or v j 0)) x₀ x i → 8 ≤ i
-    → Packs (λ m. q (packed u m) (packed v m)) x
-packs_two op q e u v x₀ x i w l = packs_by _ _ _ _ _ w l (λ m b.
+    → (u v x : List ℕ) → length x ≡ 8 → Words (λ j. op (get_or u j 0) (get_or v j 0)) x 0 8 → Packs (λ m. q (packed u m) (packed v m)) x
+packs_two op q e u v x l w = packs_by (λ j. op (get_or u j 0) (get_or v j 0)) _ x l w (λ m b.
     e (get_or u ((m - 1) / 64) 0) (get_or v ((m - 1) / 64) 0) ((m - 1) % 64) ∙ sym (ap₂ q (packed_bit u m) (packed_bit v m)))
 
 -- a word with bit k written: set by `w | 2 ^ k`, taken out of that by `^ 2 ^ k`

@@ -1,5 +1,5 @@
 -- what each arm of the code that makes a move leaves is what the move makes
-use Rattle.std.proofs.Common.{◌≡◌, ℕ, ◌≤◌, Bool, true, false, List, map, sym, refl, ap, ◌∙◌, subst, arith, ne_eqb}
+use Rattle.std.proofs.Common.{◌≡◌, ℕ, Bool, true, false, List, map, sym, refl, ap, ◌∙◌, subst, ne_eqb}
 use Rattle.table.specs.Syntax.{id}
 use Rattle.table.specs.Bytes.{functions, nodes, root, kind, first}
 use Rattle.table.specs.Naming.{owner, chain, children, initial}
@@ -60,18 +60,9 @@ module _ (t : List ℕ) (fair : Taken t) (n : ℕ) (i : IsNode t n) (a : List �
   sound Plan.Begins q = (there (begins (opens t n)) q).0
   sound (Plan.Turns m) q = there (turns m.0) q
   sound (Plan.Finishes v) q = tt
-  sound (Plan.Enters g true) q = enter_in g.0 (kept_by t c g.0 n) q
-  sound (Plan.Enters g false) q = again_in g.0 (kept_by t c g.0 n) q
+  sound (Plan.Enters g) q = enter_in g.0 (kept_by t c g.0 n) q
+  sound (Plan.Restarts f) q = again_in f.0 (kept_by t c f.0 n) q
   sound (Plan.Leaves g v) q = there (leaves g.0 v) q
-
-  pub called_in_lem : (g : Function) (anew : Bool) → Planned t s n (Plan.Enters g anew) → IsFunction t g.0
-  called_in_lem g anew q = sound (Plan.Enters g anew) q
-
-  pub leave_in : (g : Function) (v : ℕ) → Planned t s n (Plan.Leaves g v) → IsFunction t g.0
-  leave_in g v q = sound (Plan.Leaves g v) q
-
-  pub turn_high : (m : Node) → Planned t s n (Plan.Turns m) → m.0 ≤ 512
-  turn_high m q = omega (arith, (sound (Plan.Turns m) q).1, (ok t fair).n_high)
 
   pub begun : (a' : List ℕ) → a' ≡ opened (write a n 2) (opens t n) → state_as a' b c d e ≡ performed t s n Plan.Begins
   begun a' ea = λ j. state_as (ea j) b c d e
@@ -105,11 +96,9 @@ module _ (t : List ℕ) (fair : Taken t) (n : ℕ) (i : IsNode t n) (a : List �
     registers_are : d' ≡ fill g.0 (kept_by t c g.0 n) d
     registers_are = ed ∙ ap (λ vs. fill g.0 (keep_all (arithmetic t) g.0 vs) d) given_are
 
-    pub entered : (anew : Bool) → anew ≡ true → (b'' : List Bool) → b'' ≡ write b' n true → (e' : List ℕ) → e' ≡ write e g.0 n
-        → state_as a' b'' c' d' e' ≡ performed t s n (Plan.Enters g anew)
-    entered anew h b'' eb' e' ee =
-        (λ j. state_as (status_is j) ((eb' ∙ ap (λ l. write l n true) eb) j) (ec j) (registers_are j) (ee j))
-        ∙ ap (λ z. performed t s n (Plan.Enters g z)) (sym h)
+    pub entered : (b'' : List Bool) → b'' ≡ write b' n true → (e' : List ℕ) → e' ≡ write e g.0 n
+        → state_as a' b'' c' d' e' ≡ performed t s n (Plan.Enters g)
+    entered b'' eb' e' ee = (λ j. state_as (status_is j) ((eb' ∙ ap (λ l. write l n true) eb) j) (ec j) (registers_are j) (ee j))
 
-    pub restarted : (anew : Bool) → anew ≡ false → state_as a' b' c' d' e ≡ performed t s n (Plan.Enters g anew)
-    restarted anew h = (λ j. state_as (status_is j) (eb j) (ec j) (registers_are j) e) ∙ ap (λ z. performed t s n (Plan.Enters g z)) (sym h)
+    pub restarted : state_as a' b' c' d' e ≡ performed t s n (Plan.Restarts g)
+    restarted = (λ j. state_as (status_is j) (eb j) (ec j) (registers_are j) e)

@@ -21,7 +21,9 @@ use Rattle.circuit.specs.declared.types.State.{State}
 use Rattle.circuit.specs.declared.types.Stepped.{Stepped}
 use Rattle.circuit.specs.declared.types.Ran.{Ran}
 use Rattle.circuit.specs.declared.types.Driven.{Driven}
-use Rattle.circuit.specs.declared.types.Found.{Found}
+use Rattle.std.proofs.Common.{Option, Result}
+use Rattle.table.specs.declared.Node.{Node}
+use Rattle.table.specs.declared.refusals.Refusal.{Refusal}
 use Rattle.rules.proofs.Demands as Demands
 use Rattle.rules.proofs.RunFacts.{query_over, main_said, start_stands, start_run, run_demand, drive_demand, play_nodes, play_state}
 use Rattle.rules.proofs.TakenSteps.{taken_alone, taken_prefix, next_nodes, next_state, next_answer, never_held}
@@ -135,7 +137,7 @@ module _ (t tags args : List ℕ) where
         }
 
     -- a query
-    of_query : (r : Found) → found_of r ≡ query_of t tags (lists_of s) → QueryEntry t tags args steps s r
+    of_query : (r : Result (Option Node) Refusal) → found_of r ≡ query_of t tags (lists_of s) → QueryEntry t tags args steps s r
     of_query r e =
         let h : Finds t tags (lists_of s) (found_of r) = subst (Finds t tags (lists_of s)) (sym e) (query_finds t tags (lists_of s)) in
         let f : FindsAfter (accepted (functions t) (nodes t)) t tags (lists_of s) (found_of r) =

@@ -1,9 +1,10 @@
 -- the sort of a node's step, by each way that the code takes to it
 use Rattle.std.proofs.Common.{◌≡◌, ℕ, Bool, true, false, eqb, List, sym, refl, ap, ◌∙◌}
 use native.Mathlib.Decide.{ℕ_discrete}
+use denote.Enum.Bare.{sameb}
 use Rattle.table.specs.Pick.{pick}
 use Rattle.table.specs.Bytes.{root, kind, word, first, next}
-use Rattle.table.specs.Naming.{owner, chain}
+use Rattle.table.specs.Naming.{owner, chain, children}
 use Rattle.table.specs.Working.{Taken, IsNode}
 use Rattle.rules.specs.State.{entry}
 use Rattle.rules.specs.Step.{Act}
@@ -11,7 +12,9 @@ use Rattle.rules.specs.Circuit.{act_of}
 use Rattle.rules.specs.Sets.{sort}
 use Rattle.rules.proofs.Sorts.{sort_pick}
 use Rattle.circuit.specs.Meaning.{state_as}
-use Rattle.circuit.specs.Working.{each_done, leading, last_from, passed}
+use Rattle.circuit.specs.declared.sorts.Ready.{Ready}
+use Rattle.circuit.specs.contracts.sorts.Ready.{the_type}
+use Rattle.circuit.specs.Working.{each_done, leading, last_from, passed, sort_of}
 use Rattle.circuit.proofs.ActBy.{rest_is, open_by, prim_by, self_by, call_by, cond_by, bind_by}
 use Rattle.circuit.proofs.PlanLaws.{acts_open, acts_prim, acts_self, acts_call, acts_cond, acts_bind, acts_leaf}
 use Rattle.circuit.proofs.PlanLaws.{enter_held, enter_yes, cond_pass, bind_pass}
@@ -59,6 +62,16 @@ module _ (t : List ℕ) (fair : Taken t) (n : ℕ) (i : IsNode t n) (a : List �
 passed_sort : (status value : List ℕ) (r k : ℕ) → k ≡ pick (eqb (entry status 0 r) 3) 2 0 → k ≡ sort (passed status value r)
 passed_sort status value r k e = e ∙ sym (sort_pick (eqb (entry status 0 r) 3) _ _ 2 0 refl refl)
 
+-- a primitive and a self call, which wait for all children alone
+module _ (t status value : List ℕ) (n k : ℕ) (e : k ≡ pick (each_done (entry status 0) (children t n)) 2 0) where
+  pub gathered_prim : k ≡ sort (prim_by t status value n)
+  unfolding prim_by
+  gathered_prim = e ∙ sym (sort_pick (each_done (entry status 0) (children t n)) _ _ 2 0 refl refl)
+
+  pub gathered_self : k ≡ sort (self_by t status value n)
+  unfolding self_by
+  gathered_self = e ∙ sym (sort_pick (each_done (entry status 0) (children t n)) _ _ 2 0 refl refl)
+
 -- a call of another function
 module _ (t status : List ℕ) (second : List Bool) (value occupant : List ℕ) (n g : ℕ) (eg : g ≡ word t n) (b : Bool)
     (eb : b ≡ entry second false n) where
@@ -96,3 +109,19 @@ module _ (t status : List ℕ) (second : List Bool) (value : List ℕ) (n c : �
     (b : Bool) (eb : b ≡ entry second false n) where
   pub bind_second : b ≡ true → (k : ℕ) → k ≡ pick (eqb (entry status 0 r) 3) 2 0 → k ≡ sort (bind_by t status second value n)
   bind_second h k ek = passed_sort status value r k ek ∙ ap sort (bind_pass t status second value n c ec r er b eb _ h refl)
+
+-- the tests of whether a node has a step, as those of its sort
+pub is_yes : (k : Ready) → sameb the_type k Ready.Yes ≡ eqb (sort_of k) 2
+is_yes Ready.No = refl
+is_yes Ready.IfFree = refl
+is_yes Ready.Yes = refl
+
+pub is_free : (k : Ready) → sameb the_type k Ready.IfFree ≡ eqb (sort_of k) 1
+is_free Ready.No = refl
+is_free Ready.IfFree = refl
+is_free Ready.Yes = refl
+
+pub is_no : (k : Ready) → sameb the_type k Ready.No ≡ eqb (sort_of k) 0
+is_no Ready.No = refl
+is_no Ready.IfFree = refl
+is_no Ready.Yes = refl

@@ -1,6 +1,9 @@
 -- 24: how a state is looked through, and that a step keeps what it asks
 use Rattle.std.proofs.Common.{◌≡◌, ℕ, zero, suc, ◌+◌, ◌-◌, ◌<◌, ◌≤◌, Bool, true, false, ◌||◌, ltb, List, [], ◌∷◌, length, get_or, sym, refl}
 use Rattle.std.proofs.Common.{ap, ◌∙◌, subst, add-one, arith, ltb-false, lt-ltb}
+use Rattle.std.proofs.Common.{take, max}
+use Rattle.std.specs.List.{list_any}
+use Rattle.std.proofs.lemmas.List.Folds.{list_any_more}
 use native.Mathlib.Decide.{ℕ_discrete, dec_le, dec_lt}
 use lib.ListN.{get_or-eq_default}
 use Rattle.table.proofs.Tests.{ltb_no}
@@ -48,21 +51,37 @@ unfolding over
 over_end limit l n e = rw e refl
 
 -- the highest of the entries looked at is over the limit where one of them is
-highest_is : (limit h x : ℕ) → pick (ltb limit x) true (ltb limit h) ≡ ltb limit (pick (ltb h x) x h)
-highest_is limit h x = go (dec_lt h x) (dec_lt limit x)
+highest_is : (limit h x : ℕ) → pick (ltb limit x) true (ltb limit h) ≡ ltb limit (max h x)
+highest_is limit h x = go (dec_lt limit x)
   where
-    go : Dec (h < x) → Dec (limit < x) → pick (ltb limit x) true (ltb limit h) ≡ ltb limit (pick (ltb h x) x h)
-    go (yes p) (yes q) = rw (lt-ltb h x p, lt-ltb limit x q) refl
-    go (yes p) (no q) = rw (lt-ltb h x p, ltb_no limit x q) (ltb_no limit h (λ z. omega arith))
-    go (no p) (yes q) = rw (ltb_no h x p, lt-ltb limit x q) (sym (lt-ltb limit h (omega arith)))
-    go (no p) (no q) = rw (ltb_no h x p, ltb_no limit x q) refl
+    go : Dec (limit < x) → pick (ltb limit x) true (ltb limit h) ≡ ltb limit (max h x)
+    go (yes q) = rw (lt-ltb limit x q) (sym (lt-ltb limit (max h x) (omega arith)))
+    go (no q) = rw (ltb_no limit x q) (same (dec_lt limit h))
+      where
+        same : Dec (limit < h) → ltb limit h ≡ ltb limit (max h x)
+        same (yes p) = rw (lt-ltb limit h p) (sym (lt-ltb limit (max h x) (omega arith)))
+        same (no p) = rw (ltb_no limit h p) (sym (ltb_no limit (max h x) (λ z. omega arith)))
 
-pub over_highest : (limit : ℕ) (l : List ℕ) (i h x r : ℕ) → over limit i l ≡ ltb limit h → x ≡ get_or l i 0 → r ≡ pick (ltb h x) x h
+pub over_highest : (limit : ℕ) (l : List ℕ) (i h r : ℕ) → over limit i l ≡ ltb limit h → r ≡ max h (get_or l i 0)
     → over limit (i + 1) l ≡ ltb limit r
 unfolding entry
-over_highest limit l i h x r e ex er =
-    let at : entry l 0 (i + 1) ≡ x = ap (entry l 0) (add-one i) ∙ sym ex in
-    over_suc limit l i (i + 1) (add-one i) ∙ (λ j. pick (ltb limit (at j)) true (e j)) ∙ highest_is limit h x ∙ ap (ltb limit) (sym er)
+over_highest limit l i h r e er =
+    over_suc limit l i (i + 1) (add-one i) ∙ (λ j. pick (ltb limit (entry l 0 (add-one i j))) true (e j))
+    ∙ highest_is limit h (get_or l i 0) ∙ sym (ap (ltb limit) er)
+
+-- some of the entries looked at is over the limit
+pub over_any : (limit k : ℕ) (l : List ℕ) → k ≤ length l → list_any (ltb limit) (take k l) ≡ over limit k l
+unfolding over entry
+over_any limit zero l h = refl
+over_any limit (suc k) l h =
+    ap (λ j. list_any (ltb limit) (take j l)) (sym (add-one k)) ∙ list_any_more (ltb limit) l k 0 (omega arith)
+    ∙ ap (λ b. b || ltb limit (get_or l k 0)) (over_any limit k l (omega arith)) ∙ or_pick (over limit k l) (ltb limit (get_or l k 0))
+  where
+    or_pick : (a b : Bool) → (a || b) ≡ pick b true a
+    or_pick true true = refl
+    or_pick true false = refl
+    or_pick false true = refl
+    or_pick false false = refl
 
 -- every entry up to k is at most the limit
 abbrev Under : ℕ → ℕ → List ℕ → Type 0

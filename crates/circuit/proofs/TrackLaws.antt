@@ -1,5 +1,5 @@
 -- the sets of a run as the code keeps them: a node placed, a chain armed, a node enlisted
-use Rattle.std.proofs.Common.{◌≡◌, ℕ, suc, ◌+◌, ◌-◌, ◌*◌, ◌<◌, ◌≤◌, Bool, true, false, not, ◌&&◌, ◌||◌, eqb, ltb, List, [], ◌∷◌, length}
+use Rattle.std.proofs.Common.{◌≡◌, ℕ, suc, ◌+◌, ◌-◌, ◌*◌, ◌<◌, ◌≤◌, Bool, true, false, not, ◌&&◌, ◌||◌, eqb, ltb, List, [], ◌∷◌}
 use Rattle.std.proofs.Common.{replicate, sym, refl, ap, ◌∙◌, subst, inl, inr, arith, le-ltb, lt-ltb, eq-eqb, ne_eqb, eqb-true}
 use native.Mathlib.Decide.{ℕ_discrete, dec_lt}
 use lib.ListN.{length-replicate}
@@ -20,7 +20,7 @@ use Rattle.rules.proofs.StateLaws.{in?}
 use Rattle.rules.proofs.SetsBytes.{calls_bytes, inside_bytes, held_bytes}
 use Rattle.circuit.specs.Meaning.{state_as}
 use Rattle.circuit.specs.Working.{leading, opens}
-use Rattle.circuit.specs.Packed.{Packs, sets_as, Three, site, RowedTo, Rowed, Past, Tracks, Places, Arms}
+use Rattle.circuit.specs.Packed.{Packs, sets_as, site, RowedTo, Rowed, Past, Tracks, Places, Arms}
 
 -- a node's bit is as marked, the others stay
 pub marked_here : (n : ℕ) (b : Bit n) (v : Bool) (x y : List ℕ) → Packs (λ m. pick (eqb n m) v (packed x m)) y → packed y n ≡ v
@@ -38,6 +38,13 @@ module _ (n : ℕ) (b : Bit n) (a w i : Bool) (xa xw xi ya yw yi : List ℕ) (pa
     here = (marked_here n b a xa ya pa, marked_here n b w xw yw pw, marked_here n b i xi yi pi);
     others = λ m c d. (marked_other n a xa ya pa m c d, marked_other n w xw yw pw m c d, marked_other n i xi yi pi m c d);
   }
+
+-- .. after a change that keeps the three
+pub places_after : (n : ℕ) (a w i : Bool) (x x' y : Sets) → ((m : ℕ) → Stays x x' m) → Places n a w i x' y → Places n a w i x y
+places_after n a w i x x' y same p = record {
+  here = p.here;
+  others = λ m b d. let s = same m in let q = p.others m b d in (q.0 ∙ s.0, q.1 ∙ s.1, q.2 ∙ s.2);
+}
 
 -- these nodes are armed: none; one, then others
 pub arms_none : (f : ℕ → Type 0) → ((m : ℕ) → f m → ⊥) → (x : Sets) → Arms f x x
@@ -75,21 +82,18 @@ arms_more n l x y z p r = record { opened = opened; others = others }
         (s.0 ∙ q.0, s.1 ∙ q.1, s.2 ∙ q.2)
 
 -- along a chain: what arms the rest from the sets now, arms the whole from the sets at the start
-pub record Arming (all rest a₀ w₀ i₀ a w i : List ℕ) : Type 0 where
-  pub on : (h : List ℕ) (y : Sets) → Arms (λ m. In m rest) (sets_as a w i h) y → Arms (λ m. In m all) (sets_as a₀ w₀ i₀ h) y
+pub record Arming (all rest : List ℕ) (x₀ x : Sets) : Type 0 where
+  pub on : (y : Sets) → Arms (λ m. In m rest) x y → Arms (λ m. In m all) x₀ y
 
-pub arming_start : (l a w i : List ℕ) → Arming l l a w i a w i
-arming_start l a w i = record { on = λ h y r. r }
+pub arming_start : (l : List ℕ) (x : Sets) → Arming l l x x
+arming_start l x = record { on = λ y r. r }
 
-module _ (all l a₀ w₀ i₀ a w i : List ℕ) (x : Arming all l a₀ w₀ i₀ a w i) where
-  pub arming_more : (n : ℕ) (l' : List ℕ) → l ≡ n ∷ l' → (a' w' i' : List ℕ)
-      → ((h : List ℕ) → Places n true false false (sets_as a w i h) (sets_as a' w' i' h)) → Arming all l' a₀ w₀ i₀ a' w' i'
-  arming_more n l' e a' w' i' p = record {
-    on = λ h y r. x.on h y (rw e (arms_more n l' (sets_as a w i h) (sets_as a' w' i' h) y (p h) r));
-  }
+module _ (all l : List ℕ) (x₀ x : Sets) (r : Arming all l x₀ x) where
+  pub arming_more : (n : ℕ) (l' : List ℕ) → l ≡ n ∷ l' → (x' : Sets) → Places n true false false x x' → Arming all l' x₀ x'
+  arming_more n l' e x' p = record { on = λ y z. r.on y (rw e (arms_more n l' x x' y p z)) }
 
-  pub arming_end : l ≡ [] → (h : List ℕ) → Arms (λ m. In m all) (sets_as a₀ w₀ i₀ h) (sets_as a w i h)
-  arming_end e h = x.on h (sets_as a w i h) (rw e (arms_none (λ m. ⊥) (λ m z. z) (sets_as a w i h)))
+  pub arming_end : l ≡ [] → Arms (λ m. In m all) x₀ x
+  arming_end e = r.on x (rw e (arms_none (λ m. ⊥) (λ m z. z) x))
 
 -- the children that a node opens, by its kind
 module _ (t : List ℕ) (n k : ℕ) (ek : k ≡ kind t n) (c : ℕ) (ec : c ≡ first t n) (x y : Sets) where
@@ -219,89 +223,77 @@ pub marked_as : (n : ℕ) (v v' : Bool) (x y : List ℕ) → v ≡ v' → Packs 
 marked_as n v v' x y e p = rw (sym e) p
 
 -- the rows and the sets of a state are filled for the nodes up to n; past them none is armed or waits
-pub record FilledTo (t status : List ℕ) (second : List Bool) (value occupant rows a w i h : List ℕ) (n : ℕ) : Type 0 where
+pub record FilledTo (t status : List ℕ) (second : List Bool) (value occupant rows : List ℕ) (x : Sets) (n : ℕ) : Type 0 where
   pub rowed : RowedTo t n rows
-  pub three : Three a w i
-  pub size : length h ≡ 8
-  pub placed : (d : List ℕ) (m : ℕ) → Range n m → Stays (sets_of t (state_as status second value d occupant)) (sets_as a w i h) m
-  pub holds : (d : List ℕ) (m : ℕ) → Range n m → packed h m ≡ (sets_of t (state_as status second value d occupant)).held m
-  pub past : Past n (sets_as a w i h)
-
-zeros_many : (k : ℕ) (l : List ℕ) → l ≡ replicate k 0 → length l ≡ k
-zeros_many k l e = ap length e ∙ length-replicate {A = ℕ} k 0
+  pub placed : (d : List ℕ) (m : ℕ) → Range n m → Stays (sets_of t (state_as status second value d occupant)) x m
+  pub holds : (d : List ℕ) (m : ℕ) → Range n m → x.held m ≡ (sets_of t (state_as status second value d occupant)).held m
+  pub past : Past n x
 
 module _ (t status : List ℕ) (second : List Bool) (value occupant : List ℕ) where
   abbrev sets : List ℕ → Sets
   sets d = sets_of t (state_as status second value d occupant)
 
-  abbrev Filled : (rows a w i h : List ℕ) → ℕ → Type 0
+  abbrev Filled : (rows : List ℕ) → Sets → ℕ → Type 0
   Filled = FilledTo t status second value occupant
 
-  pub filled_start : (rows a w i h : List ℕ) → rows ≡ replicate 520 0 → a ≡ replicate 8 0 → w ≡ replicate 8 0 → i ≡ replicate 8 0
-      → h ≡ replicate 8 0 → Filled rows a w i h 0
-  filled_start rows a w i h er ea ew ei eh = record {
+  pub filled_start : Filled (replicate 520 0) (sets_as (replicate 8 0) (replicate 8 0) (replicate 8 0) (replicate 8 0)) 0
+  filled_start = record {
     rowed = record {
-      size = zeros_many 520 rows er;
-      members = λ g m l b. row (512 * g + m) ∙ sym (rw (le-ltb m 1 b.0) refl);
-      sites = λ g m p l b. row (512 * (32 + g) + m) ∙ sym (rw (le-ltb m 1 b.0) refl);
+      size = length-replicate {A = ℕ} 520 0;
+      members = λ g m l b. none_packed 520 (512 * g + m) ∙ sym (rw (le-ltb m 1 b.0) refl);
+      sites = λ g m p l b. none_packed 520 (512 * (32 + g) + m) ∙ sym (rw (le-ltb m 1 b.0) refl);
     };
-    three = record { armed = zeros_many 8 a ea; waiting = zeros_many 8 w ew; inside = zeros_many 8 i ei };
-    size = zeros_many 8 h eh;
     placed = λ d m r. absurd (omega (arith, r.0, r.1));
     holds = λ d m r. absurd (omega (arith, r.0, r.1));
-    past = λ m p q. (ap (λ l. packed l m) ea ∙ none_packed 8 m, ap (λ l. packed l m) ew ∙ none_packed 8 m);
+    past = λ m p q. (none_packed 8 m, none_packed 8 m);
   }
-    where
-      row : (m : ℕ) → packed rows m ≡ false
-      row m = ap (λ l. packed l m) er ∙ none_packed 520 m
 
-  module _ (rows a w i h : List ℕ) (n : ℕ) (x : Filled rows a w i h n) where
+  module _ (rows : List ℕ) (x : Sets) (n : ℕ) (f : Filled rows x n) where
     -- the rows of the nodes before the next one
-    pub filled_rows : RowedTo t (n + 1 - 1) rows
-    filled_rows = subst (λ k. RowedTo t k rows) (omega arith) x.rowed
+    pub filled_rows : (k : ℕ) → k ≡ n + 1 → RowedTo t (k - 1) rows
+    filled_rows k e = subst (λ j. RowedTo t j rows) (omega arith) f.rowed
 
-    pub filled_next : n + 1 ≤ 512 → (rows' h' : List ℕ) → RowedTo t (n + 1) rows'
-        → ((d : List ℕ) → Packs (λ m. pick (eqb (n + 1) m) ((sets d).held (n + 1)) (packed h m)) h') → (a' w' i' : List ℕ) → Three a' w' i'
-        → ((d : List ℕ) → Places (n + 1) ((sets d).armed (n + 1)) ((sets d).waiting (n + 1)) ((sets d).inside (n + 1))
-        (sets_as a w i h) (sets_as a' w' i' h)) → Filled rows' a' w' i' h' (n + 1)
-    filled_next l rows' h' r held a' w' i' three p = record {
+    -- the next one is enlisted, to x', and then read anew, to y
+    pub filled_next : (k : ℕ) → k ≡ n + 1 → k ≤ 512 → (rows' : List ℕ) → RowedTo t k rows' → (x' y : Sets) → ((m : ℕ) → Stays x x' m)
+        → ((d : List ℕ) (m : ℕ) → Bit m → x'.held m ≡ pick (eqb k m) ((sets d).held k) (x.held m))
+        → ((d : List ℕ) → Places k ((sets d).armed k) ((sets d).waiting k) ((sets d).inside k) x' y)
+        → ((m : ℕ) → y.held m ≡ x'.held m) → Filled rows' y k
+    filled_next k ek l rows' r x' y same held p kept = record {
       rowed = r;
-      three = three;
-      size = (held []).size;
-      placed = λ d m q. placed d m q (ℕ_discrete m (n + 1));
-      holds = λ d m q. holds d m q (ℕ_discrete m (n + 1));
-      past = λ m u v. past m u v ((p []).others m (omega arith, v) (λ e. omega arith));
+      placed = λ d m q. placed d m q (ℕ_discrete m k);
+      holds = λ d m q. kept m ∙ holds d m q (ℕ_discrete m k);
+      past = λ m u v. past m u v (same m) ((p []).others m (omega arith, v) (λ e. omega arith));
     }
       where
-        bit : (m : ℕ) → Range (n + 1) m → Bit m
+        bit : (m : ℕ) → Range k m → Bit m
         bit m q = (q.0, omega (arith, q.1))
 
-        placed : (d : List ℕ) (m : ℕ) → Range (n + 1) m → Dec (m ≡ n + 1) → Stays (sets d) (sets_as a' w' i' h') m
+        placed : (d : List ℕ) (m : ℕ) → Range k m → Dec (m ≡ k) → Stays (sets d) y m
         placed d m q (yes e) = rw e (p d).here
         placed d m q (no e) =
             let s = (p d).others m (bit m q) e in
-            let o = x.placed d m (q.0, omega (arith, q.1)) in
-            (s.0 ∙ o.0, s.1 ∙ o.1, s.2 ∙ o.2)
+            let z = same m in
+            let o = f.placed d m (q.0, omega (arith, q.1, ek, e)) in
+            (s.0 ∙ z.0 ∙ o.0, s.1 ∙ z.1 ∙ o.1, s.2 ∙ z.2 ∙ o.2)
 
-        holds : (d : List ℕ) (m : ℕ) → Range (n + 1) m → Dec (m ≡ n + 1) → packed h' m ≡ (sets d).held m
-        holds d m q (yes e) = rw e (marked_here (n + 1) (omega arith, l) ((sets d).held (n + 1)) h h' (held d))
+        holds : (d : List ℕ) (m : ℕ) → Range k m → Dec (m ≡ k) → x'.held m ≡ (sets d).held m
+        holds d m q (yes e) = held d m (bit m q) ∙ rw (eq-eqb k m (sym e), e) refl
         holds d m q (no e) =
-            marked_other (n + 1) ((sets d).held (n + 1)) h h' (held d) m (bit m q) e ∙ x.holds d m (q.0, omega (arith, q.1))
+            held d m (bit m q) ∙ rw (ne_eqb k m (λ z. e (sym z))) (f.holds d m (q.0, omega (arith, q.1, ek, e)))
 
-        past : (m : ℕ) → n + 1 < m → m ≤ 512 → Stays (sets_as a w i h) (sets_as a' w' i' h) m
-            → (packed a' m ≡ false) × (packed w' m ≡ false)
-        past m u v s = let o = x.past m (omega arith) v in (s.0 ∙ o.0, s.1 ∙ o.1)
+        past : (m : ℕ) → k < m → m ≤ 512 → Stays x x' m → Stays x' y m → (y.armed m ≡ false) × (y.waiting m ≡ false)
+        past m u v z s = let o = f.past m (omega arith) v in (s.0 ∙ z.0 ∙ o.0, s.1 ∙ z.1 ∙ o.1)
 
     -- all of them
     module _ (e : n ≡ nodes t) where
       pub filled_rowed : Rowed t rows
-      filled_rowed = subst (λ k. RowedTo t k rows) e x.rowed
+      filled_rowed = subst (λ k. RowedTo t k rows) e f.rowed
 
-      pub filled_tracks : (d : List ℕ) → Tracks t (state_as status second value d occupant) (sets_as a w i h)
+      pub filled_tracks : (d : List ℕ) → Tracks t (state_as status second value d occupant) x
       filled_tracks d = record {
         exact = record {
-          placed = λ m r. x.placed d m (r.0, omega (arith, r.1, e));
-          held = λ m r. x.holds d m (r.0, omega (arith, r.1, e));
+          placed = λ m r. f.placed d m (r.0, omega (arith, r.1, e));
+          held = λ m r. f.holds d m (r.0, omega (arith, r.1, e));
         };
-        past = λ m p q. x.past m (omega (arith, e)) q;
+        past = λ m p q. f.past m (omega (arith, e)) q;
       }

@@ -1,7 +1,11 @@
 -- a step asked at a number, test by test; when it is possible, and what it keeps
-use Rattle.std.proofs.Common.{◌≡◌, ℕ, ◌<◌, ◌≤◌, Bool, true, false, eqb, List, sym, refl, ap, ◌∙◌, subst, arith, lt-ltb, eq-eqb, ne_eqb}
+use Rattle.std.proofs.Common.{◌≡◌, ℕ, ◌<◌, ◌≤◌, Bool, true, false, eqb, List, Some, sym, refl, ap, ◌∙◌}
+use Rattle.std.proofs.Common.{subst, arith, lt-ltb, eq-eqb, ne_eqb}
 use native.Mathlib.Decide.{ℕ_discrete, dec_le}
 use Rattle.table.proofs.Tests.{ltb_no}
+use Rattle.table.specs.declared.refusals.Reason.{Reason}
+use Rattle.table.specs.declared.refusals.Reason.TheVariants.{NoStep, Waits, Collides}
+use Rattle.table.specs.Refusals.{number_of}
 use Rattle.table.specs.Pick.{pick}
 use Rattle.table.specs.Syntax.{id}
 use Rattle.table.specs.Bytes.{functions, nodes, root}
@@ -81,11 +85,18 @@ module _ (t tags : List ℕ) (fair : Taken t) (s : State512) (n : ℕ) where
   abbrev pub Out : Act → Stepped
   Out a = outcome (arithmetic t) (functions t) (nodes t) (body_of t) (expr_at t) (owner t) (tagged tags) s n a
 
-  pub out_refused : (a : Act) (k : ℕ) → k ≡ why_not (tagged tags n) a → (k ≡ 0 → ⊥)
-      → ◌≡◌ {A = Stepped} (record { answer = denied k n; state = s }) (Out a)
-  out_refused stuck k e z = λ i. record { answer = denied (e i) n; state = s }
-  out_refused blocked k e z = λ i. record { answer = denied (e i) n; state = s }
-  out_refused (does m) k e z = absurd (z e)
+  pub out_refused : (a : Act) (k : Reason) → Some k ≡ why_not (tagged tags n) a
+      → ◌≡◌ {A = Stepped} (record { answer = denied (number_of k) n; state = s }) (Out a)
+  out_refused stuck k e = let q : k ≡ NoStep = cc in (λ i. record { answer = denied (number_of (q i)) n; state = s })
+  out_refused blocked k e =
+      let q : k ≡ pick (tagged tags n) Waits Collides = cc in
+      (λ i. record { answer = denied (ap number_of q i) n; state = s }) ∙ by_tag (tagged tags n)
+    where
+      by_tag : (b : Bool) → ◌≡◌ {A = Stepped} (record { answer = denied (number_of (pick b Waits Collides)) n; state = s })
+          (record { answer = denied (pick b 22 23) n; state = s })
+      by_tag true = refl
+      by_tag false = refl
+  out_refused (does m) k e = cc
 
   pub out_moved : (p : Plan) → Planned t s n p → (s' : State512) → s' ≡ performed t s n p → (top : ℕ) → top ≡ root t (functions t)
       → (r : Reply) → r ≡ pick (eqb (entry s'.status 0 top) 3) (answered (entry s'.value 0 top)) taken

@@ -56,39 +56,41 @@ module _ (t : List ℕ) (fair : Taken t) (n : ℕ) (i : IsNode t n) (x y : Sets)
     past = λ q m h k. let s = past_others m h k in let z = q m h k in (s.0 ∙ z.0, s.1 ∙ z.1);
   }
 
-  module _ (top : parent t n ≡ 0) (armed : ℕ → Bool)
-      (is : (m : ℕ) → Bit m → armed m ≡ (y.armed m || (y.inside m && site t (nodes t) (owner t n) m))) where
-    ended_root : Ends t n x (record { armed = armed; waiting = y.waiting; inside = y.inside; held = y.held })
+  -- a root: in z the calls inside its function are armed, too
+  module _ (top : parent t n ≡ 0) (z : Sets)
+      (is : (m : ℕ) → Bit m → z.armed m ≡ (y.armed m || (y.inside m && site t (nodes t) (owner t n) m)))
+      (kept : (m : ℕ) → (z.waiting m ≡ y.waiting m) × (z.inside m ≡ y.inside m)) where
+    ended_root : Ends t n x z
     ended_root = record {
       ending = record {
         own = (
           is n (node_bit t fair n i) ∙ ap₂ (λ a b. a || (b && site t (nodes t) (owner t n) n)) p.here.0 p.here.2,
-          p.here.1,
-          p.here.2,
+          (kept n).0 ∙ p.here.1,
+          (kept n).1 ∙ p.here.2,
         );
         armed = λ m r e f. let s = p.others m (node_bit t fair m r) e in
             is m (node_bit t fair m r)
             ∙ (λ j. s.0 j || (s.2 j && site_is t fair m r (owner t n) j))
             ∙ sym (ap (λ b. x.armed m || (b && (x.inside m && calls (expr_at t m) (owner t n)))) (eq-eqb (parent t n) 0 top));
-        others = λ m r e f. let s = p.others m (node_bit t fair m r) e in (s.1, s.2);
+        others = λ m r e f. let s = p.others m (node_bit t fair m r) e in ((kept m).0 ∙ s.1, (kept m).1 ∙ s.2);
       };
-      past = λ q m h k. let s = past_others m h k in let z = q m h k in (
+      past = λ q m h k. let s = past_others m h k in let o = q m h k in (
         is m (omega arith, k)
             ∙ ap (λ b. y.armed m || (y.inside m && b)) (site_past t fair m h (owner t n))
-            ∙ ap (λ b. y.armed m || b) (and_no (y.inside m)) ∙ or_no (y.armed m) ∙ s.0 ∙ z.0,
-        s.1 ∙ z.1,
+            ∙ ap (λ b. y.armed m || b) (and_no (y.inside m)) ∙ or_no (y.armed m) ∙ s.0 ∙ o.0,
+        (kept m).0 ∙ s.1 ∙ o.1,
       );
     }
 
--- by the packed sets: the calls inside a root's function are joined to those armed
+-- .. as the rows tell them
 pub ended_by : (t : List ℕ) → Taken t → (rows : List ℕ) → Rowed t rows → (n : ℕ) → IsNode t n → parent t n ≡ 0 → (f : ℕ) → f ≡ owner t n
-    → IsFunction t (owner t n) → (a₀ w₀ i₀ a₁ w₁ i₁ a₂ h : List ℕ) → Places n false false false (sets_as a₀ w₀ i₀ h) (sets_as a₁ w₁ i₁ h)
-    → Packs (λ m. packed a₁ m || (packed i₁ m && packed rows (512 * (32 + f) + m))) a₂
-    → Ends t n (sets_as a₀ w₀ i₀ h) (sets_as a₂ w₁ i₁ h)
-ended_by t fair rows rd n i top f ef fn a₀ w₀ i₀ a₁ w₁ i₁ a₂ h p pg =
-    ended_root t fair n i (sets_as a₀ w₀ i₀ h) (sets_as a₁ w₁ i₁ h) p top (packed a₂)
-    (λ m b. pg.bits m b ∙ ap (λ v. packed a₁ m || (packed i₁ m && v))
+    → IsFunction t (owner t n) → (x y z : Sets) → Places n false false false x y
+    → ((m : ℕ) → Bit m → z.armed m ≡ (y.armed m || (y.inside m && packed rows (512 * (32 + f) + m))))
+    → ((m : ℕ) → (z.waiting m ≡ y.waiting m) × (z.inside m ≡ y.inside m)) → Ends t n x z
+ended_by t fair rows rd n i top f ef fn x y z p is kept = ended_root t fair n i x y p top z
+    (λ m b. is m b ∙ ap (λ v. y.armed m || (y.inside m && v))
     (ap (λ k. packed rows (512 * (32 + k) + m)) ef ∙ rd.sites (owner t n) m fn.0 (omega (arith, fn.1, (ok t fair).f_high)) b))
+    kept
 
 eqb_turned : (m n : ℕ) → eqb m n ≡ eqb n m
 eqb_turned m n = go (ℕ_discrete m n)

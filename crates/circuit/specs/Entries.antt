@@ -1,5 +1,5 @@
 -- the third demand of what the entries return: of a start and the steps after it, then of each entry in any state so reached
-use Rattle.std.specs.Prelude.{◌≡◌, ℕ, ◌+◌, ◌<◌, ◌≤◌, ◌⊎◌, ◌↔◌, List, [], ◌∷◌, ◌++◌, map, length, take, ◌≢◌, slice_index}
+use Rattle.std.specs.Prelude.{◌≡◌, ℕ, ◌+◌, ◌<◌, ◌≤◌, ◌⊎◌, ◌↔◌, List, [], ◌∷◌, ◌++◌, map, length, take, ◌≢◌, slice_index, Option, Result, Ok}
 use Rattle.table.specs.Bytes.{functions}
 use Rattle.list.specs.Tags.{Holding, Lacks}
 use Rattle.rules.specs.State.{State512, In}
@@ -13,12 +13,12 @@ use Rattle.rules.specs.Reading.{ReadsTo}
 use Rattle.rules.specs.Demand.{DemandThree}
 use Rattle.circuit.specs.Meaning.{lists_of, reply_of, stepped_of, started_of, StartedAs, halt_of, ran_of, ended_of, driven_of, found_of}
 use Rattle.circuit.specs.declared.types.State.{State}
-use Rattle.circuit.specs.declared.types.Opening.TheVariants as Opening
 use Rattle.circuit.specs.declared.types.Started.{Started}
 use Rattle.circuit.specs.declared.types.Stepped.{Stepped}
 use Rattle.circuit.specs.declared.types.Ran.{Ran}
 use Rattle.circuit.specs.declared.types.Driven.{Driven}
-use Rattle.circuit.specs.declared.types.Found.{Found}
+use Rattle.table.specs.declared.Node.{Node}
+use Rattle.table.specs.declared.refusals.Refusal.{Refusal}
 
 -- rs is what step returned at the numbers ns, one after the other from s on, each with the state that the one before returned
 abbrev pub StepsOf : (t tags : List ℕ) → State → List ℕ → List Stepped → Type 0
@@ -55,8 +55,8 @@ pub record Reached (t tags args steps : List ℕ) (s : State) : Type 0 where
 -- of what start returned for table, tags and arguments, the state `old` being handed in
 pub record StartEntry (t tags args : List ℕ) (old : State) (r : Started) : Type 0 where
   -- it opened exactly if the table, 10, 11 and 26 are passed, and its state is the one that the rules name
-  pub opened : (r.opening ≡ Opening.Opened) ↔ (Fitting t tags args × Holding t tags)
-  pub state : r.opening ≡ Opening.Opened → lists_of r.state ≡ opening t args
+  pub opened : (r.opening ≡ Ok tt) ↔ (Fitting t tags args × Holding t tags)
+  pub state : r.opening ≡ Ok tt → lists_of r.state ≡ opening t args
   -- it was refused 26 at n exactly if the other three are passed and n is the lowest listed call without a tag
   pub lacking : (n : ℕ) → (started_of r ≡ turned 26 n) ↔ (Fitting t tags args × Lacks t tags n)
   -- refused by whatever number, it returned the state handed in
@@ -89,7 +89,7 @@ pub record EntryDemand (t tags args : List ℕ) (r₀ : Started) (ns : List ℕ)
 
 abbrev pub DemandOfEntries : Type 0
 DemandOfEntries = (t tags args : List ℕ) (old : State) (r₀ : Started)
-    → StartedAs old r₀ (start_of t tags args) → r₀.opening ≡ Opening.Opened
+    → StartedAs old r₀ (start_of t tags args) → r₀.opening ≡ Ok tt
     → (ns : List ℕ) (rs : List Stepped) → StepsOf t tags r₀.state ns rs → EntryDemand t tags args r₀ ns rs
 
 -- of a state that was reached, whatever is asked next
@@ -133,7 +133,7 @@ pub record DriveEntry (t tags args steps : List ℕ) (s : State) (budget : ℕ) 
   pub all : ended_of r.ended ≡ spent → r.steps ≡ budget
 
 -- of a query
-pub record QueryEntry (t tags args steps : List ℕ) (s : State) (r : Found) : Type 0 where
+pub record QueryEntry (t tags args steps : List ℕ) (s : State) (r : Result (Option Node) Refusal) : Type 0 where
   -- the step that it names would be taken, and none at a lower node
   pub named : (n : ℕ) → found_of r ≡ names n → Takes t tags s n
   pub lowest : (n m : ℕ) → found_of r ≡ names n → Takes t tags s m → n ≤ m
@@ -148,7 +148,7 @@ pub record ReachedDemand (t tags args steps : List ℕ) (s : State) : Type 0 whe
   pub of_step : (n : ℕ) (r : Stepped) → stepped_of r ≡ step_of t tags (lists_of s) n → StepEntry t tags args steps n r
   pub of_run : (ms : List ℕ) (r : Ran) → ran_of r ≡ run_of t tags (lists_of s) ms → RunEntry t tags args steps ms r
   pub of_drive : (budget : ℕ) (r : Driven) → driven_of r ≡ drive_of t tags (lists_of s) budget → DriveEntry t tags args steps s budget r
-  pub of_query : (r : Found) → found_of r ≡ query_of t tags (lists_of s) → QueryEntry t tags args steps s r
+  pub of_query : (r : Result (Option Node) Refusal) → found_of r ≡ query_of t tags (lists_of s) → QueryEntry t tags args steps s r
 
 abbrev pub DemandOfReached : Type 0
 DemandOfReached = (t tags args steps : List ℕ) (s : State) → Reached t tags args steps s → ReachedDemand t tags args steps s

@@ -1,6 +1,8 @@
 -- the sets of a run as the code packs them: eight words to a set, and rows of them for the members and call sites of each function
-use Rattle.std.specs.Prelude.{◌≡◌, ℕ, suc, ◌+◌, ◌*◌, ◌<◌, ◌≤◌, Bool, true, false, ◌&&◌, ◌||◌, List, length, ◌==◌, ◌≢◌, nat_lt}
+use Rattle.std.specs.Prelude.{◌≡◌, ℕ, suc, ◌+◌, ◌*◌, ◌<◌, ◌≤◌, Bool, true, false, ◌&&◌, ◌||◌, List, length, ◌==◌, ◌≢◌, nat_lt, Option}
+use Rattle.std.specs.Prelude.{Some, None}
 use Rattle.table.specs.Pick.{pick, Range}
+use Rattle.table.specs.declared.Node.{Node}
 use Rattle.table.specs.Bytes.{nodes}
 use Rattle.table.specs.Naming.{owner, parent}
 use Rattle.table.specs.Expressions.{expr_at, body_of}
@@ -11,6 +13,7 @@ use Rattle.rules.specs.Step.{mine}
 use Rattle.rules.specs.Play.{calls}
 use Rattle.rules.specs.Sets.{Sets, Exact, Stays, Ending, Renewing, rereads, UpdatedOf}
 use Rattle.circuit.specs.declared.plan.Plan.{Plan}
+use Rattle.circuit.specs.declared.sets.Sets.{Sets as SetsCode}
 use Rattle.circuit.specs.Working.{planned}
 
 -- a set of eight words has the members that f says
@@ -28,11 +31,13 @@ pub record LowBit (k x t : ℕ) : Type 0 where
 abbrev pub sets_as : (armed waiting inside held : List ℕ) → Sets
 sets_as a w i h = record { armed = packed a; waiting = packed w; inside = packed i; held = packed h }
 
--- the three that a node is read anew into
-pub record Three (a w i : List ℕ) : Type 0 where
-  pub armed : length a ≡ 8
-  pub waiting : length w ≡ 8
-  pub inside : length i ≡ 8
+abbrev pub unpacked : SetsCode → Sets
+unpacked x = sets_as x.armed x.waiting x.inside x.held
+
+-- a node by its number, where 0 is none
+abbrev pub Names : Option Node → ℕ → Type 0
+Names None k = k ≡ 0
+Names (Some n) k = (n.0 ≡ k) × (1 ≤ n.0)
 
 -- a call of g, among the nodes up to N
 abbrev pub site : (t : List ℕ) → (N g n : ℕ) → Bool

@@ -4,19 +4,16 @@ ghost use Rattle.std.specs.Prelude.{◌≡◌, length};
 ghost use Rattle.circuit.specs.Working.{ReadIn, Admitted};
 
 use crate::standing;
-use table::decoded::Cells;
-use table::{Checked, Node};
+use table::decoded::{Cells, Decoded};
+use table::{Design, Reason, Refusal};
 
 // The table and its tags; where both are taken, the table is decoded into the cells.
-pub(crate) fn read_in(table: &[u8], tags: &[u8], cells: &mut Cells) -> Checked
+pub(crate) fn read_in(table: &[u8], tags: &[u8], cells: &mut Cells) -> Result<Design, Refusal>
     requires { length cells.old ≡ 3270 }
     ensures { ReadIn table.now tags.now result cells.new }
 {
-    let checked = table::survey(table, cells);
-    match checked {
-        Checked::Refused(number, place) => Checked::Refused(number, place),
-        Checked::Accepted(_, _) => list::check_held(cells, tags),
-    }
+    table::survey(table, cells)?;
+    list::check_held(cells, tags)
 }
 
 // The same, then 24: before a query and before a run.
@@ -26,19 +23,14 @@ pub(crate) fn admit(
     status: &[u8; 512],
     occupant: &[u16; 32],
     cells: &mut Cells,
-) -> Checked
+) -> Result<Design, Refusal>
     requires { length cells.old ≡ 3270 }
     ensures { Admitted table.now tags.now status.now occupant.now result
         cells.new }
 {
-    let checked = read_in(table, tags, cells);
-    match checked {
-        Checked::Refused(number, place) => Checked::Refused(number, place),
-        Checked::Accepted(main, last) => {
-            if standing::strays(table, cells, status, occupant) {
-                return Checked::Refused(24, Node(0));
-            }
-            Checked::Accepted(main, last)
-        }
+    let design = read_in(table, tags, cells)?;
+    if standing::strays(&Decoded { table, cells }, status, occupant) {
+        return Err(Reason::Astray.into());
     }
+    Ok(design)
 }

@@ -5,18 +5,18 @@ ghost use Rattle.rules.specs.Arithmetic.{keep_all, arithmetic};
 ghost use Rattle.rules.specs.State.{fill};
 ghost use Rattle.rules.specs.Circuit.{opening, start_of};
 ghost use Rattle.table.specs.Check.{accepted};
-ghost use Rattle.list.specs.Tags.{check_with, missing};
+ghost use Rattle.list.specs.Tags.{check_with, missing, found};
 ghost use Rattle.circuit.specs.Meaning.{OpenedAs, state_as};
 ghost use Rattle.table.specs.Working.{IsFunction, Taken};
 
-use crate::types::Opening;
 use crate::{store, widths};
-use table::{Function, Node, read};
+use table::{Function, Node, Reason, Refusal, read};
 
+// An argument, 0 past the last one.
 fn argument(args: &[u32], i: usize) -> u32
     ensures { result ≡ slice_index args.now i }
 {
-    if i < args.len() { args[i] } else { 0 }
+    args.get(i).copied().unwrap_or(0)
 }
 
 // Main's registers hold what it keeps of the arguments.
@@ -28,10 +28,8 @@ fn fill_main(table: &[u8], registers: &mut [u32; 256], main: Function, args: &[u
     let f = main.0 as usize;
     let base = 8 * (f - 1);
     let width = read::width(table, main);
-    let mut i: usize = 0;
-    while i < 8 {
+    for i in 0..8 {
         registers[base + i] = widths::cut(width as u16, argument(args, i));
-        i += 1;
     }
 }
 
@@ -44,12 +42,12 @@ pub(crate) fn start(
     registers: &mut [u32; 256],
     occupant: &mut [u16; 32],
     args: &[u32],
-    lacking: Node,
-) -> Opening
+    lacking: Option<Node>,
+) -> Result<(), Refusal>
     requires { Taken table.now }
     ensures { (tags : List ℕ) → check_with table.now tags
         ≡ accepted (functions table.now) (nodes table.now)
-        → lacking.0 ≡ missing table.now tags
+        → lacking ≡ found (missing table.now tags)
         → OpenedAs
         (state_as status.old second.old value.old registers.old occupant.old)
         result (state_as status.new second.new value.new registers.new occupant.new)
@@ -57,14 +55,17 @@ pub(crate) fn start(
 {
     let main = read::functions(table);
     let count = read::params(table, main);
-    if args.len() != (count as usize) {
-        return Opening::Refused(11, Node(0));
+    if args.len() != count as usize {
+        return Err(Reason::Arguments.into());
     }
-    if lacking.0 != 0 {
-        return Opening::Refused(26, lacking);
+    if let Some(place) = lacking {
+        return Err(Refusal {
+            reason: Reason::Untagged,
+            place,
+        });
     }
     open_main(table, status, second, value, registers, occupant, args);
-    Opening::Opened
+    Ok(())
 }
 
 // All zero but main's registers and root.

@@ -1,84 +1,64 @@
 // The query and the run with a budget, of a table and tags that were checked and a state that passed 24.
-ghost use Rattle.std.specs.Prelude.{◌≡◌, ℕ, ◌≤◌, List};
-ghost use Rattle.table.specs.Working.{Read};
+ghost use Rattle.table.specs.Bundle.{bytes};
+ghost use Rattle.std.specs.Prelude.{◌≡◌, ◌≤◌};
 ghost use Rattle.rules.specs.First.{first_of, found_at, drive_from};
 ghost use Rattle.circuit.specs.Meaning.{found_of, ended_of, state_as};
 ghost use Rattle.circuit.specs.Working.{Agreed, Stands, driven_as};
-ghost use Rattle.circuit.specs.Packed.{sets_as};
+ghost use Rattle.circuit.specs.Packed.{unpacked};
 ghost use Rattle.circuit.specs.Following.{stands_at};
 
-use crate::sets::Set;
-use crate::types::{Ended, Found};
-use crate::{arrays, groups, sets, steps, store, tracking, turn};
-use table::decoded::Cells;
+use crate::sets::Sets;
+use crate::types::Ended;
+use crate::{groups, steps, store, tracking, turn};
+use table::decoded::Decoded;
 use table::{Node, decoded};
-
-// How a run with a budget ended, and after how many steps.
-#[derive(Clone, Copy)]
-pub struct DriveEnd {
-    pub steps: u32,
-    pub ended: Ended,
-}
 
 // None once main's root is done, else the first node that has a step.
 pub(crate) fn query(
-    table: &[u8],
-    cells: &Cells,
+    design: &Decoded,
     tags: &[u8],
     status: &[u8; 512],
     second: &[bool; 512],
     value: &[u32; 512],
     registers: &[u32; 256],
     occupant: &[u16; 32],
-) -> Found
-    requires { Read table.now cells.now × Agreed table.now tags.now
-        × Stands table.now (state_as status.now second.now value.now registers.now occupant.now) }
-    ensures { found_of result ≡ found_at (first_of table.now tags.now
+) -> Option<Node>
+    requires { Agreed (bytes design.now) tags.now
+        × Stands (bytes design.now) (state_as status.now second.now value.now registers.now occupant.now) }
+    ensures { found_of (Ok result) ≡ found_at (first_of (bytes design.now) tags.now
         (state_as status.now second.now value.now registers.now occupant.now)) }
 {
-    let top = turn::top(table, cells);
+    let top = turn::top(design);
     if store::status_at(status, top) == 3 {
-        return Found::Nothing;
+        return None;
     }
-    let last = decoded::last(cells);
-    let end = last.0;
-    let mut n: u16 = 0;
-    while n < end {
-        n += 1;
-        if turn::why_not(table, cells, tags, status, second, value, occupant, Node(n)) == 0 {
-            return Found::Possible(Node(n));
+    let last = decoded::last(design.cells);
+    for n in 1..=last.0 {
+        let n = Node(n);
+        if turn::why_not(design, tags, status, second, value, occupant, n).is_none() {
+            return Some(n);
         }
     }
-    Found::Nothing
+    None
 }
 
 // How the run stands: answered, then at rest, then spent.
-fn end_of(
-    status: &[u8; 512],
-    value: &[u32; 512],
-    armed: &Set,
-    waiting: &Set,
-    held: &Set,
-    top: Node,
-) -> Ended
+fn end_of(status: &[u8; 512], value: &[u32; 512], sets: &Sets, top: Node) -> Ended
     requires { (1 ≤ top.0) × (top.0 ≤ 512) }
-    ensures { (inside : List ℕ) → ended_of result ≡ stands_at status.now value.now top.0
-        (sets_as armed.now waiting.now inside held.now) }
+    ensures { ended_of (Ok result) ≡ stands_at status.now value.now top.0 (unpacked sets.now) }
 {
     if store::status_at(status, top) == 3 {
         return Ended::Answered(store::value_at(value, top));
     }
-    let n = sets::first(armed, waiting, held);
-    if n == 0 {
-        return Ended::AtRest;
+    match sets.first() {
+        None => Ended::AtRest,
+        Some(_) => Ended::Spent,
     }
-    Ended::Spent
 }
 
-// The first possible step, again and again, as often as the budget says at most.
+// The first possible step, again and again, as often as the budget says at most; `count` gets how often.
 pub(crate) fn drive(
-    table: &[u8],
-    cells: &Cells,
+    design: &Decoded,
     tags: &[u8],
     status: &mut [u8; 512],
     second: &mut [bool; 512],
@@ -86,61 +66,22 @@ pub(crate) fn drive(
     registers: &mut [u32; 256],
     occupant: &mut [u16; 32],
     budget: u32,
-) -> DriveEnd
-    requires { Read table.now cells.now × Agreed table.now tags.now
-        × Stands table.now (state_as status.old second.old value.old registers.old occupant.old) }
-    ensures { driven_as result
+    count: &mut u32,
+) -> Ended
+    requires { Agreed (bytes design.now) tags.now
+        × Stands (bytes design.now) (state_as status.old second.old value.old registers.old occupant.old) }
+    ensures { driven_as result count.new
         (state_as status.new second.new value.new registers.new occupant.new)
-        ≡ drive_from table.now tags.now
+        ≡ drive_from (bytes design.now) tags.now
         (state_as status.old second.old value.old registers.old occupant.old)
         budget }
 {
-    arrays::whole(*status, *second, *value, *registers, *occupant);
-    let g = groups::group(table, cells);
-    let heads = g.heads;
-    let links = g.links;
-    let mut rows = [0u64; 520];
-    let mut armed = [0u64; 8];
-    let mut waiting = [0u64; 8];
-    let mut inside = [0u64; 8];
-    let mut held = [0u64; 8];
-    tracking::fill(
-        table,
-        cells,
-        status,
-        second,
-        value,
-        occupant,
-        &mut rows,
-        &mut armed,
-        &mut waiting,
-        &mut inside,
-        &mut held,
-    );
-    let top = turn::top(table, cells);
-    let n = Node(sets::first(&armed, &waiting, &held));
-    let steps = steps::go(
-        table,
-        cells,
-        tags,
-        true,
-        &heads,
-        &links,
-        true,
-        &rows,
-        &mut armed,
-        &mut waiting,
-        &mut inside,
-        &mut held,
-        status,
-        second,
-        value,
-        registers,
-        occupant,
-        top,
+    let groups = groups::group(design);
+    let (rows, mut sets) = tracking::fill(design, status, second, value, occupant);
+    let top = turn::top(design);
+    *count = steps::go(
+        design, tags, &groups, &rows, &mut sets, status, second, value, registers, occupant, top,
         budget,
-        n,
     );
-    let ended = end_of(status, value, &armed, &waiting, &held, top);
-    DriveEnd { steps, ended }
+    end_of(status, value, &sets, top)
 }

@@ -5,9 +5,10 @@ ghost use Rattle.rules.specs.Circuit.{start_of, step_of};
 ghost use Rattle.rules.specs.First.{query_of};
 ghost use Rattle.circuit.specs.Meaning.{OpenedAs, state_as, stepped_as, RanLent, found_of, DrivenLent};
 
-use crate::types::{Answer, Ended, Found, Halt, Opening};
+use crate::types::{Answer, Ended};
 use crate::{admission, begin, budget, entries};
-use table::{Checked, Node};
+use table::decoded::Decoded;
+use table::{Node, Refusal};
 
 // The circuit's start: the table, its tags, 11, 26; then main's registers hold the arguments and its root is open, all else is zero.
 pub fn start(
@@ -19,21 +20,23 @@ pub fn start(
     registers: &mut [u32; 256],
     occupant: &mut [u16; 32],
     args: &[u32],
-) -> Opening
+) -> Result<(), Refusal>
     ensures { OpenedAs
         (state_as status.old second.old value.old registers.old occupant.old)
         result (state_as status.new second.new value.new registers.new occupant.new)
         (start_of table.now tags.now args.now) }
 {
-    let told = list::check_coverage(table, tags);
-    let checked = told.checked;
-    let lacking = told.missing;
-    match checked {
-        Checked::Refused(number, place) => Opening::Refused(number, place),
-        Checked::Accepted(_, _) => begin::start(
-            table, status, second, value, registers, occupant, args, lacking,
-        ),
-    }
+    let told = list::check_coverage(table, tags)?;
+    begin::start(
+        table,
+        status,
+        second,
+        value,
+        registers,
+        occupant,
+        args,
+        told.missing,
+    )
 }
 
 // A step asked at node n: the table, its tags, 12, 24, 20, then 21 to 23.
@@ -54,12 +57,15 @@ pub fn step(
         n.0 }
 {
     let mut cells = [0u16; 3270];
-    let checked = admission::read_in(table, tags, &mut cells);
-    match checked {
-        Checked::Refused(number, place) => Answer::Refused(number, place),
-        Checked::Accepted(_, _) => entries::step(
-            table, &cells, tags, status, second, value, registers, occupant, n,
-        ),
+    match admission::read_in(table, tags, &mut cells) {
+        Err(refusal) => Answer::Refused(refusal.reason, refusal.place),
+        Ok(_) => {
+            let design = Decoded {
+                table,
+                cells: &cells,
+            };
+            entries::step(&design, tags, status, second, value, registers, occupant, n)
+        }
     }
 }
 
@@ -75,7 +81,7 @@ pub fn run(
     occupant: &mut [u16; 32],
     nodes: &[u16],
     count: &mut usize,
-) -> Halt
+) -> Result<(), Refusal>
     ensures { RanLent table.now tags.now
         (state_as status.old second.old value.old registers.old occupant.old)
         nodes.now count.old result
@@ -83,17 +89,14 @@ pub fn run(
         count.new }
 {
     let mut cells = [0u16; 3270];
-    let checked = admission::admit(table, tags, status, occupant, &mut cells);
-    match checked {
-        Checked::Refused(number, place) => Halt::Refused(number, place),
-        Checked::Accepted(_, _) => {
-            let end = entries::run(
-                table, &cells, tags, status, second, value, registers, occupant, nodes,
-            );
-            *count = end.steps;
-            end.halt
-        }
-    }
+    admission::admit(table, tags, status, occupant, &mut cells)?;
+    let design = Decoded {
+        table,
+        cells: &cells,
+    };
+    entries::run(
+        &design, tags, status, second, value, registers, occupant, nodes, count,
+    )
 }
 
 // The first possible step, or none: the table, its tags and 24 are checked first.
@@ -105,18 +108,17 @@ pub fn query(
     value: &[u32; 512],
     registers: &[u32; 256],
     occupant: &[u16; 32],
-) -> Found
+) -> Result<Option<Node>, Refusal>
     ensures { found_of result ≡ query_of table.now tags.now
         (state_as status.now second.now value.now registers.now occupant.now) }
 {
     let mut cells = [0u16; 3270];
-    let checked = admission::admit(table, tags, status, occupant, &mut cells);
-    match checked {
-        Checked::Refused(number, place) => Found::Refused(number, place),
-        Checked::Accepted(_, _) => budget::query(
-            table, &cells, tags, status, second, value, registers, occupant,
-        ),
-    }
+    admission::admit(table, tags, status, occupant, &mut cells)?;
+    let design = Decoded {
+        table,
+        cells: &cells,
+    };
+    Ok(budget::query(&design, tags, status, second, value, registers, occupant))
 }
 
 // The first possible step, again and again, up to a budget: the table, its tags and 24 are checked first. `count` as in a run over a list.
@@ -130,7 +132,7 @@ pub fn drive(
     occupant: &mut [u16; 32],
     budget: u32,
     count: &mut u32,
-) -> Ended
+) -> Result<Ended, Refusal>
     ensures { DrivenLent table.now tags.now
         (state_as status.old second.old value.old registers.old occupant.old) budget
         count.old result
@@ -138,15 +140,12 @@ pub fn drive(
         count.new }
 {
     let mut cells = [0u16; 3270];
-    let checked = admission::admit(table, tags, status, occupant, &mut cells);
-    match checked {
-        Checked::Refused(number, place) => Ended::Refused(number, place),
-        Checked::Accepted(_, _) => {
-            let end = budget::drive(
-                table, &cells, tags, status, second, value, registers, occupant, budget,
-            );
-            *count = end.steps;
-            end.ended
-        }
-    }
+    admission::admit(table, tags, status, occupant, &mut cells)?;
+    let design = Decoded {
+        table,
+        cells: &cells,
+    };
+    Ok(budget::drive(
+        &design, tags, status, second, value, registers, occupant, budget, count,
+    ))
 }

@@ -1,201 +1,174 @@
 // After a move the sets are again those of the state, and tell the first node that has a step. Mostly it is known without a look at them:
 // no node below the one that moved had a step, so a parent, a first child or a root that has one now is lower than any other that has.
-ghost use Rattle.std.specs.Prelude.{◌≡◌, ℕ, ◌+◌, ◌*◌, ◌≤◌, true, false, not, ◌&&◌, ◌||◌, List, length, ◌==◌, ◌≢◌};
+ghost use Rattle.std.specs.Prelude.{◌≡◌, ℕ, ◌+◌, ◌*◌, ◌≤◌, true, false, not, ◌&&◌, ◌||◌, List, ◌==◌, ◌≢◌};
+ghost use Rattle.table.specs.Bundle.{bytes};
 ghost use Rattle.table.specs.Pick.{Range};
 ghost use Rattle.table.specs.Bytes.{nodes, first};
 ghost use Rattle.table.specs.Naming.{children};
 ghost use Rattle.table.specs.Expressions.{expr_at};
-ghost use Rattle.table.specs.Working.{IsNode, IsFunction, Read, Taken};
+ghost use Rattle.table.specs.Working.{IsNode, IsFunction, Taken};
 ghost use Rattle.list.specs.Working.{packed};
-ghost use Rattle.rules.specs.State.{entry, In};
+ghost use Rattle.rules.specs.State.{State512, Sized, entry, In};
 ghost use Rattle.rules.specs.Circuit.{act_of};
-ghost use Rattle.rules.specs.Sets.{sort, holds, first_in};
+ghost use Rattle.rules.specs.Sets.{sort, holds, first_in, Stays};
 ghost use Rattle.circuit.specs.Meaning.{state_as};
-ghost use Rattle.circuit.specs.Working.{planned, Sound, gathers_at};
-ghost use Rattle.circuit.specs.Packed.{Packs, sets_as, Three, Rowed};
-ghost use Rattle.circuit.specs.Following.{ends, frees, Grows, Onward};
+ghost use Rattle.circuit.specs.Working.{planned, Planned, performed, Sound, gathers_at, sort_of, calling};
+ghost use Rattle.circuit.specs.Packed.{Packs, unpacked, Names, Rowed, Tracks};
+ghost use Rattle.circuit.specs.Following.{ends, frees, Grows, Carries, Onward};
 ghost use Rattle.circuit.specs.declared.plan.Plan.TheVariants as Plan;
 
 use crate::plan::Plan;
-use crate::sets::Set;
+use crate::sets::{Rows, Sets};
+use crate::sorts::Ready;
 use crate::{sets, sorts, store, tracking};
-use table::decoded::Cells;
+use table::decoded::Decoded;
 use table::{Function, Node, decoded};
 
 // Whether n is in first phase and has children.
-fn is_fresh(table: &[u8], cells: &Cells, second: &[bool; 512], n: Node) -> bool
-    requires { Read table.now cells.now × IsNode table.now n.0 }
-    ensures { result ≡ (not (entry second.now false n.0) && not (first table.now n.0 == 0)) }
+fn is_fresh(design: &Decoded, second: &[bool; 512], n: Node) -> bool
+    requires { IsNode (bytes design.now) n.0 }
+    ensures { result ≡ (not (entry second.now false n.0) && not (first (bytes design.now) n.0 == 0)) }
 {
     if store::second_at(second, n) {
         return false;
     }
-    decoded::first(cells, n).0 != 0
+    decoded::first(design.cells, n).0 != 0
 }
 
 // Node n has begun. In first phase it waits for the children that it opened.
 fn begun(
-    table: &[u8],
-    cells: &Cells,
-    armed: &mut Set,
-    waiting: &mut Set,
-    inside: &mut Set,
-    held: &Set,
+    design: &Decoded,
+    sets: &mut Sets,
     status: &[u8; 512],
     second: &[bool; 512],
     value: &[u32; 512],
     n: Node,
-) -> Node
-    requires { Read table.now cells.now × IsNode table.now n.0 × Sound table.now n.0 Plan.Begins
-        × Three armed.old waiting.old inside.old × (length held.now ≡ 8)
-        × (n.0 ≡ first_in (sets_as armed.old waiting.old inside.old held.now) 512) }
-    ensures { Onward table.now n.0 Plan.Begins status.now second.now value.now
-        (sets_as armed.old waiting.old inside.old held.now) result.0
-        armed.new waiting.new inside.new held.now }
+) -> Option<Node>
+    requires { IsNode (bytes design.now) n.0 × Sound (bytes design.now) n.0 Plan.Begins
+        × (n.0 ≡ first_in (unpacked sets.old) 512) }
+    ensures { Onward (bytes design.now) n.0 Plan.Begins status.now second.now value.now (unpacked sets.old) result
+        (unpacked sets.new) }
 {
-    tracking::arm(table, cells, armed, waiting, inside, n);
-    if is_fresh(table, cells, second, n) {
-        sets::mark(armed, n, false);
-        let c = decoded::first(cells, n);
+    tracking::arm(design, sets, n);
+    if is_fresh(design, second, n) {
+        sets::mark(&mut sets.armed, n, false);
+        let c = decoded::first(design.cells, n);
         if c.0 == n.0 + 1 {
-            return c;
+            return Some(c);
         }
-        return Node(sets::first(armed, waiting, held));
+        return None;
     }
-    let k = tracking::read_anew(
-        table, cells, status, second, value, armed, waiting, inside, n,
-    );
-    if k == 2 {
-        return n;
+    let k = tracking::read_anew(design, status, second, value, sets, n);
+    if k == Ready::Yes {
+        return Some(n);
     }
-    Node(sets::first(armed, waiting, held))
+    None
 }
 
 // Node n has opened node m and is in second phase.
 fn turned(
-    table: &[u8],
-    cells: &Cells,
-    armed: &mut Set,
-    waiting: &mut Set,
-    inside: &mut Set,
-    held: &Set,
+    design: &Decoded,
+    sets: &mut Sets,
     status: &[u8; 512],
     second: &[bool; 512],
     value: &[u32; 512],
     n: Node,
     m: Node,
-) -> Node
-    requires { Read table.now cells.now × IsNode table.now n.0 × IsNode table.now m.0
-        × Three armed.old waiting.old inside.old × (length held.now ≡ 8) }
-    ensures { Onward table.now n.0 (Plan.Turns m) status.now second.now value.now
-        (sets_as armed.old waiting.old inside.old held.now) result.0
-        armed.new waiting.new inside.new held.now }
+)
+    requires { IsNode (bytes design.now) n.0 × IsNode (bytes design.now) m.0 }
+    ensures { Carries (bytes design.now) n.0 (Plan.Turns m) status.now second.now value.now (unpacked sets.old) (unpacked sets.new) }
 {
-    tracking::place(armed, waiting, inside, m, true, false, false);
-    tracking::read_anew(
-        table, cells, status, second, value, armed, waiting, inside, n,
-    );
-    Node(sets::first(armed, waiting, held))
+    sets.place(m, true, false, false);
+    tracking::read_anew(design, status, second, value, sets, n);
 }
 
 // Function g is as new, entered or started again by node n.
+#[inline(always)]
 fn called(
-    table: &[u8],
-    cells: &Cells,
-    rows: &[u64],
-    armed: &mut Set,
-    waiting: &mut Set,
-    inside: &mut Set,
-    held: &mut Set,
+    design: &Decoded,
+    rows: &Rows,
+    sets: &mut Sets,
     status: &[u8; 512],
     second: &[bool; 512],
     value: &[u32; 512],
     n: Node,
     g: Function,
     anew: bool,
-) -> Node
-    requires { Read table.now cells.now × IsNode table.now n.0 × IsFunction table.now g.0 × Rowed table.now rows.now
-        × Three armed.old waiting.old inside.old × (length held.old ≡ 8)
-        × (n.0 ≡ first_in (sets_as armed.old waiting.old inside.old held.old) 512) }
-    ensures { Onward table.now n.0 (Plan.Enters g anew) status.now second.now
-        value.now
-        (sets_as armed.old waiting.old inside.old held.old) result.0
-        armed.new waiting.new inside.new held.new }
+) -> Option<Node>
+    requires { IsNode (bytes design.now) n.0 × IsFunction (bytes design.now) g.0 × Rowed (bytes design.now) rows.now
+        × (n.0 ≡ first_in (unpacked sets.old) 512) }
+    ensures { Onward (bytes design.now) n.0 (calling g anew) status.now second.now
+        value.now (unpacked sets.old) result
+        (unpacked sets.new) }
 {
-    tracking::renew(table, cells, rows, armed, waiting, inside, held, n, g, anew);
-    let r = decoded::root(cells, g);
+    tracking::renew(design, rows, sets, n, g, anew);
+    let r = decoded::root(design.cells, g);
     if r.0 <= n.0 {
-        return r;
+        return Some(r);
     }
-    Node(sets::first(armed, waiting, held))
+    None
 }
 
 // A callee that is left is free: the calls of it are held no longer. Whether one is.
-fn free(table: &[u8], rows: &[u64], held: &mut Set, n: Node, plan: Plan) -> bool
-    requires { Taken table.now × Sound table.now n.0 plan × Rowed table.now rows.now × (length held.old ≡ 8) }
-    ensures { (result ≡ frees plan) × (length held.new ≡ 8)
-        × ((a w i value : List ℕ) (m : ℕ) → ends plan ≡ true → Range (nodes table.now) m → packed held.new m
-        ≡ holds (expr_at table.now) (sets_as a w i held.old) (planned table.now value n.0 plan) m) }
+fn free(table: &[u8], rows: &Rows, sets: &mut Sets, n: Node, plan: Plan) -> bool
+    requires { Taken table.now × Sound table.now n.0 plan × Rowed table.now rows.now }
+    ensures { (result ≡ frees plan) × ((m : ℕ) → Stays (unpacked sets.old) (unpacked sets.new) m)
+        × ((value : List ℕ) (m : ℕ) → ends plan ≡ true → Range (nodes table.now) m → packed sets.new.held m
+        ≡ holds (expr_at table.now) (unpacked sets.old) (planned table.now value n.0 plan) m) }
 {
-    match plan {
-        Plan::Begins => false,
-        Plan::Turns(_) => false,
-        Plan::Finishes(_) => false,
-        Plan::Enters(_, _) => false,
-        Plan::Leaves(g, _) => {
-            let sites = sets::row(rows, 32 + g.0 as usize);
-            sets::lose(held, &sites);
-            true
-        }
+    if let Plan::Leaves(g, _) = plan {
+        let sites = sets::row(rows, 32 + g.0 as usize);
+        sets::lose(&mut sets.held, &sites);
+        return true;
     }
+    false
 }
 
 // The calls inside function f may leave it.
-fn arm_callers(rows: &[u64], armed: &mut Set, inside: &Set, f: Function)
-    requires { (length rows.now ≡ 520) × (f.0 ≤ 32) }
-    ensures { Packs (λ m. packed armed.old m
-        || (packed inside.now m && packed rows.now (512 * (32 + f.0) + m))) armed.new }
+fn arm_callers(rows: &Rows, sets: &mut Sets, f: Function)
+    requires { f.0 ≤ 32 }
+    ensures { Packs (λ m. packed sets.old.armed m || (packed sets.old.inside m && packed rows.now (512 * (32 + f.0) + m)))
+        sets.new.armed
+        × (sets.new.waiting ≡ sets.old.waiting) × (sets.new.inside ≡ sets.old.inside) × (sets.new.held ≡ sets.old.held) }
 {
     let sites = sets::row(rows, 32 + f.0 as usize);
-    let callers = sets::common(inside, &sites);
-    sets::gain(armed, &callers);
+    let callers = sets::common(&sets.inside, &sites);
+    sets::gain(&mut sets.armed, &callers);
 }
 
 // Node p after its child n was done, which was in no set while p gathered its children; d is the next child.
 fn lift(
-    table: &[u8],
-    cells: &Cells,
-    armed: &mut Set,
-    waiting: &mut Set,
+    design: &Decoded,
+    sets: &mut Sets,
     status: &[u8; 512],
     second: &[bool; 512],
     value: &[u32; 512],
     p: Node,
     d: Node,
-) -> u8
-    requires { Read table.now cells.now × IsNode table.now p.0 × (length armed.old ≡ 8) × (length waiting.old ≡ 8)
-        × ((d.0 ≢ 0) → IsNode table.now d.0 × In d.0 (children table.now p.0)) }
-    ensures { (length armed.new ≡ 8) × (length waiting.new ≡ 8)
-        × ((d e : List ℕ) → result ≡ sort (act_of table.now
+) -> Ready
+    requires { IsNode (bytes design.now) p.0
+        × ((d.0 ≢ 0) → IsNode (bytes design.now) d.0 × In d.0 (children (bytes design.now) p.0)) }
+    ensures { ((d e : List ℕ) → sort_of result ≡ sort (act_of (bytes design.now)
         (state_as status.now second.now value.now d e) p.0))
-        × ((i h : List ℕ) → Grows p.0 result (gathers_at table.now status.now second.now p.0)
-        (sets_as armed.old waiting.old i h) (sets_as armed.new waiting.new i h)) }
+        × Grows p.0 (sort_of result) (gathers_at (bytes design.now) status.now second.now p.0) (unpacked sets.old) (unpacked sets.new)
+        × (sets.new.held ≡ sets.old.held) }
 {
-    if !sorts::gathers(table, cells, status, second, p) {
-        let k = sorts::sort_at(table, cells, status, second, value, p);
-        sets::mark(armed, p, k == 2);
+    if !sorts::gathers(design, status, second, p) {
+        let k = sorts::sort_at(design, status, second, value, p);
+        sets::mark(&mut sets.armed, p, k == Ready::Yes);
         return k;
     }
-    let k = sorts::gathered(table, cells, status, second, p, d);
-    if k == 0 {
-        return 0;
+    match sorts::gathered(design, status, second, p, d) {
+        Ready::No => Ready::No,
+        Ready::IfFree => {
+            sets::mark(&mut sets.waiting, p, true);
+            Ready::IfFree
+        }
+        Ready::Yes => {
+            sets::mark(&mut sets.armed, p, true);
+            Ready::Yes
+        }
     }
-    if k == 1 {
-        sets::mark(waiting, p, true);
-        return 1;
-    }
-    sets::mark(armed, p, true);
-    k
 }
 
 // Whether d is open and has the number after that of n.
@@ -211,123 +184,95 @@ fn is_beside(status: &[u8; 512], n: Node, d: Node) -> bool
 
 // Node n is done; where it is a root, the calls inside its function may leave.
 fn ended(
-    table: &[u8],
-    cells: &Cells,
-    rows: &[u64],
-    armed: &mut Set,
-    waiting: &mut Set,
-    inside: &mut Set,
-    held: &mut Set,
+    design: &Decoded,
+    rows: &Rows,
+    sets: &mut Sets,
     status: &[u8; 512],
     second: &[bool; 512],
     value: &[u32; 512],
     n: Node,
     plan: Plan,
-) -> Node
-    requires { Read table.now cells.now × IsNode table.now n.0 × Sound table.now n.0 plan × Rowed table.now rows.now
-        × Three armed.old waiting.old inside.old × (length held.old ≡ 8)
-        × (n.0 ≡ first_in (sets_as armed.old waiting.old inside.old held.old) 512) × (ends plan ≡ true) }
-    ensures { Onward table.now n.0 plan status.now second.now value.now
-        (sets_as armed.old waiting.old inside.old held.old) result.0
-        armed.new waiting.new inside.new held.new }
+) -> Option<Node>
+    requires { IsNode (bytes design.now) n.0 × Sound (bytes design.now) n.0 plan × Rowed (bytes design.now) rows.now
+        × (n.0 ≡ first_in (unpacked sets.old) 512) × (ends plan ≡ true) }
+    ensures { Onward (bytes design.now) n.0 plan status.now second.now value.now (unpacked sets.old) result
+        (unpacked sets.new) }
 {
-    let freed = free(table, rows, held, n, plan);
-    tracking::place(armed, waiting, inside, n, false, false, false);
-    let p = decoded::parent(cells, n);
+    let freed = free(design.table, rows, sets, n, plan);
+    sets.place(n, false, false, false);
+    let p = decoded::parent(design.cells, n);
     if p.0 == 0 {
-        arm_callers(rows, armed, inside, decoded::owner(cells, n));
-        return Node(sets::first(armed, waiting, held));
+        arm_callers(rows, sets, decoded::owner(design.cells, n));
+        return None;
     }
-    let d = decoded::next(cells, n);
-    let k = lift(table, cells, armed, waiting, status, second, value, p, d);
+    let d = decoded::next(design.cells, n);
+    let k = lift(design, sets, status, second, value, p, d);
     if freed {
-        return Node(sets::first(armed, waiting, held));
+        return None;
     }
-    if k == 2 {
-        return p;
+    if k == Ready::Yes {
+        return Some(p);
     }
-    if k == 0 {
+    if k == Ready::No {
         if is_beside(status, n, d) {
-            return d;
+            return Some(d);
         }
-        return Node(sets::first(armed, waiting, held));
     }
-    Node(sets::first(armed, waiting, held))
+    None
 }
 
-// Whether a node is done by the plan.
-fn is_end(plan: Plan) -> bool
-    ensures { result ≡ ends plan }
-{
-    match plan {
-        Plan::Begins => false,
-        Plan::Turns(_) => false,
-        Plan::Finishes(_) => true,
-        Plan::Enters(_, _) => false,
-        Plan::Leaves(_, _) => true,
-    }
-}
-
-// By the plan of node n, whose move was made; 0 where no sets are kept. That is asked after the plan, and both plans that end a node go one
-// way: so LLVM makes one choice of this one and the one before it, in the loop.
-pub(crate) fn follow(
-    table: &[u8],
-    cells: &Cells,
-    tracked: bool,
-    rows: &[u64],
-    armed: &mut Set,
-    waiting: &mut Set,
-    inside: &mut Set,
-    held: &mut Set,
+// By the plan of node n, whose move was made: the first node that has a step now, if it is known. Both plans that end a node go one way: so
+// LLVM makes one choice of this one and the one before it, in the loop.
+#[inline(always)]
+fn update(
+    design: &Decoded,
+    rows: &Rows,
+    sets: &mut Sets,
     status: &[u8; 512],
     second: &[bool; 512],
     value: &[u32; 512],
     n: Node,
     plan: Plan,
-) -> Node
-    requires { Read table.now cells.now × IsNode table.now n.0 × Sound table.now n.0 plan
-        × (tracked ≡ true → Rowed table.now rows.now × Three armed.old waiting.old inside.old × (length held.old ≡ 8)
-        × (n.0 ≡ first_in (sets_as armed.old waiting.old inside.old held.old) 512)) }
-    ensures { (tracked ≡ true → Onward table.now n.0 plan status.now second.now
-        value.now
-        (sets_as armed.old waiting.old inside.old held.old) result.0
-        armed.new waiting.new inside.new held.new) × (tracked ≡ false → result.0 ≡ 0) }
+) -> Option<Node>
+    requires { IsNode (bytes design.now) n.0 × Sound (bytes design.now) n.0 plan × Rowed (bytes design.now) rows.now
+        × (n.0 ≡ first_in (unpacked sets.old) 512) }
+    ensures { Onward (bytes design.now) n.0 plan status.now second.now value.now (unpacked sets.old) result (unpacked sets.new) }
 {
-    if is_end(plan) {
-        if tracked {
-            return ended(
-                table, cells, rows, armed, waiting, inside, held, status, second, value, n, plan,
-            );
-        }
-        return Node(0);
-    }
     match plan {
-        Plan::Begins => {
-            if tracked {
-                return begun(
-                    table, cells, armed, waiting, inside, held, status, second, value, n,
-                );
-            }
-            Node(0)
-        }
+        Plan::Begins => begun(design, sets, status, second, value, n),
         Plan::Turns(m) => {
-            if tracked {
-                return turned(
-                    table, cells, armed, waiting, inside, held, status, second, value, n, m,
-                );
-            }
-            Node(0)
+            turned(design, sets, status, second, value, n, m);
+            None
         }
-        Plan::Enters(g, anew) => {
-            if tracked {
-                return called(
-                    table, cells, rows, armed, waiting, inside, held, status, second, value, n, g,
-                    anew,
-                );
-            }
-            Node(0)
-        }
-        Plan::Finishes(_) => Node(0),
-        Plan::Leaves(_, _) => Node(0),
+        Plan::Enters(g) => called(design, rows, sets, status, second, value, n, g, true),
+        Plan::Restarts(f) => called(design, rows, sets, status, second, value, n, f, false),
+        Plan::Finishes(_) | Plan::Leaves(_, _) => ended(
+            design, rows, sets, status, second, value, n, plan,
+        ),
+    }
+}
+
+// The first node that has a step after the move of node n, which was the first one before it.
+pub(crate) fn follow(
+    design: &Decoded,
+    rows: &Rows,
+    sets: &mut Sets,
+    status: &[u8; 512],
+    second: &[bool; 512],
+    value: &[u32; 512],
+    n: Node,
+    plan: Plan,
+) -> Option<Node>
+    requires { IsNode (bytes design.now) n.0 × Sound (bytes design.now) n.0 plan × Rowed (bytes design.now) rows.now
+        × (n.0 ≡ first_in (unpacked sets.old) 512) }
+    ensures { (d e : List ℕ) (s : State512) → Sized s → Planned (bytes design.now) s n.0 plan
+        → state_as status.now second.now value.now d e ≡ performed (bytes design.now) s n.0 plan
+        → Tracks (bytes design.now) s (unpacked sets.old)
+        → Tracks (bytes design.now) (state_as status.now second.now value.now d e) (unpacked sets.new)
+        × Names result (first_in (unpacked sets.new) 512) }
+{
+    match update(design, rows, sets, status, second, value, n, plan) {
+        Some(first) => Some(first),
+        None => sets.first(),
     }
 }

@@ -1,6 +1,5 @@
 // The operations of a primitive: 32-bit, add, subtract and double wrap.
 ghost use Rattle.std.specs.Prelude.{◌≡◌, [], ◌∷◌};
-ghost use Rattle.table.specs.Pick.{pick};
 ghost use Rattle.rules.specs.Operations.{operate};
 
 // Of two values; `last` is what beside gives. At most three operations to a range: from four on LLVM would put a table of jumps into
@@ -10,8 +9,8 @@ pub(crate) fn of_two(op: u16, x: u32, y: u32, last: u32) -> u32
 {
     match op {
         0..=1 => match op {
-            0 => std::num::wrapping_add_u32(x, y),
-            _ => std::num::wrapping_sub_u32(x, y),
+            0 => x.wrapping_add(y),
+            _ => x.wrapping_sub(y),
         },
         2..=4 => match op {
             2 => x & y,
@@ -19,20 +18,14 @@ pub(crate) fn of_two(op: u16, x: u32, y: u32, last: u32) -> u32
             _ => x ^ y,
         },
         5..=7 => match op {
-            5 => std::num::wrapping_add_u32(x, x),
+            5 => x.wrapping_add(x),
             6 => x / 2,
             _ => x % 2,
         },
         8..=9 => match op {
-            8 => number(x == y),
-            _ => number(x < y),
+            8 => u32::from(x == y),
+            _ => u32::from(x < y),
         },
         _ => last,
     }
-}
-
-fn number(yes: bool) -> u32
-    ensures { result ≡ pick yes 1 0 }
-{
-    if yes { 1 } else { 0 }
 }

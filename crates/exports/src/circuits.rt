@@ -25,10 +25,10 @@ pub extern "C" fn circuit_start(
         (state_as status.old second.old value.old registers.old occupant.old)
         result (state_as status.new second.new value.new registers.new occupant.new) }
 {
-    let opening = lent::start(
+    lent::start(
         table, tags, status, second, value, registers, occupant, args,
-    );
-    codes::opening(opening)
+    )
+    .map_or_else(codes::refusal, |_| 0)
 }
 
 // A step asked at a node.
@@ -47,7 +47,7 @@ pub extern "C" fn circuit_step(
         (state_as status.old second.old value.old registers.old occupant.old) node)
         result (state_as status.new second.new value.new registers.new occupant.new) }
 {
-    let answer = lent::step(
+    codes::answer(lent::step(
         table,
         tags,
         status,
@@ -56,8 +56,7 @@ pub extern "C" fn circuit_step(
         registers,
         occupant,
         Node(node),
-    );
-    codes::answer(answer)
+    ))
 }
 
 // Steps asked at a list of nodes up to the first refusal; their number goes to `count`, unless table, tags or 24 refuse.
@@ -78,10 +77,10 @@ pub extern "C" fn circuit_run(
         nodes.now count.old result count.new
         (state_as status.new second.new value.new registers.new occupant.new) }
 {
-    let halt = lent::run(
+    lent::run(
         table, tags, status, second, value, registers, occupant, nodes, count,
-    );
-    codes::halt(halt)
+    )
+    .map_or_else(codes::refusal, |_| 0)
 }
 
 // The first possible step, again and again, up to a budget; how many goes to `count`, unless table, tags or 24 refuse.
@@ -102,10 +101,10 @@ pub extern "C" fn circuit_drive(
         count.old result count.new
         (state_as status.new second.new value.new registers.new occupant.new) }
 {
-    let ended = lent::drive(
+    lent::drive(
         table, tags, status, second, value, registers, occupant, budget, count,
-    );
-    codes::ended(ended)
+    )
+    .map_or_else(codes::refusal, codes::ended)
 }
 
 // The first possible step, or none.
@@ -122,6 +121,8 @@ pub extern "C" fn circuit_query(
     ensures { result ≡ found_code (query_of table.now tags.now
         (state_as status.now second.now value.now registers.now occupant.now)) }
 {
-    let found = lent::query(table, tags, status, second, value, registers, occupant);
-    codes::found(found)
+    lent::query(table, tags, status, second, value, registers, occupant).map_or_else(
+        codes::refusal,
+        codes::node,
+    )
 }

@@ -5,25 +5,22 @@ mod circuits;
 mod codes;
 mod sheets;
 
-ghost use Rattle.std.specs.Prelude.{◌≡◌, ◌%◌, ◌^◌, ◌<◌, length, get_or};
+ghost use Rattle.std.specs.Prelude.{◌≡◌, ◌%◌, ◌^◌, length};
 ghost use Rattle.table.specs.Check.{check_of, operation_counts};
 ghost use Rattle.table.specs.Survey.{verdict_of};
 ghost use Rattle.list.specs.Tags.{check_with, fill_verdict, filled_tags, bits_set};
-ghost use Rattle.exports.specs.Codes.{code_of, counts_code, value_code, record_code, item_of, item_code};
+ghost use Rattle.exports.specs.Codes.{code_of, counts_code, item_of, item_code};
 ghost use Rattle.exports.specs.Answers.{found_code, missing_of};
-ghost use Rattle.list.specs.Records.{no_record, records_verdict, filled_records};
+ghost use Rattle.list.specs.Records.{records_verdict, filled_records};
 
-use list::{Listing, Record};
-use table::Checked;
+use list::Record;
+use table::{Design, Refusal};
 
 // 0 for accepted, else the refusal's number * 65536 + its place.
-fn code(c: Checked) -> u32
+fn code(c: Result<Design, Refusal>) -> u32
     ensures { result ≡ code_of (verdict_of c) }
 {
-    match c {
-        Checked::Accepted(_, _) => 0,
-        Checked::Refused(number, place) => (number as u32) * 65536 + (place.0 as u32),
-    }
+    c.map_or_else(codes::short, |_| 0)
 }
 
 // Refusals 1 to 9, then 25.
@@ -65,13 +62,7 @@ pub extern "C" fn list_check_tags(bytes: &[u8], tags: &[u8]) -> u32
 pub extern "C" fn list_missing(bytes: &[u8], tags: &[u8]) -> u64
     ensures { result ≡ found_code (missing_of bytes.now tags.now) }
 {
-    let told = list::check_coverage(bytes, tags);
-    let checked = told.checked;
-    let missing = told.missing;
-    match checked {
-        Checked::Refused(number, place) => codes::refusal(number, place),
-        Checked::Accepted(_, _) => codes::node(missing),
-    }
+    list::check_coverage(bytes, tags).map_or_else(codes::refusal, |told| codes::node(told.missing))
 }
 
 // The number of bits set in a tag list.
@@ -87,11 +78,12 @@ pub extern "C" fn list_total(tags: &[u8]) -> u64
 pub extern "C" fn list_record(bytes: &[u8], index: usize) -> u64
     ensures { result ≡ item_code (item_of bytes.now index) }
 {
-    let l = list::list_records(bytes);
-    let checked = l.checked;
-    match checked {
-        Checked::Refused(number, place) => codes::refusal(number, place),
-        Checked::Accepted(_, _) => { if index < l.count { packed(l, index) } else { 0 } }
+    match list::list_records(bytes) {
+        Err(refusal) => codes::refusal(refusal),
+        Ok(listing) => match listing.items[..listing.count].get(index) {
+            Some(record) => codes::record(*record),
+            None => 0,
+        },
     }
 }
 
@@ -101,17 +93,5 @@ pub extern "C" fn list_fill_records(bytes: &[u8], records: &mut [Record]) -> u32
     ensures { (result ≡ code_of (records_verdict bytes.now (length records.old)))
         × (records.new ≡ filled_records bytes.now records.old) }
 {
-    let checked = list::fill_records(bytes, records);
-    code(checked)
-}
-
-fn packed(l: Listing, index: usize) -> u64
-    requires { index < 512 }
-    ensures { result ≡ value_code (record_code (get_or l.items index no_record)) }
-{
-    let r = l.items[index];
-    let callee = r.callee;
-    let caller = r.caller;
-    let node = r.node;
-    4294967296 + ((callee.0 as u64) * 16777216 + ((caller.0 as u64) * 65536 + (node.0 as u64)))
+    code(list::fill_records(bytes, records))
 }

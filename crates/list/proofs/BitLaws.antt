@@ -82,16 +82,6 @@ small_bit x (suc k) p q = ap (λ z. eqb (z % 2) 1) (div-eq_of_lt (less x (2 ^ k)
     less : (x y : ℕ) → x < 2 → 0 < y → 2 ^ suc k ≡ y * 2 → x < 2 ^ suc k
     less x y a b c = omega arith
 
--- no bit above h is left
-pub high_bit : (x h k : ℕ) → x / 2 ^ h < 2 → h < k → bit_at x k ≡ false
-high_bit x h k l q =
-    ap (bit_at x) (there h k q)
-    ∙ sym (ap (λ z. eqb (z % 2) 1) (div-div-eq-div-mul x (2 ^ h) (2 ^ (k - h)) ∙ ap (λ z. x / z) (sym (pow-add 2 h (k - h)))))
-    ∙ small_bit (x / 2 ^ h) (k - h) l (omega arith)
-  where
-    there : (h k : ℕ) → h < k → k ≡ h + (k - h)
-    there h k q = omega arith
-
 -- a node's bit is in its byte
 pub tagged_bit : (l : List ℕ) (m : ℕ) → 1 ≤ m → tagged l m ≡ bit_at (get_or l ((m - 1) / 8) 0) ((m - 1) % 8)
 unfolding tagged

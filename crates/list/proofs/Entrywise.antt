@@ -19,24 +19,3 @@ upto_more f x₀ x i v l u e = record { done = λ j h. done j h (ℕ_discrete j 
 
     left : (j : ℕ) → i + 1 ≤ j → get_or (set x i v) j 0 ≡ get_or x₀ j 0
     left j h = get_or-set_other x i j v 0 (λ p. omega (arith, p)) ∙ u.left j (omega arith)
-
--- i entries from base on are what f says, the others are as they were
-pub record Part (base : ℕ) (f : ℕ → ℕ) (x₀ x : List ℕ) (i : ℕ) : Type 0 where
-  pub done : (j : ℕ) → j < i → get_or x (base + j) 0 ≡ f j
-  pub before : (j : ℕ) → j < base → get_or x j 0 ≡ get_or x₀ j 0
-  pub past : (j : ℕ) → base + i ≤ j → get_or x j 0 ≡ get_or x₀ j 0
-
-pub part_none : (base : ℕ) (f : ℕ → ℕ) (x : List ℕ) → Part base f x x 0
-part_none base f x = record { done = λ j h. absurd (omega arith); before = λ j h _. get_or x j 0; past = λ j h _. get_or x j 0 }
-
-pub part_more : (base : ℕ) (f : ℕ → ℕ) (x₀ x : List ℕ) (i : ℕ) → base + i < length x → Part base f x₀ x i
-    → Part base f x₀ (set x (base + i) (f i)) (i + 1)
-part_more base f x₀ x i l u = record {
-  done = λ j h. done j h (ℕ_discrete j i);
-  before = λ j h. get_or-set_other x (base + i) j (f i) 0 (λ p. omega (arith, p)) ∙ u.before j h;
-  past = λ j h. get_or-set_other x (base + i) j (f i) 0 (λ p. omega (arith, p)) ∙ u.past j (omega arith);
-}
-  where
-    done : (j : ℕ) → j < i + 1 → Dec (j ≡ i) → get_or (set x (base + i) (f i)) (base + j) 0 ≡ f j
-    done j h (yes p) = ap (λ k. get_or (set x (base + i) (f i)) (base + k) 0) p ∙ get_or-set_same x (base + i) (f i) 0 l ∙ ap f (sym p)
-    done j h (no p) = get_or-set_other x (base + i) (base + j) (f i) 0 (λ q. p (omega (arith, q))) ∙ u.done j (omega arith)

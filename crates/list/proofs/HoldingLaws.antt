@@ -7,7 +7,7 @@ use Rattle.table.specs.Bytes.{functions, nodes}
 use Rattle.table.specs.Find.{lowest}
 use Rattle.table.specs.Check.{accepted, refused, if_accepted}
 use Rattle.table.specs.Working.{Taken}
-use Rattle.table.proofs.Tests.{T_true, true_T, or_yes}
+use Rattle.table.proofs.Tests.{T_true, true_t, or_yes}
 use Rattle.table.proofs.FindLaws.{passes_lowest, lowest_passes}
 use Rattle.table.proofs.Loops.{lowest_found}
 use Rattle.table.proofs.LowestLaws.{Lowest, lowest_fails, lowest_same, lowest_past}
@@ -41,7 +41,7 @@ module _ (s : Test) (tags : List ℕ) (n : ℕ) where
   holds_if f = go (s n) f
     where
       go : (x : Bool) → (x ≡ true → tagged tags n ≡ true) → T (not x || tagged tags n)
-      go true f = true_T (tagged tags n) (f refl)
+      go true f = true_t (tagged tags n) (f refl)
       go false f = tt
 
   pub holds_fails : holds_at s tags n ≡ false → (s n ≡ true) × (tagged tags n ≡ false)
@@ -59,7 +59,7 @@ unfolding holds_at
 covered_more set tags i h e = passes_lowest (holds_at (tagged set) tags) (8 * (i + 1)) (λ n a b. go n a b (dec_le n (8 * i)))
   where
     inside : (a b : Bool) → b ≡ a || b → T (not a || b)
-    inside true b q = true_T b q
+    inside true b q = true_t b q
     inside false b q = tt
 
     go : (n : ℕ) → 1 ≤ n → n ≤ 8 * (i + 1) → Dec (n ≤ 8 * i) → T (not (tagged set n) || tagged tags n)

@@ -1,20 +1,22 @@
 -- the conflicts found once main's body is walked are the list, and its bytes are the tag bytes
-use Rattle.std.proofs.Common.{◌≡◌, ℕ, zero, suc, ◌+◌, ◌-◌, ◌*◌, ◌/◌, ◌%◌, ◌^◌, ◌<◌, ◌≤◌, Bool, true, false, ◌&&◌, ◌||◌, eqb, leb, List}
+use Rattle.std.proofs.Common.{◌≡◌, ℕ, zero, suc, ◌+◌, ◌-◌, ◌*◌, ◌/◌, ◌%◌, ◌^◌, ◌<◌, ◌≤◌, Bool, true, false, ◌&&◌, ◌||◌, eqb, leb, List, []}
 use Rattle.std.proofs.Common.{length, get_or, take, replicate, sym, refl, ap, ◌∙◌, subst, ap₂, true≢false, mul_comm, pow-suc, div-one}
 use Rattle.std.proofs.Common.{arith, length-take-le, get_or-take, ext_get_or, ne_eqb, le-leb}
 use native.Mathlib.Nat.{div-div-eq-div-mul}
 use native.Mathlib.Decide.{ℕ_discrete}
+use Rattle.std.proofs.lemmas.List.{get_or-replicate}
 use Rattle.table.proofs.Tests.{and_no}
 use Rattle.table.specs.Bytes.{functions, nodes}
 use Rattle.table.specs.Find.{one}
 use Rattle.table.specs.Expressions.{body_of}
 use Rattle.table.specs.Working.{IsFunction}
 use Rattle.table.proofs.Passed.{passed}
+use Rattle.list.specs.declared.kept.Kept.{Kept}
 use Rattle.list.specs.Arbiters.{Test, reached_in, listed_in}
 use Rattle.list.specs.Tags.{tagged, reached, listed, bits_from, bytes_from, tag_length, tags_of, bits_set}
 use Rattle.list.specs.Records.{records_of}
 use Rattle.table.specs.Working.{Taken}
-use Rattle.list.specs.Working.{bit_at, packed, site_bit, Bit, calls_by, called_in, conflicts_at, Seen, Memo}
+use Rattle.list.specs.Working.{bit_at, packed, row, Bit, Callee, calls_by, called_in, conflicts_at, Seen, Memo}
 use Rattle.list.proofs.BitLaws.{tagged_bit, zeros_at}
 use Rattle.list.proofs.WordLaws.{none_packed}
 use Rattle.list.proofs.ArbiterFacts.{and_both, any_out}
@@ -25,18 +27,27 @@ use Rattle.list.proofs.Totals.{total_whole}
 
 module _ (t : List ℕ) where
   -- before the first walk
-  pub memo_none : Memo t (replicate 33 0) (replicate 520 0)
+  pub memo_none : Memo t (record {
+    conflicts = replicate 8 0;
+    calls = replicate 33 (replicate 8 0);
+    sites = replicate 33 (replicate 8 0);
+    called = replicate 33 0;
+  })
   memo_none = record {
+    size_calls = refl;
+    size_sites = refl;
     size_called = refl;
-    size_rows = refl;
     sets = λ g m i s b. absurd (s (zeros_at 33 g));
     sited = λ g m i s b e. absurd (s (zeros_at 33 g));
     masks = λ g h i s b. absurd (s (zeros_at 33 g));
     closed = λ g h i s b e. absurd (s (zeros_at 33 g));
     whole = λ g m i s b e. absurd (s (zeros_at 33 g));
-    sound = λ m b e. absurd (true≢false (sym e ∙ none_packed 520 m));
-    sites = λ h m i b e. absurd (true≢false (sym e ∙ none_packed 520 (site_bit h m)));
+    sound = λ m b e. absurd (true≢false (sym e ∙ none_packed 8 m));
+    sites = λ h m i b e. absurd (true≢false (sym e ∙ no_row h m i));
   }
+    where
+      no_row : (h m : ℕ) → Callee h → row (replicate 33 (replicate 8 0)) h m ≡ false
+      no_row h m i = ap (λ (x : List ℕ). packed x m) (get_or-replicate 33 h (replicate 8 0) [] (omega (arith, i.1))) ∙ none_packed 8 m
 
   -- what the walk of main's body asks for
   pub main_there : Taken t → (f : ℕ) → f ≡ functions t → Taken t × IsFunction t f × (reached t f ≡ true)
@@ -47,10 +58,10 @@ module _ (t : List ℕ) where
   )
 
   -- after main's
-  module _ (called rows : List ℕ) (k : Memo t called rows) (ok : Taken t) (F : ℕ) (is : F ≡ functions t)
-      (main : Seen called F) where
+  module _ (kept : Kept) (k : Memo t kept) (ok : Taken t) (F : ℕ) (is : F ≡ functions t)
+      (main : Seen kept F) where
     -- what main reaches has been walked
-    reached_seen : (f : ℕ) → IsFunction t f → reached t f ≡ true → Seen called f
+    reached_seen : (f : ℕ) → IsFunction t f → reached t f ≡ true → Seen kept f
     unfolding reached reached_in called_in calls_by
     reached_seen f i e = go (ℕ_discrete f F)
       where
@@ -62,14 +73,14 @@ module _ (t : List ℕ) where
         inside d = other (eqb f F) (called_in t (calls_by t F) f) (ne_eqb f F d)
             (subst (λ x. eqb f x || called_in t (calls_by t x) f ≡ true) (sym is) e)
 
-        go : Dec (f ≡ F) → Seen called f
-        go (yes d) = subst (Seen called) (sym d) main
+        go : Dec (f ≡ F) → Seen kept f
+        go (yes d) = subst (Seen kept) (sym d) main
         go (no d) = k.closed F f (main_there ok F is).1 main
             (i.0, omega (arith, i.1, (passed t (functions t) (nodes t) ok).0.f_high, is, d)) (inside d)
 
-    pub found_list : (m : ℕ) → Bit m → packed rows m ≡ listed t m
+    pub found_list : (m : ℕ) → Bit m → packed kept.conflicts m ≡ listed t m
     unfolding listed listed_in reached conflicts_at calls_by
-    found_list m b = by_true (packed rows m) (listed t m) (k.sound m b)
+    found_list m b = by_true (packed kept.conflicts m) (listed t m) (k.sound m b)
         (λ e. let r = any_out (functions t) (λ f. reached t f && conflicts_at t (body_of t f) m) e in
         let p = and_both (reached t r.0) (conflicts_at t (body_of t r.0) m) r.3 in
         k.whole r.0 m (r.1, r.2) (reached_seen r.0 (r.1, r.2) p.0) b p.1)

@@ -1,14 +1,13 @@
 -- sets added one after the other, and the sites of the functions that a mask names, function by function
-use Rattle.std.proofs.Common.{◌≡◌, ℕ, zero, suc, ◌+◌, ◌-◌, ◌*◌, ◌/◌, ◌%◌, ◌^◌, ◌<◌, ◌≤◌, Bool, true, false, ◌&&◌, ◌||◌, eqb, List, length}
-use Rattle.std.proofs.Common.{get_or, replicate, sym, refl, ap, ◌∙◌, ap₂, pow-suc, add-one, arith, eq-eqb, ne_eqb}
-use native.Mathlib.Nat.{div-eq_of_lt, div-div-eq-div-mul}
-use native.Mathlib.Decide.{dec_lt}
+use Rattle.std.proofs.Common.{◌≡◌, ℕ, zero, suc, ◌+◌, ◌-◌, ◌/◌, ◌%◌, ◌^◌, ◌<◌, ◌≤◌, Bool, true, false, ◌&&◌, ◌||◌, List, length}
+use Rattle.std.proofs.Common.{get_or, replicate, sym, refl, ap, ◌∙◌, ap₂, arith, eq-eqb, ne_eqb}
 use lib.Bits.{bit_or, bit_and}
 use Rattle.table.proofs.Tests.{and_no}
 use Rattle.list.specs.Arbiters.{Test, any_up_to}
-use Rattle.list.specs.Working.{bit_at, packed, Bit, site_bit, Adds, union_of, shared_of, MetBy}
-use Rattle.list.proofs.BitLaws.{or_bit, and_bit, small_bit, high_bit}
-use Rattle.list.proofs.WordLaws.{none_packed, packed_bit, packed_row, by_words, word_of}
+use Rattle.list.specs.declared.kept.Kept.{Kept}
+use Rattle.list.specs.Working.{bit_at, packed, row, Bit, Adds, union_of, shared_of, MetBy}
+use Rattle.list.proofs.BitLaws.{low_bit, or_bit, and_bit, small_bit}
+use Rattle.list.proofs.WordLaws.{none_packed, packed_bit, by_words, word_of}
 use Rattle.list.proofs.Entrywise.{Upto}
 
 pub or_no : (p : Bool) → p || false ≡ p
@@ -44,143 +43,70 @@ unfolding any_up_to
 none_of zero p f = refl
 none_of (suc k) p f = ap₂ (λ a b. a || b) (f (suc k) (omega arith)) (none_of k p f)
 
--- the sites of the functions up to h are united, and the mask has `left` of it above them; set k of the rows is that of h
-pub record Unites (rows : List ℕ) (mask k left : ℕ) (all : List ℕ) : Type 0 where
-  pub h : ℕ
-  pub at : k ≡ 32 + h
-  pub few : h ≤ 31
-  pub rest : left ≡ mask / 2 ^ (h + 1)
-  pub size : length all ≡ 8
-  pub bits : (m : ℕ) → Bit m → packed all m ≡ union_of rows mask h m
+-- the sites of the functions that a mask names, function by function: those below h are united
+module _ (sites : List (List ℕ)) (mask : ℕ) where
+  abbrev pub United : (h : ℕ) (all : List ℕ) → Type 0
+  United h all = (m : ℕ) → Bit m → packed all m ≡ union_of sites mask (h - 1) m
 
-module _ (rows : List ℕ) (mask : ℕ) where
-  union_next : (h m : ℕ) → union_of rows mask (h + 1) m ≡ (bit_at mask (h + 1) && packed rows (site_bit (h + 1) m))
-      || union_of rows mask h m
+  union_next : (h m : ℕ) → 1 ≤ h → union_of sites mask (h + 1 - 1) m ≡ (bit_at mask h && row sites h m) || union_of sites mask (h - 1) m
   unfolding union_of any_up_to
-  union_next h m = rw add-one refl
-
-  pub unites_none : Unites rows mask 32 (mask / 2) (replicate 8 0)
-  unites_none = record { h = 0; at = refl; few = omega arith; rest = refl; size = refl; bits = λ m b. none_packed 8 m ∙ sym (zero_union m) }
+  union_next zero m l = absurd (omega arith)
+  union_next (suc h) m l =
+      ap (λ k. any_up_to k (λ h. bit_at mask h && row sites h m)) (up h)
+      ∙ ap (λ k. (bit_at mask (suc h) && row sites (suc h) m) || any_up_to k (λ h. bit_at mask h && row sites h m)) (back h)
     where
-      zero_union : (m : ℕ) → union_of rows mask 0 m ≡ false
-      zero_union = unfold union_of any_up_to in (λ m. refl)
+      up : (h : ℕ) → suc h + 1 - 1 ≡ suc h
+      up h = omega arith
 
-  module _ (k left : ℕ) (all : List ℕ) (u : Unites rows mask k left all) where
-    -- where something is left there is a function more
-    pub unites_room : mask < 4294967296 → 0 < left → u.h + 1 ≤ 31
-    unites_room l p = go (dec_lt u.h 31)
-      where
-        go : Dec (u.h < 31) → u.h + 1 ≤ 31
-        go (yes d) = omega (arith, d)
-        go (no d) = absurd (omega (arith, p, gone))
-          where
-            top : u.h ≡ 31
-            top = omega (arith, d, u.few)
+      back : (h : ℕ) → h ≡ suc h - 1
+      back h = omega arith
 
-            gone : left ≡ 0
-            gone = u.rest ∙ ap (λ j. mask / 2 ^ (j + 1)) top ∙ div-eq_of_lt l
+  pub united_none : United 1 (replicate 8 0)
+  unfolding union_of any_up_to
+  united_none m b = none_packed 8 m
 
-    half : left / 2 ≡ mask / 2 ^ (u.h + 1 + 1)
-    half = ap (λ x. x / 2) u.rest ∙ div-div-eq-div-mul mask (2 ^ (u.h + 1)) 2 ∙ ap (λ x. mask / x) (double (u.h + 1))
-      where
-        double : (j : ℕ) → 2 ^ j * 2 ≡ 2 ^ (j + 1)
-        double j = rw add-one (sym (pow-suc 2 j))
+  module _ (h : ℕ) (all : List ℕ) (low : 1 ≤ h) (u : United h all) where
+    -- a function that is named, and one that is not
+    pub united_more : (all' : List ℕ) → bit_and (mask / 2 ^ h) 1 ≡ 1 → Adds (row sites h) all all' → United (h + 1) all'
+    united_more all' e a m b =
+        a.bits m b ∙ ap (λ p. p || row sites h m) (u m b) ∙ or_swap (union_of sites mask (h - 1) m) (row sites h m)
+        ∙ sym (union_next h m low ∙ ap (λ p. (p && row sites h m) || union_of sites mask (h - 1) m)
+        (eq-eqb (mask / 2 ^ h % 2) 1 (sym (low_bit (mask / 2 ^ h)) ∙ e)))
 
-    named : (b : Bool) → eqb (left % 2) 1 ≡ b → bit_at mask (u.h + 1) ≡ b
-    named b e = ap (λ x. eqb (x % 2) 1) (sym u.rest) ∙ e
-
-    next_at : k + 1 ≡ 32 + (u.h + 1)
-    next_at = omega (arith, u.at)
-
-    -- a function that is named
-    pub unites_more : (all' : List ℕ) → u.h + 1 ≤ 31 → left % 2 ≡ 1 → Adds (λ m. packed rows (512 * (k + 1) + m)) all all'
-        → Unites rows mask (k + 1) (left / 2) all'
-    unites_more all' l e a = record {
-      h = u.h + 1;
-      at = next_at;
-      few = l;
-      rest = half;
-      size = a.size;
-      bits = λ m b. a.bits m b ∙ ap₂ (λ p q. p || packed rows (512 * q + m)) (u.bits m b) next_at
-          ∙ or_swap (union_of rows mask u.h m) (packed rows (site_bit (u.h + 1) m))
-          ∙ sym (union_next u.h m
-          ∙ ap (λ p. (p && packed rows (site_bit (u.h + 1) m)) || union_of rows mask u.h m) (named true (eq-eqb (left % 2) 1 e)));
-    }
-
-    -- and one that is not
-    pub unites_skip : u.h + 1 ≤ 31 → (left % 2 ≡ 1 → ⊥) → Unites rows mask (k + 1) (left / 2) all
-    unites_skip l e = record {
-      h = u.h + 1;
-      at = next_at;
-      few = l;
-      rest = half;
-      size = u.size;
-      bits = λ m b. u.bits m b
-          ∙ sym (union_next u.h m
-          ∙ ap (λ p. (p && packed rows (site_bit (u.h + 1) m)) || union_of rows mask u.h m) (named false (ne_eqb (left % 2) 1 e)));
-    }
-
-    union_rest : (h d m : ℕ) → mask / 2 ^ h < 2 → union_of rows mask (h + d) m ≡ union_of rows mask h m
-    union_rest h zero m l = ap (λ j. union_of rows mask j m) (same h)
-      where
-        same : (h : ℕ) → h + 0 ≡ h
-        same h = omega arith
-    union_rest h (suc d) m l =
-        ap (λ j. union_of rows mask j m) (next h d) ∙ union_next (h + d) m
-        ∙ ap (λ p. (p && packed rows (site_bit (h + d + 1) m)) || union_of rows mask (h + d) m)
-        (high_bit mask h (h + d + 1) l (omega arith))
-        ∙ union_rest h d m l
-      where
-        next : (h d : ℕ) → h + suc d ≡ h + d + 1
-        next h d = omega arith
-
-    -- where nothing is left
-    pub unites_all : left ≡ 0 → (m : ℕ) → Bit m → packed all m ≡ union_of rows mask 31 m
-    unites_all e m b =
-        u.bits m b ∙ sym (union_rest u.h (31 - u.h) m low) ∙ ap (λ j. union_of rows mask j m) (up u.h u.few)
-      where
-        up : (h : ℕ) → h ≤ 31 → h + (31 - h) ≡ 31
-        up h l = omega arith
-
-        low : mask / 2 ^ u.h < 2
-        low = small (mask / 2 ^ u.h)
-            (div-div-eq-div-mul mask (2 ^ u.h) 2 ∙ ap (λ x. mask / x) (rw add-one (sym (pow-suc 2 u.h))) ∙ sym u.rest ∙ e)
-          where
-            small : (x : ℕ) → x / 2 ≡ 0 → x < 2
-            small x e = omega arith
+    pub united_skip : (bit_and (mask / 2 ^ h) 1 ≡ 1 → ⊥) → United (h + 1) all
+    united_skip d m b =
+        u m b ∙ sym (union_next h m low ∙ ap (λ p. (p && row sites h m) || union_of sites mask (h - 1) m)
+        (ne_eqb (mask / 2 ^ h % 2) 1 (λ q. d (low_bit (mask / 2 ^ h) ∙ q))))
 
 -- where no function is called twice
-pub met_none : (set rows : List ℕ) (once twice : ℕ) → length rows ≡ 520 → twice < 2 → (once ≡ twice → ⊥) → MetBy set once twice rows rows
-met_none set rows once twice l e z = record {
-  size = l;
-  bits = λ m b. sym (ap (λ p. packed rows m || p) (ap (λ p. packed set m && p) (none m) ∙ and_no (packed set m)) ∙ or_no (packed rows m));
-  other = λ h m i b. refl;
+pub met_none : (set : List ℕ) (kept : Kept) (once twice : ℕ) → twice < 2 → (once ≡ twice → ⊥) → MetBy set once twice kept kept
+met_none set kept once twice e z = record {
+  bits = λ m b. sym
+      (ap (λ p. packed kept.conflicts m || p) (ap (λ p. packed set m && p) (none m) ∙ and_no (packed set m))
+      ∙ or_no (packed kept.conflicts m));
+  others = refl;
 }
   where
-    none : (m : ℕ) → shared_of set rows once twice m ≡ false
-    none = unfold shared_of union_of in (λ m. rw (ne_eqb once twice z) (none_of 31 (λ h. bit_at twice h && packed rows (site_bit h m))
-        (λ h i. ap (λ p. p && packed rows (site_bit h m)) (small_bit twice h e i))))
+    none : (m : ℕ) → shared_of set kept.sites once twice m ≡ false
+    none = unfold shared_of union_of in (λ m. rw (ne_eqb once twice z) (none_of 31 (λ h. bit_at twice h && row kept.sites h m)
+        (λ h i. ap (λ p. p && row kept.sites h m) (small_bit twice h e i))))
 
 -- where all are, and where only some are
-pub shared_all : (set rows : List ℕ) (once twice : ℕ) → once ≡ twice → (m : ℕ) → packed set m ≡ shared_of set rows once twice m
-unfolding shared_of
-shared_all set rows once twice e m = rw (eq-eqb once twice e)
+module _ (set : List ℕ) (sites : List (List ℕ)) (once twice m : ℕ) where
+  pub shared_all : once ≡ twice → packed set m ≡ shared_of set sites once twice m
+  unfolding shared_of
+  shared_all e = rw (eq-eqb once twice e)
 
-pub shared_some : (set rows : List ℕ) (once twice : ℕ) → (once ≡ twice → ⊥) → (m : ℕ)
-    → union_of rows twice 31 m ≡ shared_of set rows once twice m
-unfolding shared_of
-shared_some set rows once twice e m = rw (ne_eqb once twice e)
+  pub shared_some : (once ≡ twice → ⊥) → union_of sites twice 31 m ≡ shared_of set sites once twice m
+  unfolding shared_of
+  shared_some e = rw (ne_eqb once twice e)
 
--- the words of set 0 written one after the other
-pub met_by : (set all rows rows' : List ℕ) (once twice : ℕ) → length rows' ≡ 520
-    → Upto (λ j. bit_or (get_or rows j 0) (bit_and (get_or set j 0) (get_or all j 0))) rows rows' 8
-    → ((m : ℕ) → Bit m → packed all m ≡ shared_of set rows once twice m) → MetBy set once twice rows rows'
-met_by set all rows rows' once twice l u e = record {
-  size = l;
-  bits = λ m b. by_words rows' (λ j. bit_or (get_or rows j 0) (bit_and (get_or set j 0) (get_or all j 0))) 8 u.done m (word_of m b)
-      ∙ or_bit (get_or rows ((m - 1) / 64) 0) (bit_and (get_or set ((m - 1) / 64) 0) (get_or all ((m - 1) / 64) 0)) ((m - 1) % 64)
-      ∙ ap₂ (λ p q. p || q) (sym (packed_bit rows m)) (and_bit (get_or set ((m - 1) / 64) 0) (get_or all ((m - 1) / 64) 0) ((m - 1) % 64)
-      ∙ ap₂ (λ p q. p && q) (sym (packed_bit set m)) (sym (packed_bit all m) ∙ e m b));
-  other = λ h m i b. packed_row rows' h m b.0
-      ∙ ap (λ x. bit_at x ((m - 1) % 64)) (u.left (8 * h + (m - 1) / 64) (omega (arith, i))) ∙ sym (packed_row rows h m b.0);
-}
+-- the words of the conflicts written one after the other
+pub met_bits : (set all x x' : List ℕ) (s : Test)
+    → Upto (λ j. bit_or (get_or x j 0) (bit_and (get_or set j 0) (get_or all j 0))) x x' 8
+    → ((m : ℕ) → Bit m → packed all m ≡ s m) → (m : ℕ) → Bit m → packed x' m ≡ packed x m || (packed set m && s m)
+met_bits set all x x' s u e m b =
+    by_words x' (λ j. bit_or (get_or x j 0) (bit_and (get_or set j 0) (get_or all j 0))) 8 u.done m (word_of m b)
+    ∙ or_bit (get_or x ((m - 1) / 64) 0) (bit_and (get_or set ((m - 1) / 64) 0) (get_or all ((m - 1) / 64) 0)) ((m - 1) % 64)
+    ∙ ap₂ (λ p q. p || q) (sym (packed_bit x m)) (and_bit (get_or set ((m - 1) / 64) 0) (get_or all ((m - 1) / 64) 0) ((m - 1) % 64)
+    ∙ ap₂ (λ p q. p && q) (sym (packed_bit set m)) (sym (packed_bit all m) ∙ e m b))

@@ -7,10 +7,11 @@ use Rattle.table.specs.Syntax.{Exprs, none, some}
 use Rattle.table.specs.Bytes.{nodes, kind, word}
 use Rattle.table.specs.Naming.{owner}
 use Rattle.table.specs.Working.{IsNode}
+use Rattle.list.specs.declared.kept.Kept.{Kept}
 use Rattle.list.specs.Arbiters.{Test, no_calls, joined, any_up_to, calls_in, meeting, parallel}
 use Rattle.list.specs.Tags.{is_call, callee_of}
 use Rattle.list.specs.Working.{bit_at, Bit, Callee, calls_by, calls_at, calls_at*, parallel_at, called_in, twice_in}
-use Rattle.list.specs.Working.{packed, site_bit, union_of, shared_of, Met}
+use Rattle.list.specs.Working.{packed, row, union_of, shared_of, Met}
 use Rattle.list.proofs.Meets.{or_no, none_of, shared_all, shared_some}
 use Rattle.list.proofs.CallLaws.{or_left, or_right}
 use Rattle.list.proofs.ArbiterFacts.{any_out, any_in, and_both, both_and}
@@ -171,24 +172,27 @@ module _ (t : List ℕ) where
         none_there = unfold no_calls in (λ m. refl)
 
     -- what the code computes: the set against the sites of the functions called twice, or all of it where each function called is
-    pub meet_parallel : (es : Exprs) (own rows : List ℕ) (once twice : ℕ) → Bit m
-        → ((k : ℕ) → Callee k → packed rows (site_bit k m) ≡ true → h ≡ k)
-        → (calls_at* t es m ≡ true → Range (nodes t) m) → (calls_at* t es m ≡ true → Met t rows m) → packed own m ≡ calls_at* t es m
+    pub meet_parallel : (es : Exprs) (own : List ℕ) (kept : Kept) (once twice : ℕ) → Bit m
+        → ((k : ℕ) → Callee k → row kept.sites k m ≡ true → h ≡ k)
+        → (calls_at* t es m ≡ true → Range (nodes t) m) → (calls_at* t es m ≡ true → Met t kept m) → packed own m ≡ calls_at* t es m
         → ((k : ℕ) → Callee k → bit_at once k ≡ called_in t (calls_at* t es) k) → ((k : ℕ) → Callee k → bit_at twice k ≡ twice_in t es k)
-        → packed own m && shared_of own rows once twice m ≡ parallel_at t es m
+        → packed own m && shared_of own kept.sites once twice m ≡ parallel_at t es m
     unfolding union_of
-    meet_parallel es own rows once twice b sites r met e v w =
+    meet_parallel es own kept once twice b sited r met e v w =
         go (calls_at* t es m) refl (ℕ_discrete once twice) ∙ sym (parallel_is es r)
       where
-        each : Test
-        each k = bit_at twice k && packed rows (site_bit k m)
+        sites : List (List ℕ)
+        sites = kept.sites
 
-        found : Met t rows m → any_up_to 31 each ≡ twice_in t es h
+        each : Test
+        each k = bit_at twice k && row sites k m
+
+        found : Met t kept m → any_up_to 31 each ≡ twice_in t es h
         found c = by_true (any_up_to 31 each) (twice_in t es h)
             (λ x. let y = any_out 31 each x in
-            let z = and_both (bit_at twice y.0) (packed rows (site_bit y.0 m)) y.3 in
-            ap (twice_in t es) (sites y.0 (y.1, y.2) z.1) ∙ sym (w y.0 (y.1, y.2)) ∙ z.0)
-            (λ x. any_in 31 each h c.0.0 c.0.1 (both_and (bit_at twice h) (packed rows (site_bit h m)) (w h c.0 ∙ x) c.1))
+            let z = and_both (bit_at twice y.0) (row sites y.0 m) y.3 in
+            ap (twice_in t es) (sited y.0 (y.1, y.2) z.1) ∙ sym (w y.0 (y.1, y.2)) ∙ z.0)
+            (λ x. any_in 31 each h c.0.0 c.0.1 (both_and (bit_at twice h) (row sites h m) (w h c.0 ∙ x) c.1))
 
         all_twice : once ≡ twice → calls_at* t es m ≡ true → twice_in t es h ≡ true
         all_twice d q =
@@ -196,8 +200,8 @@ module _ (t : List ℕ) where
             sym (w h c) ∙ ap (λ x. bit_at x h) (sym d) ∙ v h c ∙ member (calls_at* t es) m (r q) q
 
         go : (a : Bool) → calls_at* t es m ≡ a → Dec (once ≡ twice)
-            → packed own m && shared_of own rows once twice m ≡ calls_at* t es m && twice_in t es h
+            → packed own m && shared_of own sites once twice m ≡ calls_at* t es m && twice_in t es h
         go true q (yes d) =
-            ap₂ (λ x y. x && y) e (sym (shared_all own rows once twice d m) ∙ e ∙ q ∙ sym (all_twice d q))
-        go true q (no d) = ap₂ (λ x y. x && y) e (sym (shared_some own rows once twice d m) ∙ found (met q))
-        go false q d = ap (λ x. x && shared_of own rows once twice m) (e ∙ q) ∙ sym (ap (λ x. x && twice_in t es h) q)
+            ap₂ (λ x y. x && y) e (sym (shared_all own sites once twice m d) ∙ e ∙ q ∙ sym (all_twice d q))
+        go true q (no d) = ap₂ (λ x y. x && y) e (sym (shared_some own sites once twice m d) ∙ found (met q))
+        go false q d = ap (λ x. x && shared_of own sites once twice m) (e ∙ q) ∙ sym (ap (λ x. x && twice_in t es h) q)

@@ -7,7 +7,7 @@ use native.Mathlib.Nat.{div-div-eq-div-mul}
 use lib.Arith.{lt→nleb}
 use lib.ListN.{get_or-eq_default}
 use Rattle.table.specs.Pick.{pick, Range}
-use Rattle.table.proofs.Tests.{T_true, true_T}
+use Rattle.table.proofs.Tests.{T_true, true_t}
 use Rattle.list.specs.Arbiters.{Test}
 use Rattle.table.specs.Bytes.{functions, nodes, word}
 use Rattle.table.specs.Find.{one, lowest}
@@ -139,7 +139,7 @@ module _ (t : List ℕ) (F N : ℕ) (check : check_of t ≡ accepted F N) where
         (passes_lowest (tag_fits t tags) (nodes t) (λ n a b. fits (tagged tags n) (is_call t n) (o.calls n (a, b))))
       where
         fits : (b c : Bool) → (b ≡ true → c ≡ true) → T (not b || c)
-        fits true c f = true_T c (f refl)
+        fits true c f = true_t c (f refl)
         fits false c f = tt
 
     pub goes_order : (F' N' : ℕ) → check_with t tags ≡ accepted F' N' → InOrder t tags

@@ -1,13 +1,14 @@
--- the loops over a tag list: whether a bit past the last node is set, the lowest node whose tag does not fit, a copy, and the total
-use Rattle.std.proofs.Common.{◌≡◌, ℕ, zero, suc, ◌+◌, ◌-◌, ◌/◌, ◌%◌, ◌^◌, ◌<◌, Bool, true, eqb, List, [], ◌∷◌, ◌++◌, length, get_or, take}
-use Rattle.std.proofs.Common.{drop, set, sym, refl, ap, ◌∙◌, append-nil, le_of_suc-le-suc, not-suc-le-zero, add-one, arith}
+-- the loops over a tag list: whether a bit past the last node is set, the lowest node whose tag does not fit, and the total
+use Rattle.std.proofs.Common.{◌≡◌, ℕ, zero, suc, ◌+◌, ◌-◌, ◌/◌, ◌%◌, ◌^◌, ◌<◌, ◌≤◌, Bool, true, false, eqb, Option}
+use Rattle.std.proofs.Common.{None, Some, List, [], ◌∷◌, length, get_or, take}
+use Rattle.std.proofs.Common.{sym, refl, ap, ◌∙◌, le_of_suc-le-suc, not-suc-le-zero, add-one, arith}
 use native.Mathlib.Nat.{mod-add-mod}
 use lib.Count.{ones}
-use Rattle.table.proofs.Copied as copied
+use Rattle.table.specs.declared.Node.{Node}
 use Rattle.table.specs.Find.{lowest, all}
+use Rattle.table.proofs.Loops.{lowest_more, lowest_found}
 use Rattle.list.specs.Arbiters.{Test}
-use Rattle.list.specs.Tags.{tagged, bits_set}
-use Rattle.list.proofs.BitLaws.{tagged_bit}
+use Rattle.list.specs.Tags.{found, tagged, bits_set}
 
 -- none of 0 fails
 pub all_none : (p : Test) → all p 0 ≡ true
@@ -18,17 +19,33 @@ pub lowest_none : (p : Test) → lowest p 0 ≡ 0
 unfolding lowest
 lowest_none p = refl
 
--- a loop that writes the list l over d from the front
-pub copied_more : (i : ℕ) (l d e : List ℕ) → i < length l → i < length d → e ≡ take i l ++ drop i d
-    → set e i (get_or l i 0) ≡ take (i + 1) l ++ drop (i + 1) d
-copied_more i l d e p q h = copied.copied_more 0 _ i l d e p q h refl
+-- a search among the numbers up to m that has come to n: the node is found there, or the search goes on; or it has passed all
+module _ (p : Test) (n m : ℕ) (low : 1 ≤ n) (h : lowest p (n - 1) ≡ 0) where
+  back : n - 1 + 1 ≡ n
+  back = omega arith
 
-pub copied_all : (l d e : List ℕ) (i : ℕ) → i ≡ length d → e ≡ take i l ++ drop i d → e ≡ take (length d) l
-copied_all l d e i p h = h ∙ ap (λ k. take k l ++ drop k d) p ∙ ap (λ r. take (length d) l ++ r) (none d) ∙ append-nil (take (length d) l)
-  where
-    none : (d : List ℕ) → drop (length d) d ≡ []
-    none [] = refl
-    none (x ∷ d) = none d
+  pub found_here : n ≤ m → p n ≡ false → Some (record { 0 = n }) ≡ found (lowest p m)
+  found_here l e =
+      some n low ∙ ap found (sym (lowest_found p (n - 1) m h (ap p back ∙ e) (omega arith) ∙ back))
+    where
+      some : (n : ℕ) → 1 ≤ n → ◌≡◌ {A = Option Node} (Some (record { 0 = n })) (found n)
+      some zero l = absurd (omega arith)
+      some (suc n) l = refl
+
+  pub passed_here : p n ≡ true → lowest p (n + 1 - 1) ≡ 0
+  passed_here e = ap (lowest p) (omega arith) ∙ lowest_more p (n - 1) h (ap p back ∙ e)
+
+-- what was found is the number, which is not 0; nothing was found where it is 0
+pub found_is : (m : ℕ) (n : Node) → Some n ≡ found m → (n.0 ≡ m) × (m ≡ 0 → ⊥)
+found_is zero n e = absurd (let z : ◌≡◌ {A = ℕ} 0 1 = cc in omega arith)
+found_is (suc m) n e = let q : n ≡ record { 0 = suc m } = cc in (ap (λ x. x.0) q, λ z. omega (arith, z))
+
+pub found_not : (m : ℕ) → None ≡ found m → m ≡ 0
+found_not zero e = refl
+found_not (suc m) e = absurd (let z : ◌≡◌ {A = ℕ} 0 1 = cc in omega arith)
+
+pub found_none : (p : Test) (m : ℕ) → lowest p m ≡ 0 → None ≡ found (lowest p m)
+found_none p m e = ap found (sym e)
 
 -- the total, byte by byte
 pub total_none : (s : List ℕ) → bits_set (take 0 s) ≡ 0
@@ -54,7 +71,7 @@ total_more s i h = rw add-one (total_suc s i h)
 pub wrap_more : (a b m : ℕ) → (a % m + b) % m ≡ (a + b) % m
 wrap_more a b m = mod-add-mod a m b
 
--- bit n + i - 1 is the tag of node n + i
-pub bit_is : (tags : List ℕ) (n i : ℕ) (b : Bool)
-    → b ≡ eqb (get_or tags ((n + (i + 1) - 1) / 8) 0 / 2 ^ ((n + (i + 1) - 1) % 8) % 2) 1 → b ≡ tagged tags (n + (i + 1))
-bit_is tags n i b e = e ∙ sym (tagged_bit tags (n + (i + 1)) (omega arith))
+-- bit i is the tag of node i + 1
+pub bit_is : (tags : List ℕ) (n i : ℕ) (b : Bool) → n ≡ suc i → b ≡ eqb (get_or tags (i / 8) 0 / 2 ^ (i % 8) % 2) 1 → b ≡ tagged tags n
+unfolding tagged
+bit_is tags n i b e f = f ∙ ap (tagged tags) (sym e)

@@ -1,6 +1,6 @@
 -- refusal 10, case by case, and what a lent tag list holds then
 use Rattle.std.proofs.Common.{◌≡◌, ℕ, zero, suc, ◌+◌, ◌-◌, ◌*◌, ◌/◌, ◌<◌, Bool, true, false, not, ◌&&◌, ◌||◌, eqb, List, length, get_or}
-use Rattle.std.proofs.Common.{take, sym, refl, ap, ◌∙◌, subst, ap₂, arith, get_or-take, eq-eqb, ne_eqb}
+use Rattle.std.proofs.Common.{take, sym, refl, ap, ◌∙◌, ap₂, arith, eq-eqb, ne_eqb}
 use Rattle.table.specs.Bytes.{functions, nodes, kind, word}
 use Rattle.table.specs.Naming.{owner}
 use Rattle.table.specs.Decoded.{cell_at, node_slot, table_slot}
@@ -15,7 +15,7 @@ use Rattle.list.specs.Tags.{filled_tags}
 use Rattle.table.specs.Working.{IsNode, Taken, Read}
 use Rattle.table.proofs.LowestLaws.{lowest_same}
 use Rattle.list.specs.Working.{Bit}
-use Rattle.list.proofs.ListLaws.{tags_are}
+use Rattle.list.proofs.ListLaws.{tags_are, tags_short}
 
 module _ (cells tags : List ℕ) where
   abbrev N : ℕ
@@ -95,18 +95,14 @@ pub at_check : (t tags : List ℕ) (number place : ℕ) → refused number place
 unfolding check_with after
 at_check t tags number place e = ap (λ v. after v (λ _. tags_refusal t tags)) e
 
--- a lent tag list
-pub record Filled (t old new : List ℕ) (v : Verdict) : Type 0 where
-  pub verdict : v ≡ fill_verdict t (length old)
-  pub tags : new ≡ filled_tags t old
+-- a lent tag list: the table is refused, or the list's length
+pub filled_refused : (t old : List ℕ) (v : Verdict) (k p : ℕ) → v ≡ fill_verdict t (length old) → v ≡ refused k p → old ≡ filled_tags t old
+unfolding filled_tags
+filled_refused t old v k p e q = sym (ap (λ v. if_accepted v (tags_of t) old) (sym e ∙ q))
 
-pub fill_refused : (t old : List ℕ) (number place : ℕ) → refused number place ≡ check_of t → Filled t old old (refused number place)
-unfolding fill_verdict filled_tags after
-fill_refused t old number place e = record {
-  verdict = ap (λ v. after v (λ _. stage 10 (eqb (length old) (tag_length t)) 0 (λ _. accepted (functions t) (nodes t)))) e;
-  tags = ap (λ v. if_accepted (after v (λ _. stage 10 (eqb (length old) (tag_length t)) 0 (λ _. accepted (functions t) (nodes t))))
-      (tags_of t) old) e;
-}
+pub fill_turned : (t : List ℕ) (len number place : ℕ) → refused number place ≡ check_of t → refused number place ≡ fill_verdict t len
+unfolding fill_verdict after
+fill_turned t len number place e = ap (λ v. after v (λ _. stage 10 (eqb len (tag_length t)) 0 (λ _. accepted (functions t) (nodes t)))) e
 
 module _ (t : List ℕ) (ok : Taken t) where
   by_length : (len : ℕ) (b : Bool) → eqb len (tag_length t) ≡ b
@@ -116,24 +112,23 @@ module _ (t : List ℕ) (ok : Taken t) where
       ap (λ v. after v (λ _. stage 10 (eqb len (tag_length t)) 0 (λ _. accepted (functions t) (nodes t)))) ok
       ∙ ap (λ b. stage 10 b 0 (λ _. accepted (functions t) (nodes t))) e
 
-  pub fill_wrong : (old : List ℕ) (k : ℕ) → k ≡ nodes t → (length old ≡ (k + 7) / 8 → ⊥) → Filled t old old (refused 10 0)
-  unfolding filled_tags stage tag_length
-  fill_wrong old k e h =
-      let q = by_length (length old) false (ne_eqb (length old) (tag_length t) (λ z. h (z ∙ ap (λ n. (n + 7) / 8) (sym e)))) in
-      record { verdict = sym q; tags = sym (ap (λ v. if_accepted v (tags_of t) old) q) }
+  pub fill_wrong : (len k : ℕ) → k ≡ nodes t → (len ≡ (k + 7) / 8 → ⊥) → refused 10 0 ≡ fill_verdict t len
+  unfolding stage tag_length
+  fill_wrong len k e h = sym (by_length len false (ne_eqb len (tag_length t) (λ z. h (z ∙ ap (λ n. (n + 7) / 8) (sym e)))))
 
-  pub fill_right : (old new found : List ℕ) (k F N : ℕ) → k ≡ nodes t → F ≡ functions t → N ≡ nodes t → length old ≡ (k + 7) / 8
-      → length found ≡ 64 → ((i : ℕ) → get_or new i 0 < 256) → ((m : ℕ) → Bit m → tagged found m ≡ listed t m)
-      → new ≡ take (length old) found → Filled t old new (accepted F N)
-  unfolding filled_tags stage tag_length
-  fill_right old new found k F N e f n h size fits is w =
-      let l : length old ≡ tag_length t = h ∙ ap (λ n. (n + 7) / 8) e in
-      let q = by_length (length old) true (eq-eqb (length old) (tag_length t) l) in
-      record {
-        verdict = ap₂ accepted f n ∙ sym q;
-        tags = w ∙ ap (λ j. take j found) l ∙ tags_are t ok found size (bytes l) is ∙ sym (ap (λ v. if_accepted v (tags_of t) old) q);
-      }
-    where
-      bytes : length old ≡ tag_length t → (i : ℕ) → i < tag_length t → get_or found i 0 < 256
-      bytes l i q =
-          subst (λ x. x < 256) (ap (λ (z : List ℕ). get_or z i 0) w ∙ get_or-take (length old) found i 0 (omega (arith, l, q))) (fits i)
+  -- and one that is filled with a set's first bytes
+  module _ (old : List ℕ) (k : ℕ) (e : k ≡ nodes t) (h : length old ≡ (k + 7) / 8) where
+    fits : length old ≡ tag_length t
+    unfolding tag_length
+    fits = h ∙ ap (λ n. (n + 7) / 8) e
+
+    pub fill_right : accepted (functions t) (nodes t) ≡ fill_verdict t (length old)
+    unfolding stage
+    fill_right = sym (by_length (length old) true (eq-eqb (length old) (tag_length t) fits))
+
+    pub filled_right : (new found : List ℕ) → length found ≡ 64 → ((i : ℕ) → i < 64 → get_or found i 0 < 256)
+        → ((m : ℕ) → Bit m → tagged found m ≡ listed t m) → new ≡ take (length old) found → new ≡ filled_tags t old
+    unfolding filled_tags
+    filled_right new found size small is w =
+        w ∙ ap (λ j. take j found) fits ∙ tags_are t ok found size (λ i q. small i (omega (arith, q, tags_short t ok))) is
+        ∙ sym (ap (λ v. if_accepted v (tags_of t) old) (sym fill_right))

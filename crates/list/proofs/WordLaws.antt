@@ -1,13 +1,15 @@
 -- packed sets: words joined, a bit written, a set of the rows written; set k of the rows begins at word 8 k
-use Rattle.std.proofs.Common.{◌≡◌, ℕ, ◌+◌, ◌-◌, ◌*◌, ◌/◌, ◌%◌, ◌^◌, ◌<◌, ◌≤◌, Bool, true, false, ◌&&◌, ◌||◌, eqb, List, length, get_or, set}
+use Rattle.std.proofs.Common.{◌≡◌, ℕ, zero, suc, ◌+◌, ◌-◌, ◌*◌, ◌/◌, ◌%◌, ◌^◌, ◌<◌, ◌≤◌, Bool, true}
+use Rattle.std.proofs.Common.{false, ◌&&◌, ◌||◌, eqb, List, length, get_or, set}
 use Rattle.std.proofs.Common.{replicate, sym, refl, ap, ◌∙◌, ap₂, arith, length-set, get_or-set_other, get_or-set_same, eq-eqb, ne_eqb}
-use native.Mathlib.Decide.{dec_lt, ℕ_discrete}
+use native.Mathlib.Decide.{ℕ_discrete}
+use native.Mathlib.Nat.{div-one}
 use lib.Bits.{bit_or}
+use Rattle.std.specs.Int.{w64, to_le_bytes}
 use Rattle.list.specs.Arbiters.{Test}
-use Rattle.list.specs.Working.{bit_at, packed, Bit, Adds, PutAt, Kept, WordPut}
+use Rattle.list.specs.Working.{bit_at, packed, Bit, Adds, PutAt}
 use Rattle.list.specs.Tags.{tagged}
 use Rattle.list.proofs.BitLaws.{or_bit, pow_bit, zero_bit, zeros_at, tagged_bit, byte_bit}
-use Rattle.list.proofs.Entrywise.{Part}
 
 -- a node's bit is in its word
 pub packed_bit : (l : List ℕ) (m : ℕ) → packed l m ≡ bit_at (get_or l ((m - 1) / 64) 0) ((m - 1) % 64)
@@ -119,42 +121,36 @@ put_row x g n l k b = record { size = length-set x (8 * g + (n - 1) / 64) _ ∙ 
         ap₂ (λ a k. packed (set x a (bit_or (get_or x a 0) (2 ^ k))) (512 * h + m)) (sym (row_word g n b.0)) (sym (row_bit g n b.0))
         ∙ one_more_lem x q low inside (512 * h + m) (omega (arith, c.0)) ∙ ap (λ p. packed x (512 * h + m) || p) (apart g n h m b c)
 
--- a set that was copied into the rows
-pub kept_by_lem : (g : ℕ) (y x₀ x : List ℕ) → length x ≡ 520 → Part (8 * g) (λ j. get_or y j 0) x₀ x 8 → Kept g y x₀ x
-kept_by_lem g y x₀ x l p = record {
-  size = l;
-  same = λ m b. packed_row x g m b.0 ∙ ap (λ z. bit_at z ((m - 1) % 64)) (p.done ((m - 1) / 64) (word_of m b)) ∙ sym (packed_bit y m);
-  other = λ h m e b. packed_row x h m b.0 ∙ ap (λ z. bit_at z ((m - 1) % 64)) (outside h m e b (dec_lt h g))
-      ∙ sym (packed_row x₀ h m b.0);
-}
-  where
-    outside : (h m : ℕ) → (h ≡ g → ⊥) → Bit m → Dec (h < g) → get_or x (8 * h + (m - 1) / 64) 0 ≡ get_or x₀ (8 * h + (m - 1) / 64) 0
-    outside h m e b (yes d) = p.before (8 * h + (m - 1) / 64) (omega (arith, word_of m b))
-    outside h m e b (no d) = p.past (8 * h + (m - 1) / 64) (omega (arith, word_of m b))
-
--- a word whose eight bytes were written into a set
-pub word_put : (i w : ℕ) (x₀ x : List ℕ) → length x ≡ 64 → Part (8 * i) (λ j. w / 2 ^ (8 * j) % 256) x₀ x 8 → WordPut i w x₀ x
-word_put i w x₀ x l p = record { size = l; same = p.done; other = λ j e. outside j e (dec_lt j (8 * i)) }
-  where
-    outside : (j : ℕ) → (j / 8 ≡ i → ⊥) → Dec (j < 8 * i) → get_or x j 0 ≡ get_or x₀ j 0
-    outside j e (yes d) = p.before j d
-    outside j e (no d) = p.past j (omega (arith, e))
+-- the bytes of a word
+pub word_bytes : (x j : ℕ) → j < 8 → get_or (to_le_bytes w64 x) j 0 ≡ x / 2 ^ (8 * j) % 256
+word_bytes x zero h = rw div-one refl
+word_bytes x (suc zero) h = refl
+word_bytes x (suc (suc zero)) h = refl
+word_bytes x (suc (suc (suc zero))) h = refl
+word_bytes x (suc (suc (suc (suc zero)))) h = refl
+word_bytes x (suc (suc (suc (suc (suc zero))))) h = refl
+word_bytes x (suc (suc (suc (suc (suc (suc zero)))))) h = refl
+word_bytes x (suc (suc (suc (suc (suc (suc (suc zero))))))) h = refl
+word_bytes x (suc (suc (suc (suc (suc (suc (suc (suc j)))))))) h = absurd (omega arith)
 
 -- the first i words in bytes, eight of each word, the lowest first
 abbrev pub Bytes : (words x : List ℕ) (i : ℕ) → Type 0
 Bytes words x i = (j : ℕ) → j < 8 * i → get_or x j 0 ≡ get_or words (j / 8) 0 / 2 ^ (8 * (j % 8)) % 256
 
-pub bytes_more : (words x₀ x : List ℕ) (i : ℕ) → Bytes words x₀ i → WordPut i (get_or words i 0) x₀ x → Bytes words x (i + 1)
-bytes_more words x₀ x i b p j h = go (ℕ_discrete (j / 8) i)
+pub bytes_more : (words x₀ x : List ℕ) (i : ℕ) → Bytes words x₀ i
+    → ((j : ℕ) → j < 8 → get_or x (8 * i + j) 0 ≡ get_or (to_le_bytes w64 (get_or words i 0)) j 0)
+    → ((j : ℕ) → j < 8 * i → get_or x j 0 ≡ get_or x₀ j 0) → Bytes words x (i + 1)
+bytes_more words x₀ x i b here before j h = go (ℕ_discrete (j / 8) i)
   where
     place : (j : ℕ) → j ≡ 8 * (j / 8) + j % 8
     place j = omega arith
 
     go : Dec (j / 8 ≡ i) → get_or x j 0 ≡ get_or words (j / 8) 0 / 2 ^ (8 * (j % 8)) % 256
     go (yes e) =
-        ap (λ k. get_or x k 0) (place j ∙ ap (λ k. 8 * k + j % 8) e) ∙ p.same (j % 8) (omega arith)
+        ap (λ k. get_or x k 0) (place j ∙ ap (λ k. 8 * k + j % 8) e) ∙ here (j % 8) (omega arith)
+        ∙ word_bytes (get_or words i 0) (j % 8) (omega arith)
         ∙ ap (λ k. get_or words k 0 / 2 ^ (8 * (j % 8)) % 256) (sym e)
-    go (no e) = p.other j e ∙ b j (omega (arith, e))
+    go (no e) = before j (omega (arith, e)) ∙ b j (omega (arith, e))
 
 pub bytes_of : (words x : List ℕ) → Bytes words x 8 → (m : ℕ) → Bit m → tagged x m ≡ packed words m
 bytes_of words x h m b =

@@ -2,6 +2,12 @@
 -- looks for (document 02, Q-7)
 use Rattle.std.specs.Prelude.{◌≡◌, ℕ, zero, suc, ◌+◌, ◌-◌, ◌*◌, ◌/◌, ◌%◌, ◌^◌, ◌<◌, ◌≤◌, Bool, true, false, not, ◌&&◌, ◌||◌, List, [], ◌∷◌}
 use Rattle.std.specs.Prelude.{length, ◌==◌, count_ones, nat_le, slice_index}
+use Rattle.std.specs.Prelude.{Option, None, Some, Result, Ok, Err, IfOk}
+use Rattle.table.specs.declared.Node.{Node}
+use Rattle.table.specs.declared.Design.{Design}
+use Rattle.table.specs.declared.refusals.Refusal.{Refusal}
+use Rattle.table.specs.Survey.{verdict_of}
+use Rattle.list.specs.declared.Coverage.{Coverage}
 use Rattle.table.specs.Pick.{pick, Range}
 use Rattle.list.specs.Arbiters.{Test, reached_in, listed_in}
 use Rattle.table.specs.Bytes.{functions, nodes, kind, word}
@@ -10,6 +16,16 @@ use Rattle.table.specs.Naming.{owner}
 use Rattle.table.specs.Check.{Verdict, accepted, refused, stage, if_accepted, check_of}
 use Rattle.table.specs.Decoded.{cell_at, node_slot, table_slot}
 use Rattle.table.specs.Expressions.{body_of}
+
+-- the verdict of an answer that tells more than the design
+abbrev pub verdict_by : {A : Type 0} → (A → Design) → Result A Refusal → Verdict
+verdict_by design (Ok a) = verdict_of (Ok (design a))
+verdict_by design (Err r) = verdict_of (Err r)
+
+-- what a search for a node found: its number, or 0 where there is none
+abbrev pub found : ℕ → Option Node
+found zero = None
+found (suc n) = Some (record { 0 = suc n })
 
 -- nodes are counted from 1: node n + 1 is bit n mod 8 of byte n / 8, and 0 has none; past the end every byte reads 0
 unfoldable pub tagged : List ℕ → Test
@@ -124,3 +140,8 @@ pub record Lacks (t tags : List ℕ) (n : ℕ) : Type 0 where
 -- what is told of it beside the check of table and tags: 0 where that refuses
 unfoldable pub missing_with : (t tags : List ℕ) → ℕ
 missing_with t tags = if_accepted (check_with t tags) (missing t tags) 0
+
+-- so told, beside the check of table and tags
+pub record Covered (t tags : List ℕ) (r : Result Coverage Refusal) : Type 0 where
+  pub told : verdict_by (λ c. c.design) r ≡ check_with t tags
+  pub missing : IfOk r (λ c. c.missing ≡ found (missing_with t tags))

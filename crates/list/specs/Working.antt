@@ -1,19 +1,20 @@
 -- what the parts of the walk ask of each other: packed sets (the circuit cites bit_at, packed, Bit, PutAt too), sites, what the walk keeps
-use Rattle.std.specs.Prelude.{◌≡◌, ℕ, zero, suc, ◌+◌, ◌-◌, ◌*◌, ◌/◌, ◌%◌, ◌^◌, ◌<◌, ◌≤◌, Bool, true, false, ◌&&◌, ◌||◌, List, [], ◌++◌}
-use Rattle.std.specs.Prelude.{length, ◌==◌, ◌≢◌, slice_index, slice_index_or}
+use Rattle.std.specs.Prelude.{◌≡◌, ℕ, zero, suc, ◌+◌, ◌-◌, ◌*◌, ◌/◌, ◌%◌, ◌^◌, ◌<◌, ◌≤◌, Bool, true, false, ◌&&◌, ◌||◌, List, ◌++◌}
+use Rattle.std.specs.Prelude.{[], length, ◌==◌, slice_index, slice_index_or, Result, IfOk}
 use Rattle.table.specs.Pick.{pick, Range}
 use Rattle.table.specs.Syntax.{Expr, Exprs, none, some}
 use Rattle.table.specs.Bytes.{functions, nodes, kind, first}
 use Rattle.table.specs.Naming.{owner}
-use Rattle.table.specs.Check.{accepted, if_accepted}
 use Rattle.table.specs.Expressions.{exprs_at, expr_at, body_of, defs_at, final_at}
-use Rattle.table.specs.Working.{IsNode, IsFunction, Taken, Read}
-use Rattle.table.specs.Survey.{verdict_of}
+use Rattle.table.specs.Working.{IsNode, IsFunction, Taken}
+use Rattle.table.specs.declared.refusals.Refusal.{Refusal}
 use Rattle.list.specs.declared.Record.{Record}
+use Rattle.list.specs.declared.records.Chains.{Chains}
 use Rattle.list.specs.declared.records.Marked.{Marked}
+use Rattle.list.specs.declared.kept.Kept.{Kept}
 use Rattle.list.specs.declared.walk.Siblings.{Siblings}
 use Rattle.list.specs.Arbiters.{Test, no_calls, joined, any_up_to, calls_in, calls_in*, parallel, conflicts, conflicts*, calls_of}
-use Rattle.list.specs.Tags.{tagged, callee_of, reached, listed}
+use Rattle.list.specs.Tags.{verdict_by, tagged, callee_of, reached, listed}
 use Rattle.list.specs.Records.{calls_from, records_from, records_of, records_verdict}
 
 -- bit k of a number
@@ -72,93 +73,81 @@ kids_at t defs n = siblings t defs (first t n)
 unfoldable pub packed : List ℕ → Test
 packed words n = bit_at (slice_index words ((n - 1) / 64)) ((n - 1) % 64)
 
--- the rows of the walk are 65 sets, of which set k begins at bit 512 k: 0 has the conflicts found, g the calls of body g, and 32 + h the
--- calls of function h that were met, its sites
-abbrev pub site_bit : ℕ → ℕ → ℕ
-site_bit h m = 512 * (32 + h) + m
+-- member m of set k of several
+abbrev pub row : List (List ℕ) → ℕ → Test
+row sets k = packed (slice_index_or sets k [])
 
 -- the sites of those of the functions 1 to k that a mask names
-unfoldable pub union_of : (rows : List ℕ) (mask k : ℕ) → Test
+unfoldable pub union_of : (sites : List (List ℕ)) (mask k : ℕ) → Test
 unfolding any_up_to
-union_of rows mask k m = any_up_to k (λ h. bit_at mask h && packed rows (site_bit h m))
+union_of sites mask k m = any_up_to k (λ h. bit_at mask h && row sites h m)
 
 -- what holds a set's calls of the functions called twice, where a mask names the functions called in it: the set itself where all are
 -- called twice, else their sites
-unfoldable pub shared_of : (set rows : List ℕ) (once twice : ℕ) → Test
-shared_of set rows once twice m = pick (once == twice) (packed set m) (union_of rows twice 31 m)
+unfoldable pub shared_of : (set : List ℕ) (sites : List (List ℕ)) (once twice : ℕ) → Test
+shared_of set sites once twice m = pick (once == twice) (packed set m) (union_of sites twice 31 m)
 
 -- a set of 8 words with the members of another added
 pub record Adds (s : Test) (set set' : List ℕ) : Type 0 where
   pub size : length set' ≡ 8
   pub bits : (m : ℕ) → Bit m → packed set' m ≡ packed set m || s m
 
--- set k of the rows is a set, and the others are as they were
-pub record Kept (k : ℕ) (set rows rows' : List ℕ) : Type 0 where
-  pub size : length rows' ≡ 520
-  pub same : (m : ℕ) → Bit m → packed rows' (512 * k + m) ≡ packed set m
-  pub other : (h m : ℕ) → (h ≢ k) → Bit m → packed rows' (512 * h + m) ≡ packed rows (512 * h + m)
-
--- rows to whose set k node n was added
+-- rows of 65 sets, of which set k begins at bit 512 k, to whose set k node n was added (the circuit's rows)
 pub record PutAt (k n : ℕ) (rows rows' : List ℕ) : Type 0 where
   pub size : length rows' ≡ 520
   pub bits : (h m : ℕ) → Bit m → packed rows' (512 * h + m) ≡ packed rows (512 * h + m) || (k == h && n == m)
 
--- rows to whose set 0 were added a set's calls of the functions called twice
-pub record MetBy (set : List ℕ) (once twice : ℕ) (rows rows' : List ℕ) : Type 0 where
-  pub size : length rows' ≡ 520
-  pub bits : (m : ℕ) → Bit m → packed rows' m ≡ packed rows m || (packed set m && shared_of set rows once twice m)
-  pub other : (h m : ℕ) → 1 ≤ h → Bit m → packed rows' (512 * h + m) ≡ packed rows (512 * h + m)
-
--- a set in bytes whose word i was written: it has the eight bytes of x, the lowest first, and the others are as they were
-pub record WordPut (i x : ℕ) (set set' : List ℕ) : Type 0 where
-  pub size : length set' ≡ 64
-  pub same : (j : ℕ) → j < 8 → slice_index set' (8 * i + j) ≡ x / 2 ^ (8 * j) % 256
-  pub other : (j : ℕ) → (j / 8 ≢ i) → slice_index set' j ≡ slice_index set j
+-- what is kept, to whose conflicts were added a set's calls of the functions called twice
+pub record MetBy (set : List ℕ) (once twice : ℕ) (k k' : Kept) : Type 0 where
+  pub bits : (m : ℕ) → Bit m
+      → packed k'.conflicts m ≡ packed k.conflicts m || (packed set m && shared_of set k.sites once twice m)
+  pub others : k' ≡ record { conflicts = k'.conflicts; calls = k.calls; sites = k.sites; called = k.called }
 
 -- a function whose body has been walked
-abbrev pub Seen : List ℕ → ℕ → Type 0
-Seen called g = slice_index called g ≡ 0 → ⊥
+abbrev pub Seen : Kept → ℕ → Type 0
+Seen k g = slice_index k.called g ≡ 0 → ⊥
 
 -- call m has been met: it is among the sites of its function
-abbrev pub Met : (t rows : List ℕ) → ℕ → Type 0
-Met t rows m = Callee (callee_of t m) × (packed rows (site_bit (callee_of t m) m) ≡ true)
+abbrev pub Met : List ℕ → Kept → ℕ → Type 0
+Met t k m = Callee (callee_of t m) × (row k.sites (callee_of t m) m ≡ true)
 
 -- of each body that has been walked: its calls, which have been met, the functions called in it, whose bodies have been walked too, and
 -- its conflicts among those found, which are listed; and a site is a call of its function
-pub record Memo (t called rows : List ℕ) : Type 0 where
-  pub size_called : length called ≡ 33
-  pub size_rows : length rows ≡ 520
-  pub sets : (g m : ℕ) → IsFunction t g → Seen called g → Bit m → packed rows (512 * g + m) ≡ calls_by t g m
-  pub sited : (g m : ℕ) → IsFunction t g → Seen called g → Bit m → calls_by t g m ≡ true → Met t rows m
-  pub masks : (g h : ℕ) → IsFunction t g → Seen called g → Callee h → bit_at (slice_index called g) h ≡ called_in t (calls_by t g) h
-  pub closed : (g h : ℕ) → IsFunction t g → Seen called g → Callee h → called_in t (calls_by t g) h ≡ true → Seen called h
-  pub whole : (g m : ℕ) → IsFunction t g → Seen called g → Bit m → conflicts_at t (body_of t g) m ≡ true → packed rows m ≡ true
-  pub sound : (m : ℕ) → Bit m → packed rows m ≡ true → listed t m ≡ true
-  pub sites : (h m : ℕ) → Callee h → Bit m → packed rows (site_bit h m) ≡ true → callee_of t m ≡ h
+pub record Memo (t : List ℕ) (k : Kept) : Type 0 where
+  pub size_calls : length k.calls ≡ 33
+  pub size_sites : length k.sites ≡ 33
+  pub size_called : length k.called ≡ 33
+  pub sets : (g m : ℕ) → IsFunction t g → Seen k g → Bit m → row k.calls g m ≡ calls_by t g m
+  pub sited : (g m : ℕ) → IsFunction t g → Seen k g → Bit m → calls_by t g m ≡ true → Met t k m
+  pub masks : (g h : ℕ) → IsFunction t g → Seen k g → Callee h → bit_at (slice_index k.called g) h ≡ called_in t (calls_by t g) h
+  pub closed : (g h : ℕ) → IsFunction t g → Seen k g → Callee h → called_in t (calls_by t g) h ≡ true → Seen k h
+  pub whole : (g m : ℕ) → IsFunction t g → Seen k g → Bit m → conflicts_at t (body_of t g) m ≡ true → packed k.conflicts m ≡ true
+  pub sound : (m : ℕ) → Bit m → packed k.conflicts m ≡ true → listed t m ≡ true
+  pub sites : (h m : ℕ) → Callee h → Bit m → row k.sites h m ≡ true → callee_of t m ≡ h
 
 -- what stays: bodies walked, conflicts found, sites met
-pub record Grown (called called' rows rows' : List ℕ) : Type 0 where
-  pub seen : (g : ℕ) → Seen called g → Seen called' g
-  pub stays : (m : ℕ) → Bit m → packed rows m ≡ true → packed rows' m ≡ true
-  pub stands : (h m : ℕ) → Callee h → Bit m → packed rows (site_bit h m) ≡ true → packed rows' (site_bit h m) ≡ true
+pub record Grown (k k' : Kept) : Type 0 where
+  pub seen : (g : ℕ) → Seen k g → Seen k' g
+  pub stays : (m : ℕ) → Bit m → packed k.conflicts m ≡ true → packed k'.conflicts m ≡ true
+  pub stands : (h m : ℕ) → Callee h → Bit m → row k.sites h m ≡ true → row k'.sites h m ≡ true
 
 -- a walk over what has the calls s and the conflicts x: set gets the calls, mask is of the functions called, whose bodies are walked
-pub record Walk (t : List ℕ) (s x : Test) (mask : ℕ) (set set' called called' rows rows' : List ℕ) : Type 0 where
-  pub memo : Memo t called' rows'
-  pub grown : Grown called called' rows rows'
+pub record Walk (t : List ℕ) (s x : Test) (mask : ℕ) (set set' : List ℕ) (k k' : Kept) : Type 0 where
+  pub memo : Memo t k'
+  pub grown : Grown k k'
   pub added : Adds s set set'
   pub functions : (h : ℕ) → Callee h → bit_at mask h ≡ called_in t s h
-  pub walked : (h : ℕ) → Callee h → called_in t s h ≡ true → Seen called' h
-  pub finds : (m : ℕ) → Bit m → x m ≡ true → packed rows' m ≡ true
-  pub met : (m : ℕ) → Bit m → s m ≡ true → Met t rows' m
+  pub walked : (h : ℕ) → Callee h → called_in t s h ≡ true → Seen k' h
+  pub finds : (m : ℕ) → Bit m → x m ≡ true → packed k'.conflicts m ≡ true
+  pub met : (m : ℕ) → Bit m → s m ≡ true → Met t k' m
 
 -- a walk whose functions are put to those of a mask
-pub record Onto (t : List ℕ) (s x : Test) (mask mask' : ℕ) (set set' called called' rows rows' : List ℕ) : Type 0 where
+pub record Onto (t : List ℕ) (s x : Test) (mask mask' : ℕ) (set set' : List ℕ) (k k' : Kept) : Type 0 where
   pub own : ℕ
-  pub walk : Walk t s x own set set' called called' rows rows'
+  pub walk : Walk t s x own set set' k k'
   pub joins : (h : ℕ) → Callee h → bit_at mask' h ≡ bit_at mask h || bit_at own h
 
-abbrev pub OntoNode : (t : List ℕ) (n mask mask' : ℕ) (set set' called called' rows rows' : List ℕ) → Type 0
+abbrev pub OntoNode : (t : List ℕ) (n mask mask' : ℕ) (set set' : List ℕ) (k k' : Kept) → Type 0
 OntoNode t n = Onto t (calls_at t (expr_at t n)) (conflicts_at t (expr_at t n))
 
 -- a node of function f, which is reached, in an accepted table
@@ -175,10 +164,10 @@ pub record KindTo (t : List ℕ) (n k top : ℕ) : Type 0 where
   pub high : k ≤ top
 
 -- a walk along siblings; of a let it names the body
-pub record Chained (t : List ℕ) (f c : ℕ) (defs : Bool) (r : Siblings) (set set' called called' rows rows' : List ℕ)
+pub record Chained (t : List ℕ) (f c : ℕ) (defs : Bool) (r : Siblings) (set set' : List ℕ) (k k' : Kept)
     : Type 0 where
   pub walk : Walk t (calls_at* t (siblings t defs c)) (conflicts_at* t (siblings t defs c))
-      r.once set set' called called' rows rows'
+      r.once set set' k k'
   pub twice : (h : ℕ) → Callee h → bit_at r.twice h ≡ twice_in t (siblings t defs c) h
   pub last : defs ≡ true → IsNode t r.last.0 × (owner t r.last.0 ≡ f) × (c ≤ r.last.0) × (final_at t c ≡ expr_at t r.last.0)
 
@@ -188,16 +177,16 @@ pub record Beside (t : List ℕ) (n : ℕ) (defs : Bool) : Type 0 where
   pub conflicts : (m : ℕ) → parallel_at t (kids_at t defs n) m ≡ true → listed t m ≡ true
 
 -- a walk over node n's children, with their conflicts
-abbrev pub WalkKids : (t : List ℕ) (n : ℕ) (defs : Bool) (mask : ℕ) (set set' called called' rows rows' : List ℕ) → Type 0
+abbrev pub WalkKids : (t : List ℕ) (n : ℕ) (defs : Bool) (mask : ℕ) (set set' : List ℕ) (k k' : Kept) → Type 0
 WalkKids t n defs =
     Walk t (calls_at* t (kids_at t defs n)) (joined (parallel_at t (kids_at t defs n)) (conflicts_at* t (kids_at t defs n)))
 
-abbrev pub OntoKids : (t : List ℕ) (n mask mask' : ℕ) (set set' called called' rows rows' : List ℕ) → Type 0
+abbrev pub OntoKids : (t : List ℕ) (n mask mask' : ℕ) (set set' : List ℕ) (k k' : Kept) → Type 0
 OntoKids t n = Onto t (calls_at* t (kids_at t false n)) (joined (parallel_at t (kids_at t false n)) (conflicts_at* t (kids_at t false n)))
 
-pub record Sided (t : List ℕ) (f n : ℕ) (defs : Bool) (r : Siblings) (set set' called called' rows rows' : List ℕ)
+pub record Sided (t : List ℕ) (f n : ℕ) (defs : Bool) (r : Siblings) (set set' : List ℕ) (k k' : Kept)
     : Type 0 where
-  pub walk : WalkKids t n defs r.once set set' called called' rows rows'
+  pub walk : WalkKids t n defs r.once set set' k k'
   pub last : defs ≡ true → IsNode t r.last.0 × (owner t r.last.0 ≡ f) × (first t n ≤ r.last.0)
       × (final_at t (first t n) ≡ expr_at t r.last.0)
 
@@ -214,44 +203,30 @@ unfoldable pub first_link : List ℕ → (f k n : ℕ) → ℕ
 first_link t f zero n = 0
 first_link t f (suc k) n = pick (listed t n && callee_of t n == f) (link_to t n) (first_link t f k (suc n))
 
--- the listed calls past node n in chains: the entry of such a call is the next one of its function, that of 513 + f the first one of f
-pub record LinkedTo (t chains : List ℕ) (n : ℕ) : Type 0 where
-  pub size : length chains ≡ 546
-  pub heads : (f : ℕ) → f ≤ 32 → slice_index chains (513 + f) ≡ first_link t f (nodes t - n) (n + 1)
+-- the listed calls past node n in chains: the first one of each function, and of each such call the next one of its function
+pub record LinkedTo (t : List ℕ) (chains : Chains) (n : ℕ) : Type 0 where
+  pub size_first : length chains.first ≡ 33
+  pub size_next : length chains.next ≡ 513
+  pub heads : (f : ℕ) → f ≤ 32 → slice_index chains.first f ≡ first_link t f (nodes t - n) (n + 1)
   pub links : (m : ℕ) → n < m → m ≤ nodes t → listed t m ≡ true
-      → slice_index chains m ≡ first_link t (callee_of t m) (nodes t - m) (m + 1)
+      → slice_index chains.next m ≡ first_link t (callee_of t m) (nodes t - m) (m + 1)
 
--- all of them, and entry 0 is that of function 1
-pub record Linked (t chains : List ℕ) : Type 0 where
+-- all of them
+pub record Linked (t : List ℕ) (chains : Chains) : Type 0 where
   pub taken : Taken t
   pub all : LinkedTo t chains 0
-  pub first : slice_index_or chains 0 0 ≡ slice_index chains 514
 
--- the records past the place f, n are l, and x is the first of those that are of f
-pub record Follow (t : List ℕ) (f n x : ℕ) (l : List Record) : Type 0 where
-  pub within : f ≤ functions t
-  pub rest : rest_at t f n ≡ l
-  pub link : x ≡ first_link t f (nodes t - n) (n + 1)
-
--- the records past the place of r are l, and its entry leads there
-abbrev pub Past : (t chains : List ℕ) → Record → List Record → Type 0
-Past t chains r = Follow t r.callee.0 r.node.0 (slice_index chains r.node.0)
-
--- the place before the first record
-abbrev pub before_all : Record
-before_all = record { callee = record { 0 = 1 }; caller = record { 0 = 0 }; node = record { 0 = 0 } }
-
--- the list's tag bits, beside the decoded table
-pub record Tagging (t cells set : List ℕ) : Type 0 where
-  pub read : Read t cells
+-- the list's tag bits
+pub record Tagging (t set : List ℕ) : Type 0 where
   pub bits : (m : ℕ) → Bit m → tagged set m ≡ listed t m
 
--- the records that a lent list of len records gets: none on a refusal
-abbrev pub offered : List ℕ → ℕ → List Record
-offered t len = if_accepted (records_verdict t len) (records_of t) []
+-- the chains of an accepted table, and how many records they give
+pub record Marking (t : List ℕ) (m : Marked) : Type 0 where
+  pub linked : Linked t m.chains
+  pub main : m.design.main.0 ≡ functions t
+  pub many : m.count ≡ length (records_of t)
 
--- the chains for a list of len records: what it is told, how many records it gets, and the chains are the list's
-pub record Marks (t : List ℕ) (len : ℕ) (m : Marked) : Type 0 where
-  pub told : verdict_of m.checked ≡ records_verdict t len
-  pub many : m.count ≡ length (offered t len)
-  pub linked : (F N : ℕ) → records_verdict t len ≡ accepted F N → Linked t m.chains
+-- the chains for a list of len records, or what refuses it
+pub record Marks (t : List ℕ) (len : ℕ) (r : Result Marked Refusal) : Type 0 where
+  pub told : verdict_by (λ m. m.design) r ≡ records_verdict t len
+  pub marked : IfOk r (Marking t)

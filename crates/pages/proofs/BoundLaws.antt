@@ -12,12 +12,10 @@ use borrow.Author.Tests.{eq-eqb, eqb-true}
 use Rattle.table.specs.Pick.{pick}
 use Rattle.table.specs.Find.{one}
 use Rattle.table.specs.Bytes.{functions, nodes}
-use Rattle.table.specs.Check.{Verdict, accepted, refused, if_accepted, check_of}
 use Rattle.table.specs.Working.{Taken}
-use Rattle.table.proofs.SurveyLaws.{taken_by}
 use Rattle.list.specs.declared.Record.{Record}
 use Rattle.list.specs.Tags.{callee_of, listed}
-use Rattle.list.specs.Records.{record_at, calls_from, records_from, records_of, arranged}
+use Rattle.list.specs.Records.{record_at, calls_from, records_from, records_of}
 use Rattle.list.proofs.ArbiterFacts.{and_both}
 use Rattle.list.proofs.NodeLaws.{few}
 use Rattle.list.proofs.Totals.{few_records}
@@ -174,12 +172,3 @@ few_pages t ok = room_for (records_of t) (omega (arith, at_most, few_records t o
   where
     at_most : cost 0 (records_of t) ≤ length (records_of t) + functions t
     at_most = unfold records_of in changes t (functions t) 1 0
-
--- and so have those that are arranged, which are none where the table is refused
-pub arranged_fit : (t : List ℕ) → length (rows_of (arranged t)) ≤ 576
-unfolding arranged
-arranged_fit t = go (check_of t) refl
-  where
-    go : (v : Verdict) → check_of t ≡ v → length (rows_of (if_accepted v (records_of t) [])) ≤ 576
-    go (accepted F N) e = few_pages t (taken_by t F N (sym e)).0
-    go (refused k p) e = room_for [] (unfold cost in omega arith)

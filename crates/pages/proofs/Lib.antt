@@ -4,8 +4,8 @@ pub mod RowLaws
 pub mod RowTexts
 pub mod PageLaws
 pub mod BoundLaws
+mod CalledLaws
 pub mod StandsLaws
-pub mod FoundLaws
 pub mod SheetLaws
 pub mod Titles
 pub mod Spacing

@@ -1,12 +1,12 @@
--- bytes written over a text from a place on (`sets`): by a loop, one part after another, and inside what was written
+-- bytes written over a text from a place on (`sets`): a part copied over, one part after another, and inside what was written
 use Prim.Native.Nat.{ℕ, zero, suc, ◌+◌, ◌≤◌, ◌<◌}
 use mathlib.Core.Path.{◌≡◌, refl, sym, ap, subst, ◌∙◌}
-use mathlib.Core.List.{List, [], ◌∷◌, ◌++◌}
+use mathlib.Core.List.{List, [], ◌∷◌, ◌++◌, append_assoc}
 use native.Mathlib.Omega.{arith}
 use native.Mathlib.Nat.{not-suc-le-zero, le_of_suc-le-suc, suc-add}
-use native.Mathlib.Numerals.{add-one}
-use lib.ListN.{length, get_or, set, take, drop, length-set}
-use lib.Seq.{length-take-le, sets, sets-eq, set-set, set_comm, take-suc, set-append_left}
+use lib.ListN.{length, set, take, drop, length-set}
+use borrow.Rule.Slice.PartMut.{put_mid}
+use lib.Seq.{drop-drop, sets, sets-eq, set-set, set_comm, set-append_left}
 
 module _ {A : Type 0} where
   -- one list after another
@@ -20,21 +20,11 @@ module _ {A : Type 0} where
       next : (i k : ℕ) → suc i + k ≡ i + suc k
       next i k = omega arith
 
-  -- a loop that writes a list entry by entry
-  pub laid_more : (z : A) (l d e : List A) (at i : ℕ) → i < length d → e ≡ sets l at (take i d)
-      → set e (at + i) (get_or d i z) ≡ sets l at (take (i + 1) d)
-  laid_more z l d e at i h q =
-      ap (λ x. set x (at + i) (get_or d i z)) q ∙ sym (step ∙ one (at + length (take i d)) (at + i) (sym (reach d i h)))
-    where
-      reach : (d : List A) (i : ℕ) → i < length d → at + i ≡ at + length (take i d)
-      reach d i h = ap (λ k. at + k) (sym (length-take-le i d (omega (arith, h))))
-
-      step : sets l at (take (i + 1) d) ≡ sets (sets l at (take i d)) (at + length (take i d)) (get_or d i z ∷ [])
-      step = ap (λ k. sets l at (take k d)) (add-one i) ∙ ap (λ x. sets l at x) (take-suc d i z h) ∙ sets_append l at (take i d)
-          (get_or d i z ∷ [])
-
-      one : (j k : ℕ) → j ≡ k → sets (sets l at (take i d)) j (get_or d i z ∷ []) ≡ set (sets l at (take i d)) k (get_or d i z)
-      one j k q = ap (λ m. set (sets l at (take i d)) m (get_or d i z)) q
+  -- a part of a list that was copied over
+  pub copied_over : (l a : List A) (i k : ℕ) → k ≡ length a → i + length a ≤ length l → put_mid i k l a ≡ sets l i a
+  copied_over l a i k e h =
+      ap (λ (r : List A). take i l ++ (a ++ r)) (drop-drop k i l ∙ ap (λ j. drop (i + j) l) e)
+      ∙ sym (append_assoc (take i l) a (drop (i + length a) l)) ∙ sym (sets-eq a l i h)
 
   -- a place before those written can be set first
   set_ahead : (l : List A) (i k : ℕ) (a : List A) (x : A) → k < i → set (sets l i a) k x ≡ sets (set l k x) i a

@@ -5,23 +5,25 @@ use mathlib.Core.Bool.{Bool, true, false, ◌&&◌, not}
 use mathlib.Core.List.{List, [], ◌∷◌, ◌++◌}
 use native.Mathlib.Omega.{arith}
 use lib.Dec.{eqb}
-use borrow.Author.Tests.{eq-eqb, ne_eqb, le-leb, lt-leb}
+use mir.Val.{bool_byte}
+use borrow.Author.Tests.{ne_eqb, le-leb, lt-leb}
 use Rattle.table.specs.Pick.{pick}
 use Rattle.list.specs.declared.Record.{Record}
 use Rattle.pages.specs.Rows.{title, entry, gaps, resource, due, rows_after}
+use Rattle.pages.specs.Working.{Called, a_call}
 
--- as the code tests for them
-pub due_first : (last f : ℕ) → last ≡ 0 → 0 ≡ due last f
+-- as the code tells them
+pub due_first : (f : ℕ) → 0 ≡ due 0 f
 unfolding due
-due_first last f e = rw (eq-eqb last 0 e) refl
+due_first f = refl
 
-pub due_same : (last f : ℕ) → last ≡ f → (last ≡ 0 → ⊥) → 0 ≡ due last f
+pub due_next : (last f : ℕ) → 1 ≤ last → bool_byte (not (eqb last f)) ≡ due last f
 unfolding due
-due_same last f e z = rw (ne_eqb last 0 z, eq-eqb last f e) refl
-
-pub due_other : (last f : ℕ) → (last ≡ 0 → ⊥) → (last ≡ f → ⊥) → 1 ≡ due last f
-unfolding due
-due_other last f z e = rw (ne_eqb last 0 z, ne_eqb last f e) refl
+due_next last f h = rw (ne_eqb last 0 (λ e. omega (arith, h, e))) (go (not (eqb last f)))
+  where
+    go : (b : Bool) → bool_byte b ≡ pick b 1 0
+    go true = refl
+    go false = refl
 
 -- one at most
 pub due_few : (last f : ℕ) → due last f ≤ 1
@@ -31,6 +33,13 @@ due_few last f = go (not (eqb last 0) && not (eqb last f))
     go : (b : Bool) → pick b 1 0 ≤ 1
     go true = omega arith
     go false = omega arith
+
+-- the resources of all calls are functions, so those of the first and of the others are
+pub called_first : {r : Record} {rs : List Record} → Called (r ∷ rs) → 1 ≤ resource r
+called_first (a_call h _) = h
+
+pub called_rest : {r : Record} {rs : List Record} → Called (r ∷ rs) → Called rs
+called_rest (a_call _ c) = c
 
 -- no call is left: the page is filled up
 pub rows_end : (page left last : ℕ) → rows_after page left last [] ≡ gaps left

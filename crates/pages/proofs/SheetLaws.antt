@@ -1,22 +1,21 @@
 -- what a text gets of a table: the sheet where it is accepted, nothing where it is refused
-use Prim.Native.Nat.{ℕ, ◌≤◌}
-use mathlib.Core.Path.{◌≡◌, refl, sym, ap, ◌∙◌}
+use Prim.Native.Nat.{ℕ, ◌-◌, ◌≤◌}
+use mathlib.Core.Path.{◌≡◌, refl, sym, ap, ap₂, ◌∙◌}
 use mathlib.Core.List.{List, [], ◌++◌}
 use native.Mathlib.Omega.{arith}
-use lib.ListN.{length, drop, replicate, length-replicate}
-use lib.Seq.{sets}
+use lib.ListN.{length, take, drop, replicate, length-replicate}
+use lib.Seq.{sets, take_at}
 use Rattle.table.specs.Check.{Verdict, accepted, refused, if_accepted, check_of}
-use Rattle.table.specs.Survey.{verdict_of}
-use Rattle.list.specs.Records.{arranged}
+use Rattle.table.proofs.SurveyLaws.{taken_by}
+use Rattle.list.specs.declared.Record.{Record}
+use Rattle.list.specs.declared.Listing.{Listing}
+use Rattle.list.specs.Records.{records_of, padded, Ordered}
 use Rattle.list.proofs.RecordSlice.{drop_replicate}
-use Rattle.pages.specs.declared.Sheet.{Sheet}
-use Rattle.pages.specs.declared.Filled.{Filled}
 use Rattle.pages.specs.Rows.{rows_of}
-use Rattle.pages.specs.Lines.{lines_of}
-use Rattle.pages.specs.Sheet.{sheet_of, sheet_bytes, room, Printed, sheet_over, FilledWith}
+use Rattle.pages.specs.Sheet.{sheet_of, sheet_bytes, room, sheet_over}
 use Rattle.pages.proofs.OverLaws.{sets_front}
 use Rattle.pages.proofs.RowTexts.{lines_size}
-use Rattle.pages.proofs.BoundLaws.{arranged_fit}
+use Rattle.pages.proofs.BoundLaws.{few_pages}
 
 module _ (t : List ℕ) where
   pub bytes_of : (F N : ℕ) → check_of t ≡ accepted F N → sheet_bytes t ≡ sheet_of t
@@ -27,42 +26,26 @@ module _ (t : List ℕ) where
   unfolding sheet_bytes
   no_bytes k p e = rw e refl
 
-  found_bytes : (F N : ℕ) → check_of t ≡ accepted F N → lines_of (rows_of (arranged t)) ≡ sheet_bytes t
-  unfolding arranged sheet_of
-  found_bytes F N e = ap (λ l. lines_of (rows_of l)) (rw e refl) ∙ sym (bytes_of F N e)
-
-  -- what was printed of an accepted table
-  pub filled_in : (before after : List ℕ) (f : Filled) (F N : ℕ) → verdict_of f.checked ≡ accepted F N → check_of t ≡ accepted F N
-      → f.length ≡ length (lines_of (rows_of (arranged t))) → after ≡ sets before 0 (lines_of (rows_of (arranged t)))
-      → FilledWith t before after f
+  -- the text of an accepted table, and of a refused one, which is left as it was
+  pub over_in : (before after : List ℕ) (F N : ℕ) → check_of t ≡ accepted F N → after ≡ sets before 0 (sheet_of t)
+      → after ≡ sheet_over t before
   unfolding sheet_over
-  filled_in before after f F N v e n q = record {
-    told = v ∙ sym e;
-    counted = n ∙ ap length (found_bytes F N e);
-    text = q ∙ ap (sets before 0) (found_bytes F N e);
-  }
+  over_in before after F N e q = q ∙ ap (sets before 0) (sym (bytes_of F N e))
 
-  -- a refused table leaves the text as it was
-  pub filled_none : (text : List ℕ) (f : Filled) (k p : ℕ) → verdict_of f.checked ≡ refused k p → check_of t ≡ refused k p
-      → f.length ≡ 0 → FilledWith t text text f
+  pub over_none : (text : List ℕ) (k p : ℕ) → check_of t ≡ refused k p → text ≡ sheet_over t text
   unfolding sheet_over
-  filled_none text f k p v e n = record {
-    told = v ∙ sym e;
-    counted = n ∙ sym (ap length (no_bytes k p e));
-    text = ap (sets text 0) (sym (no_bytes k p e));
-  }
+  over_none text k p e = ap (sets text 0) (sym (no_bytes k p e))
 
   -- there is room for it in any case
   pub bytes_fit : length (sheet_bytes t) ≤ room
-  unfolding sheet_bytes
+  unfolding sheet_bytes sheet_of
   bytes_fit = go (check_of t) refl
     where
       go : (v : Verdict) → check_of t ≡ v → length (if_accepted v (sheet_of t) []) ≤ room
       go (accepted F N) e = omega (
         arith,
-        ap length (sym (bytes_of F N e) ∙ sym (found_bytes F N e)),
-        lines_size (rows_of (arranged t)),
-        arranged_fit t,
+        lines_size (rows_of (records_of t)),
+        few_pages t (taken_by t F N (sym e)).0,
       )
       go (refused k p) e = omega arith
 
@@ -72,11 +55,13 @@ module _ (t : List ℕ) where
   over_room text e = sets_front text (sheet_bytes t) (omega (arith, bytes_fit, e))
 
   -- and by value over zeros
-  pub printed_by : (s : Sheet) (f : Filled) → FilledWith t (replicate room 0) s.text f → s.length ≡ f.length
-      → s.checked ≡ f.checked → Printed t s
-  printed_by s f w n c = record {
-    told = ap verdict_of c ∙ w.told;
-    counted = n ∙ w.counted;
-    text = w.text ∙ over_room (replicate room 0) (length-replicate {A = ℕ} room 0)
-        ∙ ap (λ l. sheet_bytes t ++ l) (drop_replicate (length (sheet_bytes t)) room 0);
-  }
+  pub printed_by : (text : List ℕ) → text ≡ sheet_over t (replicate room 0)
+      → text ≡ sheet_bytes t ++ replicate (room - length (sheet_bytes t)) 0
+  printed_by text e = e ∙ over_room (replicate room 0) (length-replicate {A = ℕ} room 0)
+      ∙ ap (λ l. sheet_bytes t ++ l) (drop_replicate (length (sheet_bytes t)) room 0)
+
+-- the records in front of a listing are all of them
+pub found_records : (t : List ℕ) (l : Listing) → Ordered t l → take l.count l.items ≡ records_of t
+unfolding padded
+found_records t l a =
+    ap₂ (λ (n : ℕ) (r : List Record). take n r) a.counted a.ordered ∙ take_at (records_of t) _ _ refl

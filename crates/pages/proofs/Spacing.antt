@@ -32,7 +32,7 @@ spaced_after page left last (r ∷ rs) = go (dec_lt left (due last (resource r) 
         → Spaced last 0 (rows_after page left last (r ∷ rs))
     go (yes l) _ s =
         subst (Spaced last 0) (sym (rows_new page left last r rs l))
-        (spaced_gaps last 0 left _ (subst (λ k. k < due last (resource r) + 1) (plain left) l, (due_first 0 (resource r) refl, s)))
+        (spaced_gaps last 0 left _ (subst (λ k. k < due last (resource r) + 1) (plain left) l, (due_first (resource r), s)))
       where
         plain : (k : ℕ) → k ≡ 0 + k
         plain k = omega arith

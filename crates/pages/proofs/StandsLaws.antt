@@ -5,24 +5,34 @@ use mathlib.Core.List.{List, [], ◌∷◌, ◌++◌, append_assoc}
 use native.Mathlib.Omega.{arith}
 use lib.ListN.{length, length-append, length-replicate, replicate-append-replicate}
 use lib.Seq.{sets}
+use Rattle.std.specs.Prelude.{Some, None}
 use Rattle.list.specs.declared.Record.{Record}
 use Rattle.pages.specs.declared.layout.Reached.{Reached}
 use Rattle.pages.specs.Rows.{Row, title, gap, entry, gaps, resource, due, rows_after, rows_of}
 use Rattle.pages.specs.Lines.{lines_of}
-use Rattle.pages.specs.Working.{call_over, Roomy, Stands}
-use Rattle.pages.proofs.RowLaws.{rows_end, rows_on, rows_new}
+use Rattle.pages.specs.Working.{call_over, number_of, Called, Roomy, Stands}
+use Rattle.pages.proofs.RowLaws.{called_first, called_rest, rows_end, rows_on, rows_new}
 use Rattle.pages.proofs.BoundLaws.{rows_least}
 use Rattle.pages.proofs.RowTexts.{lines_size, rows_over, call_over_lem}
 
 -- the first page, with its title alone
-pub stands_first : (all : List Record) (text₀ text : List ℕ) → text ≡ sets text₀ (792 * 0) (lines_of (title (0 + 1) ∷ gaps 23))
-    → Stands all all text₀ text (record { pages = 1; rows = 1; last = record { 0 = 0 } })
+pub stands_first : (all : List Record) → Called all → (text₀ text : List ℕ)
+    → text ≡ sets text₀ (792 * 0) (lines_of (title (0 + 1) ∷ gaps 23))
+    → Stands all all text₀ text (record { pages = 1; rows = 1; last = None })
 unfolding rows_of
-stands_first all text₀ text e = record { done = title 1 ∷ []; count = refl; within = omega arith; onward = refl; written = e }
+stands_first all called text₀ text e = record {
+  named = tt;
+  called = called;
+  done = title 1 ∷ [];
+  count = refl;
+  within = omega arith;
+  onward = refl;
+  written = e;
+}
 
 module _ (all rest : List Record) (text₀ text : List ℕ) (w : Reached) (r : Record) (s : Stands all (r ∷ rest) text₀ text w) where
   abbrev d : ℕ
-  d = due w.last.0 (resource r)
+  d = due (number_of w.last) (resource r)
 
   abbrev left : ℕ
   left = 24 * w.pages - w.rows
@@ -48,8 +58,10 @@ module _ (all rest : List Record) (text₀ text : List ℕ) (w : Reached) (r : R
         parts : (p n d row : ℕ) → row ≡ n + d → row < 24 * p → 24 * p - n ≡ d + (1 + (24 * p - (row + 1)))
         parts p n d row e h = omega arith
 
-    pub stands_on : Stands all rest text₀ text' (record { pages = w.pages; rows = row + 1; last = r.callee })
+    pub stands_on : Stands all rest text₀ text' (record { pages = w.pages; rows = row + 1; last = Some r.callee })
     stands_on = record {
+      named = called_first s.called;
+      called = called_rest s.called;
       done = before ++ entry r ∷ [];
       count = length-append before (entry r ∷ []) ∙ ap (λ k. k + 1) before_size;
       within = omega (arith, h);
@@ -57,7 +69,7 @@ module _ (all rest : List Record) (text₀ text : List ℕ) (w : Reached) (r : R
           append_assoc before (entry r ∷ []) (rows_after w.pages after (resource r) rest)
           ∙ append_assoc s.done (gaps d) (entry r ∷ rows_after w.pages after (resource r) rest)
           ∙ ap (λ k. s.done ++ (gaps d ++ entry r ∷ rows_after w.pages k (resource r) rest)) (less w.pages w.rows d row e)
-          ∙ ap (λ g. s.done ++ g) (sym (rows_on w.pages left w.last.0 r rest (fits w.pages w.rows d row e h))) ∙ s.onward;
+          ∙ ap (λ g. s.done ++ g) (sym (rows_on w.pages left (number_of w.last) r rest (fits w.pages w.rows d row e h))) ∙ s.onward;
       written =
           q ∙ ap (λ k. call_over text (33 * k) r) (sym before_size)
           ∙ call_over_lem text₀ text before (gaps after) r (s.written ∙ ap (λ g. sets text₀ 0 (lines_of g)) split)
@@ -88,7 +100,7 @@ module _ (all rest : List Record) (text₀ text : List ℕ) (w : Reached) (r : R
     rest_of : full ++ title (w.pages + 1) ∷ entry r ∷ rows_after (w.pages + 1) 22 (resource r) rest ≡ rows_of all
     rest_of =
         append_assoc s.done (gaps left) (title (w.pages + 1) ∷ entry r ∷ rows_after (w.pages + 1) 22 (resource r) rest)
-        ∙ ap (λ g. s.done ++ g) (sym (rows_new w.pages left w.last.0 r rest none)) ∙ s.onward
+        ∙ ap (λ g. s.done ++ g) (sym (rows_new w.pages left (number_of w.last) r rest none)) ∙ s.onward
 
     module _ (text₁ text' : List ℕ) (b : text₁ ≡ sets text (792 * w.pages) (lines_of (title (w.pages + 1) ∷ gaps 23)))
         (q : text' ≡ call_over text₁ (33 * (24 * w.pages + 1)) r) where
@@ -107,8 +119,10 @@ module _ (all rest : List Record) (text₀ text : List ℕ) (w : Reached) (r : R
           place : (p n : ℕ) → n ≡ 24 * p → 792 * p ≡ 0 + 33 * n
           place p n e = omega arith
 
-      pub stands_new : Stands all rest text₀ text' (record { pages = w.pages + 1; rows = 24 * w.pages + 2; last = r.callee })
+      pub stands_new : Stands all rest text₀ text' (record { pages = w.pages + 1; rows = 24 * w.pages + 2; last = Some r.callee })
       stands_new = record {
+        named = called_first s.called;
+        called = called_rest s.called;
         done = titled ++ entry r ∷ [];
         count = length-append titled (entry r ∷ []) ∙ ap (λ k. k + 1) titled_size ∙ two (24 * w.pages);
         within = omega arith;
@@ -149,16 +163,17 @@ begun_fit all rest text₀ text w s =
     omega (
       arith,
       ap length s.onward,
-      length-append s.done (rows_after w.pages left w.last.0 rest),
+      length-append s.done (rows_after w.pages left (number_of w.last) rest),
       s.count,
       s.within,
-      rows_least w.pages left w.last.0 rest,
+      rows_least w.pages left (number_of w.last) rest,
     )
 
 -- the next call has a row on a sheet of 24 pages
 pub stands_roomy : (all rest : List Record) (text₀ text : List ℕ) (w : Reached) (r : Record) → Stands all (r ∷ rest) text₀ text w
     → length (rows_of all) ≤ 576 → Roomy w r
 stands_roomy all rest text₀ text w r s few = record {
+  named = s.named;
   within = s.within;
   paged = omega (arith, begun_fit all (r ∷ rest) text₀ text w s, few);
   more = λ h. omega (arith, one_more_lem all rest text₀ text w r s h, few);
@@ -167,7 +182,7 @@ stands_roomy all rest text₀ text w r s few = record {
 -- where no call is left, all of the sheet stands
 module _ (all : List Record) (text₀ text : List ℕ) (w : Reached) (s : Stands all [] text₀ text w) where
   last_rows : s.done ++ gaps (24 * w.pages - w.rows) ≡ rows_of all
-  last_rows = ap (λ g. s.done ++ g) (sym (rows_end w.pages (24 * w.pages - w.rows) w.last.0)) ∙ s.onward
+  last_rows = ap (λ g. s.done ++ g) (sym (rows_end w.pages (24 * w.pages - w.rows) (number_of w.last))) ∙ s.onward
 
   pub stands_all : text ≡ sets text₀ 0 (lines_of (rows_of all))
   stands_all = s.written ∙ ap (λ g. sets text₀ 0 (lines_of g)) last_rows

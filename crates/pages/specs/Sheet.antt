@@ -1,8 +1,9 @@
 -- the arbiter sheet of a table (document 02, Q-1), and what is left in a text that is lent for it
-use Rattle.std.specs.Prelude.{ℕ, ◌-◌, ◌≡◌, List, [], ◌++◌, length, replicate}
+use Rattle.std.specs.Prelude.{ℕ, ◌-◌, ◌≡◌, List, [], ◌++◌, length, replicate, Result, IfOk}
 use Rattle.std.proofs.lemmas.List.Edits.{sets}
+use Rattle.table.specs.declared.refusals.Refusal.{Refusal}
 use Rattle.table.specs.Check.{if_accepted, check_of}
-use Rattle.table.specs.Survey.{verdict_of}
+use Rattle.list.specs.Tags.{verdict_by}
 use Rattle.list.specs.Records.{records_of}
 use Rattle.pages.specs.declared.Sheet.{Sheet}
 use Rattle.pages.specs.declared.Filled.{Filled}
@@ -22,17 +23,17 @@ abbrev pub room : ℕ
 room = 19008
 
 -- a sheet by value: its bytes, and zeros after them
-pub record Printed (t : List ℕ) (s : Sheet) : Type 0 where
-  pub told : verdict_of s.checked ≡ check_of t
-  pub counted : s.length ≡ length (sheet_bytes t)
-  pub text : s.text ≡ sheet_bytes t ++ replicate (room - length (sheet_bytes t)) 0
+pub record Printed (t : List ℕ) (r : Result Sheet Refusal) : Type 0 where
+  pub told : verdict_by (λ s. s.design) r ≡ check_of t
+  pub counted : IfOk r (λ s. s.length ≡ length (sheet_bytes t))
+  pub text : IfOk r (λ s. s.text ≡ sheet_bytes t ++ replicate (room - length (sheet_bytes t)) 0)
 
 -- a lent text with the sheet written over it from the front; the bytes past the sheet keep their content, and all on a refusal: of a text
 -- that has the room it is the sheet and then the text's own rest (`over`, specs/Layout)
 unfoldable pub sheet_over : (t text : List ℕ) → List ℕ
 sheet_over t text = sets text 0 (sheet_bytes t)
 
-pub record FilledWith (t before after : List ℕ) (f : Filled) : Type 0 where
-  pub told : verdict_of f.checked ≡ check_of t
-  pub counted : f.length ≡ length (sheet_bytes t)
+pub record FilledWith (t before after : List ℕ) (r : Result Filled Refusal) : Type 0 where
+  pub told : verdict_by (λ f. f.design) r ≡ check_of t
+  pub counted : IfOk r (λ f. f.length ≡ length (sheet_bytes t))
   pub text : after ≡ sheet_over t before

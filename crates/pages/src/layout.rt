@@ -1,17 +1,16 @@
 // The pages of a sheet: which row each call has, and where a page begins. A page is printed with all its lines of spaces when it begins, so
 // what stands at any time is the sheet of the calls so far.
-ghost use Rattle.std.specs.Prelude.{◌≡◌, ℕ, ◌+◌, ◌*◌, ◌<◌, List, ◌∷◌, length};
+ghost use Rattle.std.specs.Prelude.{◌≡◌, ℕ, ◌+◌, ◌*◌, ◌<◌, ◌≤◌, List, ◌∷◌, length};
 ghost use Rattle.std.proofs.lemmas.List.Edits.{sets};
 ghost use Rattle.list.specs.declared.Record.{Record};
-ghost use Rattle.list.specs.Records.{arranged, Arranged};
 ghost use Rattle.pages.specs.Rows as Rows;
 ghost use Rattle.pages.specs.Rows.{title, gaps, rows_of};
 ghost use Rattle.pages.specs.Lines.{lines_of};
-ghost use Rattle.pages.specs.Working.{Roomy, Stands};
+ghost use Rattle.pages.specs.Working.{number_of, Named, Called, Roomy, Stands};
 
 use crate::lines;
 use crate::lines::Text;
-use list::{Listing, Record};
+use list::Record;
 use table::Function;
 
 // How far the printing has come: pages begun, rows used, and the resource of the last call on the page, none where there is no call yet.
@@ -19,20 +18,18 @@ use table::Function;
 pub struct Reached {
     pub pages: usize,
     pub rows: usize,
-    pub last: Function,
+    pub last: Option<Function>,
 }
 
 // The lines of spaces that are due before a call of f.
-fn due(last: Function, f: Function) -> usize
-    ensures { result ≡ Rows.due last.0 f.0 }
+fn due(last: Option<Function>, f: Function) -> usize
+    requires { Named last }
+    ensures { result ≡ Rows.due (number_of last) f.0 }
 {
-    if last.0 == 0 {
-        return 0;
+    match last {
+        None => 0,
+        Some(g) => usize::from(g != f),
     }
-    if last.0 == f.0 {
-        return 0;
-    }
-    1
 }
 
 // Page k, from 0, with its title and nothing else.
@@ -42,10 +39,8 @@ fn begin(text: &mut Text, k: usize)
 {
     let first = 24 * k;
     lines::title(text, first, (k + 1) as u16);
-    let mut i: usize = 0;
-    while i < 23 {
+    for i in 0..23 {
         lines::blank(text, first + 1 + i);
-        i += 1;
     }
 }
 
@@ -65,7 +60,7 @@ fn add(text: &mut Text, w: Reached, r: Record) -> Reached
         return Reached {
             pages: w.pages,
             rows,
-            last: callee,
+            last: Some(callee),
         };
     }
     begin(text, w.pages);
@@ -75,28 +70,24 @@ fn add(text: &mut Text, w: Reached, r: Record) -> Reached
     Reached {
         pages,
         rows,
-        last: callee,
+        last: Some(callee),
     }
 }
 
-// The sheet of the records found, and how many bytes it has.
-pub(crate) fn print(table: &[u8], found: Listing, text: &mut Text) -> usize
-    requires { Arranged table.now found }
-    ensures { (result ≡ length (lines_of (rows_of (arranged table.now))))
-        × (text.new ≡ sets text.old 0 (lines_of (rows_of (arranged table.now)))) }
+// The sheet of some records, and how many bytes it has.
+pub(crate) fn print(records: &[Record], text: &mut Text) -> usize
+    requires { (length (rows_of records.now) ≤ 576) × Called records.now }
+    ensures { (result ≡ length (lines_of (rows_of records.now)))
+        × (text.new ≡ sets text.old 0 (lines_of (rows_of records.now))) }
 {
-    let count = found.count;
     begin(text, 0);
     let mut w = Reached {
         pages: 1,
         rows: 1,
-        last: Function(0),
+        last: None,
     };
-    let mut i: usize = 0;
-    while i < count {
-        let r = found.items[i];
-        w = add(text, w, r);
-        i += 1;
+    for r in records {
+        w = add(text, w, *r);
     }
     792 * w.pages
 }

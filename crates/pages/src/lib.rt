@@ -7,55 +7,43 @@ mod lines;
 ghost use Rattle.pages.specs.Sheet.{Printed, FilledWith};
 
 use crate::lines::Text;
-use table::Checked;
+use table::{Design, Refusal};
 
-// The bytes of a sheet, zeros after them, how many they are, and what the check of the table says; none where that is a refusal.
+// The bytes of a sheet, zeros after them, how many they are, and the design that the sheet is of.
 #[derive(Clone, Copy)]
 pub struct Sheet {
+    pub design: Design,
     pub text: Text,
     pub length: usize,
-    pub checked: Checked,
 }
 
-// How many bytes of a lent text were filled, and what the check of the table says.
-#[derive(Clone, Copy)]
+// How many bytes of a lent text were filled, and the design whose sheet they are.
+#[derive(Clone, Copy, PartialEq, Eq)]
 pub struct Filled {
+    pub design: Design,
     pub length: usize,
-    pub checked: Checked,
 }
 
 // The sheet of a table by value.
-pub fn sheet_of(table: &[u8]) -> Sheet
+pub fn sheet_of(table: &[u8]) -> Result<Sheet, Refusal>
     ensures { Printed table.now result }
 {
     let mut text = [0u8; 19008];
-    let filled = fill_sheet(table, &mut text);
-    let length = filled.length;
-    let checked = filled.checked;
-    Sheet {
+    let filled = fill_sheet(table, &mut text)?;
+    Ok(Sheet {
+        design: filled.design,
         text,
-        length,
-        checked,
-    }
+        length: filled.length,
+    })
 }
 
 // Fills a lent text with the sheet of a table from the front; bytes past the sheet keep their content, and all on a refusal.
-pub fn fill_sheet(table: &[u8], text: &mut Text) -> Filled
+pub fn fill_sheet(table: &[u8], text: &mut Text) -> Result<Filled, Refusal>
     ensures { FilledWith table.now text.old text.new result }
 {
-    let found = list::list_records(table);
-    let checked = found.checked;
-    match checked {
-        Checked::Refused(number, place) => Filled {
-            length: 0,
-            checked: Checked::Refused(number, place),
-        },
-        Checked::Accepted(main, last) => {
-            let length = layout::print(table, found, text);
-            Filled {
-                length,
-                checked: Checked::Accepted(main, last),
-            }
-        }
-    }
+    let found = list::list_records(table)?;
+    Ok(Filled {
+        design: found.design,
+        length: layout::print(&found.items[..found.count], text),
+    })
 }

@@ -16,11 +16,7 @@ fn lay(text: &mut Text, at: usize, bytes: &[u8])
     requires { at + length bytes.now ≤ 19008 }
     ensures { text.new ≡ sets text.old at bytes.now }
 {
-    let mut i: usize = 0;
-    while i < bytes.len() {
-        text[at + i] = bytes[i];
-        i += 1;
-    }
+    text[at..at + bytes.len()].copy_from_slice(bytes);
 }
 
 // The digit of n that a weight has, a space where n is less than the weight.

@@ -1,76 +1,59 @@
 // The lines that the program prints.
 ghost use Rattle.std.specs.Prelude.{◌≤◌};
 
-use circuit::types::{Answer, Ended};
+use circuit::types::{Answer, Ended, State};
 use std::io;
-use table::{Function, Node};
+use table::{Function, Node, Refusal};
 
-pub(crate) fn refused(rt: &impl Print, k: u8, place: Node) -> io::Result<()> {
-    println!(rt; "refused {k} {}", place.0)
-}
-
-fn answered(rt: &impl Print, v: u32) -> io::Result<()> {
-    println!(rt; "answered {v}")
-}
-
-// One line for an answer; 1 for a step that was taken.
-pub(crate) fn answer(rt: &impl Print, a: Answer) -> io::Result<u64> {
+// One line for an answer, and whether it was a step that was taken.
+pub(crate) fn answer(rt: &impl Print, a: Answer) -> io::Result<bool> {
     match a {
         Answer::Taken => {
             println!(rt; "taken")?;
-            Ok(1)
+            Ok(true)
         }
-        Answer::Answered(v) => {
-            answered(rt, v)?;
-            Ok(1)
+        Answer::Answered(value) => {
+            println!(rt; "answered {value}")?;
+            Ok(true)
         }
-        Answer::Refused(k, p) => {
-            refused(rt, k, p)?;
-            Ok(0)
+        Answer::Refused(reason, place) => {
+            println!(rt; "{}", Refusal { reason, place })?;
+            Ok(false)
         }
     }
 }
 
-pub(crate) fn ended(rt: &impl Print, e: Ended) -> io::Result<()> {
+pub(crate) fn ended(rt: &impl Print, e: Result<Ended, Refusal>) -> io::Result<()> {
     match e {
-        Ended::Answered(v) => answered(rt, v),
-        Ended::AtRest => println!(rt; "at rest"),
-        Ended::Spent => println!(rt; "spent"),
-        Ended::Refused(k, p) => refused(rt, k, p),
+        Ok(Ended::Answered(value)) => println!(rt; "answered {value}"),
+        Ok(Ended::AtRest) => println!(rt; "at rest"),
+        Ok(Ended::Spent) => println!(rt; "spent"),
+        Err(refusal) => println!(rt; "{refusal}"),
     }
-}
-
-// The node of a step that is taken.
-pub(crate) fn step(rt: &impl Print, n: Node) -> io::Result<()> {
-    println!(rt; "{}", n.0)
 }
 
 pub(crate) fn count(rt: &impl Print, n: u64) -> io::Result<()> {
     println!(rt; "steps {n}")
 }
 
-pub(crate) fn node(
-    rt: &impl Print,
-    n: Node,
-    status: u8,
-    second: bool,
-    value: u32,
-) -> io::Result<()> {
-    println!(rt; "node {} {status} {} {value}", n.0, second as u8)
+// The entries of node n.
+pub(crate) fn node(rt: &impl Print, s: &State, n: Node) -> io::Result<()>
+    requires { (1 ≤ n.0) × (n.0 ≤ 512) }
+{
+    let i = usize::from(n.0) - 1;
+    println!(rt;
+        "node {n} {} {} {}",
+        s.status[i], s.second[i] as u8, s.value[i]
+    )
 }
 
 // Function f, its occupant and its eight registers.
-pub(crate) fn function(
-    rt: &impl Print,
-    f: Function,
-    occupant: Node,
-    registers: &[u32; 256],
-) -> io::Result<()>
+pub(crate) fn function(rt: &impl Print, s: &State, f: Function) -> io::Result<()>
     requires { (1 ≤ f.0) × (f.0 ≤ 32) }
 {
-    print!(rt; "function {} {}", f.0, occupant.0)?;
-    let base = 8 * ((f.0 as usize) - 1);
-    for value in &registers[base..base + 8] {
+    let i = usize::from(f.0) - 1;
+    print!(rt; "function {f} {}", s.occupant[i])?;
+    for value in &s.registers[8 * i..8 * i + 8] {
         print!(rt; " {value}")?;
     }
     println!(rt; "")

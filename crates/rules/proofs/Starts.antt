@@ -9,7 +9,7 @@ use lib.ListN.{length}
 use borrow.Author.Tests.{ne_eqb}
 use Rattle.table.specs.Bytes.{functions, nodes, params}
 use Rattle.table.specs.Check.{Verdict, accepted, refused, stage, check_of}
-use Rattle.table.proofs.Tests.{true_T}
+use Rattle.table.proofs.Tests.{true_t}
 use Rattle.table.proofs.FindLaws.{same}
 use Rattle.table.proofs.Passed.{passes, passed, goes_on}
 use Rattle.list.specs.Tags.{Holding, after, tag_length, none_past, tags_refusal, tags_of, check_with, missing}
@@ -152,7 +152,7 @@ lacks_from t tags args n = go (check_with t tags) (with_not t tags 26 (omega ari
     by true zero q w e = absurd (let z : ◌≡◌ {A = ℕ} 0 1 = cc in omega arith)
     by true (suc m) q w e =
         let z : suc m ≡ n = cc in
-        (eqb→eq (length args) (params t (functions t)) (true_T _ q), w ∙ z, omega (arith, z))
+        (eqb→eq (length args) (params t (functions t)) (true_t _ q), w ∙ z, omega (arith, z))
 
     go : (c : Verdict) → Not 26 c → start_after (after c (told counted (missing t tags))) (opening t args) ≡ turned 26 n
         → ((F N : ℕ) × (c ≡ accepted F N)) × (length args ≡ params t (functions t)) × (missing t tags ≡ n) × (1 ≤ n)

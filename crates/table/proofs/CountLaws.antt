@@ -8,7 +8,7 @@ use native.Mathlib.Omega.{arith}
 use lib.Dec.{eqb, ltb}
 use lib.ListN.{length}
 use borrow.Author.Tests.{ne_eqb}
-use Rattle.table.proofs.Tests.{true_T}
+use Rattle.table.proofs.Tests.{true_t}
 use Rattle.table.specs.declared.Counts.{Counts}
 use Rattle.table.specs.Bytes.{functions, nodes, params, width, kind, extra, word, first}
 use Rattle.table.specs.Naming.{owner, tail, in_scope, chain, children}
@@ -86,5 +86,5 @@ module _ (t : List ℕ) (n k e w c o : ℕ) (ek : k ≡ kind t n) (ee : e ≡ ex
   unfolding callee_fits
   callee_in lk i h z =
       let q : among 1 (owner t n) (word t n) ≡ true = rw (sym ek ∙ z) at h in
-      let r = in_range 1 (owner t n) (word t n) (true_T (among 1 (owner t n) (word t n)) q) in
+      let r = in_range 1 (owner t n) (word t n) (true_t (among 1 (owner t n) (word t n)) q) in
       (omega (arith, ew, r.0), omega (arith, ew, r.1, (owner_in t lk n i).1))

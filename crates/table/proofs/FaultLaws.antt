@@ -1,17 +1,21 @@
 -- the nodes' part of the check, in one pass: the first number that a node meets, and the lowest of them
-use Prim.Native.Nat.{ℕ, zero, suc, ◌+◌, ◌≤◌, ◌<◌}
+use Prim.Native.Nat.{ℕ, zero, suc, ◌+◌, ◌-◌, ◌≤◌, ◌<◌}
 use mathlib.Core.Bool.{Bool, true, false}
-use mathlib.Core.Path.{◌≡◌, refl, sym, ap, ◌∙◌}
+use mathlib.Core.Path.{◌≡◌, refl, subst, sym, ap, ◌∙◌}
 use mathlib.Core.List.{List}
 use native.Mathlib.Omega.{arith}
 use native.Mathlib.Decide.{ℕ_discrete, dec_lt}
 use borrow.Author.Tests.{lt-ltb, le-ltb, eq-eqb, ne_eqb}
-use Rattle.table.specs.declared.faults.Fault.{Fault}
+use lib.Dec.{eqb}
+use Rattle.std.specs.Prelude.{Result, Ok, Err, IfErr, ⊤}
+use Rattle.table.specs.declared.refusals.Reason.{Reason}
+use Rattle.table.specs.declared.refusals.Refusal.{Refusal}
+use Rattle.table.specs.Refusals.{number_of}
 use Rattle.table.specs.Pick.{pick}
 use Rattle.table.specs.Bytes.{functions, nodes}
 use Rattle.table.specs.Find.{lowest}
 use Rattle.table.specs.Check.{Verdict, accepted, refused, stage, formed, callee_fits, counted, scoped, tailed, const_fits}
-use Rattle.table.specs.Working.{no_fault, test, fault_at, better, check_nodes, fault_verdict}
+use Rattle.table.specs.Working.{Fault, no_fault, test, fault_at, better, met_number, fault_of, check_nodes, fault_verdict}
 use Rattle.table.proofs.Loops.{lowest_more, lowest_here, lowest_kept}
 
 -- there is no number between 9 and 25
@@ -86,10 +90,10 @@ pub record Lowest (t : List ℕ) (n : ℕ) (b : Fault) : Type 0 where
   pub range : (5 ≤ b.number) × (b.number ≤ no_fault)
   pub numbered : Numbered b.number
   pub before : (j : ℕ) → 5 ≤ j → j < b.number → lowest (test t j) n ≡ 0
-  pub here : b.number < no_fault → lowest (test t b.number) n ≡ b.place.0
-  pub some : b.number < no_fault → 1 ≤ b.place.0
+  pub here : b.number < no_fault → lowest (test t b.number) n ≡ b.place
+  pub some : b.number < no_fault → 1 ≤ b.place
 
-pub lowest_start : (t : List ℕ) → Lowest t 0 (record { number = no_fault; place = record { 0 = 0 } })
+pub lowest_start : (t : List ℕ) → Lowest t 0 (record { number = no_fault; place = 0 })
 unfolding lowest
 lowest_start t = record {
   range = (omega arith, omega arith);
@@ -118,6 +122,21 @@ lowest_next t n k b h e = go (rw (← e) at (met t (n + 1))) (dec_lt k b.number)
       some = h.some;
     })
 
+-- a turn of the pass: node n, after those below it
+module _ (t : List ℕ) where
+  abbrev pub SoFar : ℕ → Result ⊤ Refusal → Type 0
+  SoFar n r = Lowest t n (fault_of r) × IfErr r (λ e. number_of e.reason < no_fault)
+
+  pub lowest_turn : (n : ℕ) (best r : Result ⊤ Refusal) (k : Result ⊤ Reason) → 1 ≤ n → SoFar (n - 1) best → met_number k ≡ fault_at t n
+      → fault_of r ≡ better (fault_of best) (met_number k) n
+      → (IfErr best (λ e. number_of e.reason < no_fault) → IfErr r (λ e. number_of e.reason < no_fault)) → SoFar n r
+  lowest_turn n best r k i h m e low =
+      let b : (n - 1) + 1 ≡ n = omega arith in (
+        rw e (subst (λ x. Lowest t x (better (fault_of best) (met_number k) x)) b
+            (lowest_next t (n - 1) (met_number k) (fault_of best) h.0 (m ∙ ap (fault_at t) (sym b)))),
+        low h.1,
+      )
+
 stage_on : (k p : ℕ) (rest : Unit {0} → Verdict) → p ≡ 0 → stage k true p rest ≡ rest tt
 unfolding stage
 stage_on k zero rest z = refl
@@ -128,8 +147,11 @@ unfolding stage
 stage_off k zero q rest e i = absurd (omega arith)
 stage_off k (suc p) q rest e i = ap (refused k) e
 
+abbrev told : List ℕ → Fault → Verdict
+told t b = pick (eqb b.number no_fault) (accepted (functions t) (nodes t)) (refused b.number b.place)
+
 -- so the pass gives what the numbers, one after the other, give
-pub lowest_check : (t : List ℕ) (b : Fault) → Lowest t (nodes t) b → fault_verdict t b ≡ check_nodes t
+lowest_check : (t : List ℕ) (b : Fault) → Lowest t (nodes t) b → told t b ≡ check_nodes t
 unfolding check_nodes test
 lowest_check t b h = sym (
     from 5 6 (omega arith, omega arith) _ (λ l. l) (
@@ -139,24 +161,30 @@ lowest_check t b h = sym (
     from 9 25 (omega arith, omega arith) _ h.numbered (
     from 25 no_fault (omega arith, omega arith) _ (λ l. l) none))))) h.range.0)
   where
-    none : no_fault ≤ b.number → accepted (functions t) (nodes t) ≡ fault_verdict t b
-    none l = sym (ap (λ x. pick x (accepted (functions t) (nodes t)) (refused b.number b.place.0))
+    none : no_fault ≤ b.number → accepted (functions t) (nodes t) ≡ told t b
+    none l = sym (ap (λ x. pick x (accepted (functions t) (nodes t)) (refused b.number b.place))
         (eq-eqb b.number no_fault (omega (arith, h.range.1))))
 
-    refusal : b.number < no_fault → fault_verdict t b ≡ refused b.number b.place.0
-    refusal l = ap (λ x. pick x (accepted (functions t) (nodes t)) (refused b.number b.place.0))
+    refusal : b.number < no_fault → told t b ≡ refused b.number b.place
+    refusal l = ap (λ x. pick x (accepted (functions t) (nodes t)) (refused b.number b.place))
         (ne_eqb b.number no_fault (λ z. omega arith))
 
     -- the check from number `low` on: it refuses there, or goes on from `high`
     from : (low high : ℕ) → (5 ≤ low) × (low < no_fault) → (rest : Unit {0} → Verdict) → (low < b.number → high ≤ b.number)
-        → (high ≤ b.number → rest tt ≡ fault_verdict t b) → low ≤ b.number
-        → stage low true (lowest (test t low) (nodes t)) rest ≡ fault_verdict t b
+        → (high ≤ b.number → rest tt ≡ told t b) → low ≤ b.number
+        → stage low true (lowest (test t low) (nodes t)) rest ≡ told t b
     from low high i rest next f l = go (ℕ_discrete b.number low)
       where
-        go : Dec (b.number ≡ low) → stage low true (lowest (test t low) (nodes t)) rest ≡ fault_verdict t b
+        go : Dec (b.number ≡ low) → stage low true (lowest (test t low) (nodes t)) rest ≡ told t b
         go (yes e) =
-            stage_off low (lowest (test t low) (nodes t)) b.place.0 rest (rw e at (h.here (omega (arith, i.1))))
+            stage_off low (lowest (test t low) (nodes t)) b.place rest (rw e at (h.here (omega (arith, i.1))))
             (h.some (omega (arith, i.1)))
-            ∙ ap (λ x. refused x b.place.0) (sym e) ∙ sym (refusal (omega (arith, i.1)))
+            ∙ ap (λ x. refused x b.place) (sym e) ∙ sym (refusal (omega (arith, i.1)))
         go (no e) =
             stage_on low (lowest (test t low) (nodes t)) rest (h.before low i.0 (omega arith)) ∙ f (next (omega arith))
+
+pub lowest_told : (t : List ℕ) (r : Result ⊤ Refusal) → SoFar t (nodes t) r → fault_verdict t r ≡ check_nodes t
+lowest_told t (Ok _) h = lowest_check t _ h.0
+lowest_told t (Err r) h =
+    sym (ap (λ x. pick x (accepted (functions t) (nodes t)) (refused (number_of r.reason) r.place.0))
+    (ne_eqb (number_of r.reason) no_fault (λ z. omega (arith, h.1, z)))) ∙ lowest_check t _ h.0

@@ -8,7 +8,7 @@ use native.Mathlib.Decide.{ℕ_discrete, dec_le}
 use lib.Dec.{eqb, leb, leb→le}
 use borrow.Author.Tests.{ne_eqb}
 use Rattle.table.specs.Check.{fields}
-use Rattle.table.proofs.Tests.{never, true_T}
+use Rattle.table.proofs.Tests.{never, true_t}
 use Rattle.table.proofs.FindLaws.{both}
 
 module _ (k e w c : ℕ) where
@@ -61,7 +61,7 @@ module _ (k e w c : ℕ) where
       go (no q) = never (sym (unknown (inr (omega arith))) ∙ h)
 
   pub operation_known : fields k e w c ≡ true → k ≡ 3 → e ≤ 10
-  operation_known h p = leb→le e 10 (both (leb e 10) (eqb w 0) (true_T (leb e 10 && eqb w 0) (sym (primitive p) ∙ h))).0
+  operation_known h p = leb→le e 10 (both (leb e 10) (eqb w 0) (true_t (leb e 10 && eqb w 0) (sym (primitive p) ∙ h))).0
 
   -- what the arms before leave
   pub past_four : 1 ≤ k → ((k ≡ 1) ⊎ (k ≡ 7) → ⊥) → (k ≡ 2 → ⊥) → (k ≡ 3 → ⊥) → (k ≡ 4 → ⊥) → 5 ≤ k

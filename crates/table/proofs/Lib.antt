@@ -18,6 +18,7 @@ pub mod SweepEnd
 pub mod NameLoops
 pub mod KinLoops
 pub mod FaultLaws
+pub mod Reasons
 pub mod SurveyLaws
 pub mod Reading
 pub mod Passed
@@ -38,6 +39,7 @@ pub mod Scopes
 pub mod ChainLoop
 pub mod CountLaws
 pub mod RuleLaws
+pub mod Turns
 pub mod Bodies
 pub mod LaidOut
 pub mod Widths

@@ -10,7 +10,7 @@ use lib.Dec.{eqb, ltb, leb}
 use lib.ListN.{length, get_or, set, replicate, length-set, get_or-eq_default}
 use lib.Seq.{get_or-set_same, get_or-set_other}
 use borrow.Author.Tests.{le-leb, lt-ltb, le-ltb, eq-eqb, ne_eqb, eqb-true, ltb-true}
-use Rattle.table.proofs.Tests.{true_T}
+use Rattle.table.proofs.Tests.{true_t}
 use Rattle.table.specs.Pick.{pick}
 use Rattle.table.specs.Find.{one, total, highest, lowest, all}
 use Rattle.table.specs.Working.{slot_of, ahead_of}
@@ -37,7 +37,7 @@ module _ (p : ℕ → Bool) where
   all_fails k i a b e = go (all p k) refl
     where
       go : (x : Bool) → all p k ≡ x → all p k ≡ false
-      go true q = absurd (rw e at (all_passes p k (true_T (all p k) q) i a b))
+      go true q = absurd (rw e at (all_passes p k (true_t (all p k) q) i a b))
       go false q = q
 
   pub lowest_more : (k : ℕ) → lowest p k ≡ 0 → p (k + 1) ≡ true → lowest p (k + 1) ≡ 0

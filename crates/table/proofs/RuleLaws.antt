@@ -1,39 +1,30 @@
 -- the rules that the sweep looks up by kind, and what they say of a node
 use Prim.Native.Nat.{ℕ, zero, suc, ◌+◌, ◌-◌, ◌*◌, ◌/◌, ◌%◌, ◌≤◌, ◌<◌}
 use mathlib.Core.Bool.{Bool, true, false, ◌||◌}
-use mathlib.Core.Path.{◌≡◌, sym, ap, ap₂, ◌∙◌}
+use mathlib.Core.Path.{◌≡◌, sym, ap, ◌∙◌}
 use mathlib.Core.List.{List}
 use native.Mathlib.Omega.{arith}
 use native.Mathlib.Decide.{ℕ_discrete}
-use native.Mathlib.Numerals.{add-one}
-use lib.Dec.{eqb, leb, eqb→eq}
-use lib.ListN.{get_or, set}
+use lib.Dec.{eqb, leb}
+use lib.ListN.{length, get_or, set}
+use lib.Seq.{get_or-set_same, get_or-set_other}
 use borrow.Author.Tests.{eq-eqb, ne_eqb, le-leb}
 use Rattle.table.specs.declared.Counts.{Counts}
 use Rattle.table.specs.declared.kinds.Rule.{Rule}
 use Rattle.table.specs.Pick.{pick}
-use Rattle.table.specs.Find.{one, all}
+use Rattle.table.specs.Find.{one}
 use Rattle.table.specs.Check.{between, among, fields, counts_of, operation_counts}
-use Rattle.table.specs.Sweep.{rule_of, rule_at, packed, rules_put, kind_rules, KindFits, tail_reach}
+use Rattle.table.specs.Sweep.{rule_of, packed, RulesOf, KindFits, tail_reach}
 use Rattle.table.proofs.CellLaws.{by_eight}
-use Rattle.table.proofs.FindLaws.{by_trying}
 use Rattle.table.proofs.CountLaws.{counts_by}
 
--- what is looked up is what the rule says, by trying all places
-pub rule_read : (k j : ℕ) → k < 8 → j < 8 → get_or (kind_rules 8) (8 * k + j) 0 ≡ rule_at k j
-unfolding all kind_rules rules_put counts_of operation_counts
-rule_read k j a b =
-    let kind : (8 * k + j) / 8 ≡ k = omega arith in
-    let place : (8 * k + j) % 8 ≡ j = omega arith in
-    eqb→eq _ _ (by_trying (λ i. eqb (get_or (kind_rules 8) i 0) (rule_at (i / 8) (i % 8))) 64 tt (8 * k + j) (omega arith))
-    ∙ ap₂ rule_at kind place
-
 -- one kind more
-pub rules_more : (k : ℕ) (l : List ℕ) (r : Rule) (x : ℕ) → l ≡ kind_rules k → r ≡ rule_of k → x ≡ packed (counts_of k 11 0)
-    → (let low = set (set (set (set l (8 * k + 0) r.extras) (8 * k + 1) r.parameter) (8 * k + 2) r.call) (8 * k + 3) r.reach in
-    set (set (set (set low (8 * k + 4) r.bound) (8 * k + 5) r.primitive) (8 * k + 6) r.words) (8 * k + 7) x ≡ kind_rules (k + 1))
-unfolding kind_rules rules_put
-rules_more k l r x el er ex = rw (el, er, ex) (sym (ap kind_rules (add-one k)))
+pub rules_more : (l : List Rule) (k : ℕ) (r : Rule) → k < length l → r ≡ rule_of k → RulesOf k l → RulesOf (k + 1) (set l k r)
+rules_more l k r b e h j none i = go (ℕ_discrete j k)
+  where
+    go : Dec (j ≡ k) → get_or (set l k r) j none ≡ rule_of j
+    go (yes q) = rw q (get_or-set_same l k r none b ∙ e)
+    go (no q) = get_or-set_other l k j r none q ∙ h j none (omega arith)
 
 -- what is left of the kinds below 8, as a match leaves it
 abbrev Not : ℕ → ℕ → Type 0
@@ -78,8 +69,8 @@ flag_times x (suc (suc y)) h = absurd (omega arith)
 
 -- the tests that are looked up are those of the kind
 abbrev Told : ℕ → Type 0
-Told k = (e w o p m q : ℕ) → 1 ≤ o → p ≤ 8 → q ≤ 1 → e < p * rule_at k 1 + rule_at k 0 → rule_at k 2 ≤ w
-    → w ≤ (o + q - 1) * rule_at k 2 + rule_at k 6 * m → KindFits k e w o p (m + 1) q
+Told k = (e w o p m q : ℕ) → 1 ≤ o → p ≤ 8 → q ≤ 1 → e < p * (rule_of k).parameter + (rule_of k).extras
+    → (rule_of k).call ≤ w → w ≤ (o + q - 1) * (rule_of k).call + (rule_of k).words * m → KindFits k e w o p (m + 1) q
 
 -- a node that is neither a call nor a parameter
 neither : (k e w o p m q : ℕ) → (k ≡ 4 → ⊥) → (k ≡ 2 → ⊥) → (k ≡ 1 → w ≤ m) → fields k e w 0 ≡ true → e < 16 → KindFits k e w o p (m + 1) q
@@ -126,9 +117,9 @@ fits_rules = by_eight Told
     none : (x : ℕ) → x ≤ 0 → eqb x 0 ≡ true
     none x h = eq-eqb x 0 (omega arith)
 
-pub fits_told : (k e w o p m q a b c : ℕ) → k < 8 → a ≡ rule_at k 1 → b ≡ rule_at k 0 → c ≡ rule_at k 2 → 1 ≤ o → p ≤ 8 → q ≤ 1
-    → e < p * a + b → c ≤ w → w ≤ (o + q - 1) * rule_at k 2 + rule_at k 6 * m → KindFits k e w o p (m + 1) q
-fits_told k e w o p m q a b c i ea eb ec j l n x y z = fits_rules k i e w o p m q j l n (rw (ea, eb) at x) (rw ec at y) z
+pub fits_told : (k e w o p m q : ℕ) (r : Rule) → k < 8 → r ≡ rule_of k → 1 ≤ o → p ≤ 8 → q ≤ 1 → e < p * r.parameter + r.extras
+    → r.call ≤ w → w ≤ (o + q - 1) * (rule_of k).call + (rule_of k).words * m → KindFits k e w o p (m + 1) q
+fits_told k e w o p m q r i er j l n x y z = fits_rules k i e w o p m q j l n (rw er at x) (rw er at y) z
 
 -- so few children that two numbers of them are one
 abbrev pub Few : Counts → Type 0
@@ -156,23 +147,18 @@ counts_few k e = go (eqb k 3) (eqb k 4) (eqb k 5) (eqb k 6)
     go false false false true = (omega arith, omega arith)
     go false false false false = (omega arith, omega arith)
 
--- every number of a kind is small
-pub rule_small : (k j : ℕ) → rule_at k j ≤ 4097
-rule_small k j =
-    let eleven : 11 ≤ 4097 = omega arith in
-    let most : 512 ≤ 4097 = omega arith in
-    let reach : (rule_of k).reach ≤ 4097 = omega (arith, reach_most k, one_most (eqb k 6)) in
-    let counts : packed (counts_of k 11 0) ≤ 4097 = omega (arith, counts_few k 11) in
-    under (eqb j 0) (under (eqb k 3) eleven (flag (eqb k 1 || among 4 7 k))) (under (eqb j 1) (flag (eqb k 2))
-    (under (eqb j 2) (flag (eqb k 4)) (under (eqb j 3) reach (under (eqb j 4) (flag (eqb k 7)) (under (eqb j 5) (flag (eqb k 3))
-    (under (eqb j 6) (under (eqb k 7) most (flag (eqb k 1))) counts))))))
-  where
-    under : (b : Bool) {x y : ℕ} → x ≤ 4097 → y ≤ 4097 → pick b x y ≤ 4097
-    under true f g = f
-    under false f g = g
+-- what a kind's numbers are at most
+pub record Small (r : Rule) : Type 0 where
+  pub reach : r.reach ≤ 4097
+  pub primitive : r.primitive ≤ 1
+  pub counts : r.counts ≤ 4097
 
-    flag : (b : Bool) → one b ≤ 4097
-    flag b = omega (arith, one_most b)
+pub rule_small : (k : ℕ) (r : Rule) → r ≡ rule_of k → Small r
+rule_small k r e = rw e (record {
+  reach = omega (arith, reach_most k, one_most (eqb k 6));
+  primitive = one_most (eqb k 3);
+  counts = omega (arith, counts_few k 11);
+})
 
 -- a primitive has its operation's counts
 counts_packed : (k e : ℕ) → packed (counts_of k 11 0) + packed (operation_counts e) * one (eqb k 3) ≡ packed (counts_of k e 0)

@@ -1,5 +1,5 @@
 -- the lets around a node: a bound in the body of one sees its definientia
-use Prim.Native.Nat.{ℕ, zero, suc, ◌+◌, ◌≤◌, ◌<◌}
+use Prim.Native.Nat.{ℕ, zero, suc, ◌+◌, ◌≤◌}
 use mathlib.Core.Bool.{Bool, true, false, ◌&&◌, ◌||◌, not}
 use mathlib.Core.Path.{◌≡◌, refl, subst, sym, ap, ◌∙◌}
 use mathlib.Core.List.{List}
@@ -7,7 +7,6 @@ use mathlib.Core.Logic.{◌⊎◌, inl, inr, ⊎_elim}
 use native.Mathlib.Omega.{arith}
 use native.Mathlib.Decide.{ℕ_discrete}
 use lib.Dec.{T, eqb, eqb→eq}
-use lib.ListN.{get_or}
 use borrow.Author.Tests.{eq-eqb, ne_eqb}
 use Rattle.table.specs.Pick.{pick}
 use Rattle.table.specs.Find.{one}
@@ -15,7 +14,7 @@ use Rattle.table.specs.Bytes.{kind, word, next}
 use Rattle.table.specs.Naming.{parent, under_last, definiens, in_scope}
 use Rattle.table.specs.Sweep.{around, is_let, Encloses, Outward, bound_fits}
 use Rattle.table.proofs.FindLaws.{both, either, pair, orl, orr, same}
-use Rattle.table.proofs.Tests.{true_T, never, and_no}
+use Rattle.table.proofs.Tests.{true_t, never, and_no}
 use Rattle.table.proofs.Family.{parent_lower}
 use Rattle.table.proofs.Scopes.{under_step, under_zero}
 use Rattle.table.proofs.SiftLaws.{around_step, around_none}
@@ -56,7 +55,7 @@ module _ (t : List ℕ) where
           → T ((eqb (parent t n) (around t n) && eqb (next t n) 0) || under_last t (around t n) (parent t n))
       by i true true eb ec e f = orl (eqb (parent t n) (around t n) && eqb (next t n) 0) (under_last t (around t n) (parent t n))
           (pair (eqb (parent t n) (around t n)) (eqb (next t n) 0)
-          (same (parent t n) (around t n) (sym e)) (true_T (eqb (next t n) 0) ec))
+          (same (parent t n) (around t n) (sym e)) (true_t (eqb (next t n) 0) ec))
       by i true false eb ec e f = outer e f
       by i false c eb ec e f = outer e f
 
@@ -141,16 +140,7 @@ four_hits a b c d p x y z w ex ey ez ew h = go (ℕ_discrete a p) (ℕ_discrete 
         let m = ew ∙ ap one (ne_eqb d p k) in
         never (sym (ap not (eq-eqb (x + y + z + w) 0 (omega (arith, i, j, l, m)))) ∙ h)
 
--- a bound that is in scope fits, and so do those before it
+-- a bound that is in scope fits
 pub bound_in : (t : List ℕ) (n : ℕ) → T (in_scope t (word t n) n) → T (bound_fits t n)
 unfolding bound_fits
 bound_in t n h = orr (not (eqb (kind t n) 7)) (in_scope t (word t n) n) h
-
-pub one_more_lem : (t bounds : List ℕ) (i : ℕ) → T (bound_fits t (get_or bounds i 0))
-    → ((j : ℕ) → j < i → T (bound_fits t (get_or bounds j 0)))
-    → (j : ℕ) → j < i + 1 → T (bound_fits t (get_or bounds j 0))
-one_more_lem t bounds i h f j l = go (ℕ_discrete j i)
-  where
-    go : Dec (j ≡ i) → T (bound_fits t (get_or bounds j 0))
-    go (yes e) = rw e h
-    go (no e) = f j (omega arith)

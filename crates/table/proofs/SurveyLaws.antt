@@ -6,13 +6,12 @@ use mathlib.Core.List.{List}
 use native.Mathlib.Omega.{arith}
 use lib.Dec.{leb, eqb→eq}
 use lib.ListN.{length}
-use borrow.Author.Tests.{le-leb, eq-eqb, ne_eqb}
-use Rattle.table.proofs.Tests.{true_T}
-use Rattle.table.specs.declared.Function.{Function}
-use Rattle.table.specs.declared.Node.{Node}
-use Rattle.table.specs.declared.faults.Fault.{Fault}
-use Rattle.table.specs.declared.Checked.{Checked}
-use Rattle.table.specs.declared.Checked.TheVariants.{Accepted, Refused}
+use borrow.Author.Tests.{le-leb, eq-eqb}
+use Rattle.table.proofs.Tests.{true_t}
+use Rattle.std.proofs.Common.{Result, Ok, Err}
+use Rattle.table.specs.declared.Design.{Design}
+use Rattle.table.specs.declared.refusals.Reason.{Reason}
+use Rattle.table.specs.declared.refusals.Refusal.{Refusal}
 use Rattle.table.specs.Pick.{pick}
 use Rattle.table.specs.Bytes.{functions, nodes, root}
 use Rattle.table.specs.Find.{all, lowest}
@@ -31,23 +30,14 @@ use Rattle.table.specs.Check.{
   check_of,
 }
 use Rattle.table.specs.Working.{Framed, Linked, Taken, Decoded, Kindred, Settles, Read, frame_number}
-use Rattle.table.specs.Working.{no_fault, check_nodes, fault_verdict}
+use Rattle.table.specs.Working.{check_nodes}
+use Rattle.table.specs.Refusals.{number_of}
 use Rattle.table.specs.Survey.{verdict_of}
 use Rattle.table.specs.Decoded.{decoded_into, surveyed}
 use Rattle.table.proofs.FindLaws.{both, all_passes, lowest_passes}
 use Rattle.table.proofs.Passed.{in_range, params_small, kind_small, passed}
 use Rattle.table.proofs.DecodedLaws.{Small, decoded_read}
-
--- what the nodes' part found
-pub fault_refused : (t : List ℕ) (r : Fault) → fault_verdict t r ≡ check_nodes t → (r.number ≡ no_fault → ⊥) → check_nodes t ≡ refused
-    r.number r.place.0
-fault_refused t r e z = sym e ∙ ap (λ x. pick x (accepted (functions t) (nodes t)) (refused r.number r.place.0))
-    (ne_eqb r.number no_fault z)
-
-pub fault_none : (t : List ℕ) (r : Fault) → fault_verdict t r ≡ check_nodes t → r.number ≡ no_fault → check_nodes t ≡ accepted (functions t)
-    (nodes t)
-fault_none t r e z = sym e ∙ ap (λ x. pick x (accepted (functions t) (nodes t)) (refused r.number r.place.0))
-    (eq-eqb r.number no_fault z)
+use Rattle.table.proofs.Reasons.{reason_apart}
 
 -- the first three numbers
 abbrev Sizes : List ℕ → Type 0
@@ -69,10 +59,10 @@ pub framed : (t : List ℕ) → frame_number t ≡ 0 → Framed t
 unfolding sizes whole
 framed t e =
     let s = right_size t e in
-    let b = both (among 1 32 (functions t)) (among 1 512 (nodes t)) (true_T (sizes t) s.1) in
+    let b = both (among 1 32 (functions t)) (among 1 512 (nodes t)) (true_t (sizes t) s.1) in
     let f = in_range 1 32 (functions t) b.0 in
     let n = in_range 1 512 (nodes t) b.1 in
-    record { f_low = f.0; f_high = f.1; n_low = n.0; n_high = n.1; size = eqb→eq _ _ (true_T (whole t) s.2) }
+    record { f_low = f.0; f_high = f.1; n_low = n.0; n_high = n.1; size = eqb→eq _ _ (true_t (whole t) s.2) }
 
 pub frame_refused : (t : List ℕ) (k : ℕ) → k ≡ frame_number t → (k ≡ 0 → ⊥) → check_of t ≡ refused k 0
 unfolding frame_number check_of stage
@@ -130,25 +120,32 @@ module _ (t : List ℕ) (fr : Framed t) where
   pub links_pass : fits ≡ true → unlinked ≡ 0 → Linked t
   unfolding root_fits
   links_pass e f = record {
-    roots = λ g i. in_range 1 (nodes t) (root t g) (all_passes (root_fits t) (functions t) (true_T fits e) g i.0 i.1);
+    roots = λ g i. in_range 1 (nodes t) (root t g) (all_passes (root_fits t) (functions t) (true_t fits e) g i.0 i.1);
     links = λ n i. lowest_passes (linked t) (nodes t) f n i.0 i.1;
   }
 
 -- an equation on the verdict fixes the whole answer
-pub verdict_apart : (a b : Checked) → verdict_of a ≡ verdict_of b → a ≡ b
-verdict_apart (Accepted f n) (Accepted g m) e = let p : f.0 ≡ g.0 = cc in let q : n.0 ≡ m.0 = cc in λ i. Accepted (record { 0 = p i })
-    (record { 0 = q i })
-verdict_apart (Accepted f n) (Refused k p) e = absurd (let z : ◌≡◌ {A = ℕ} 0 1 = cc in omega arith)
-verdict_apart (Refused k p) (Accepted f n) e = absurd (let z : ◌≡◌ {A = ℕ} 0 1 = cc in omega arith)
-verdict_apart (Refused k p) (Refused j q) e = let x : k ≡ j = cc in let y : p.0 ≡ q.0 = cc in λ i. Refused (x i) (record { 0 = y i })
+pub verdict_apart : (a b : Result Design Refusal) → verdict_of a ≡ verdict_of b → a ≡ b
+verdict_apart (Ok d) (Ok c) e = let p : d.main.0 ≡ c.main.0 = cc in let q : d.last.0 ≡ c.last.0 = cc in
+    λ i. Ok (record { main = record { 0 = p i }; last = record { 0 = q i } })
+verdict_apart (Ok d) (Err r) e = absurd (let z : ◌≡◌ {A = ℕ} 0 1 = cc in omega arith)
+verdict_apart (Err r) (Ok d) e = absurd (let z : ◌≡◌ {A = ℕ} 0 1 = cc in omega arith)
+verdict_apart (Err r) (Err s) e =
+    let x : number_of r.reason ≡ number_of s.reason = cc in
+    let y : r.place.0 ≡ s.place.0 = cc in
+    let z = reason_apart r.reason s.reason x in
+    λ i. Err (record { reason = z i; place = record { 0 = y i } })
 
 -- the check's answer, with kin that is nothing where it is a refusal
-pub refuses : (t kin : List ℕ) (k : ℕ) (p : Node) → check_of t ≡ refused k p.0 → Settles t (Refused k p) kin
-refuses t kin k p e = record { told = sym e; kindred = λ q. absurd (let z : ◌≡◌ {A = ℕ} 0 1 = cc in omega arith) }
+pub refuses : (t kin : List ℕ) (r : Refusal) → check_of t ≡ refused (number_of r.reason) r.place.0 → Settles t (Err r) kin
+refuses t kin r e = record { told = sym e; kindred = λ q. absurd (let z : ◌≡◌ {A = ℕ} 0 1 = cc in omega arith) }
 
-pub accepts : (t kin : List ℕ) (f : Function) (n : Node) → Taken t → f.0 ≡ functions t → n.0 ≡ nodes t → Kindred t kin
-    → Settles t (Accepted f n) kin
-accepts t kin f n e ef en h = record { told = ap₂ accepted ef en ∙ sym e; kindred = λ q. h }
+pub refuses_at : (t kin : List ℕ) (k : Reason) (r : Refusal) → r ≡ record { reason = k; place = record { 0 = 0 } }
+    → check_of t ≡ refused (number_of k) 0 → Settles t (Err r) kin
+refuses_at t kin k r e h = rw e (refuses t kin (record { reason = k; place = record { 0 = 0 } }) h)
+
+pub accepts : (t kin : List ℕ) (d : Design) → Taken t → d.main.0 ≡ functions t → d.last.0 ≡ nodes t → Kindred t kin → Settles t (Ok d) kin
+accepts t kin d e ef en h = record { told = ap₂ accepted ef en ∙ sym e; kindred = λ q. h }
 
 -- an accepted table: its answer names F and N, and its records can be read
 pub taken_by : (t : List ℕ) (F N : ℕ) → accepted F N ≡ check_of t → Taken t × (F ≡ functions t) × (N ≡ nodes t)
@@ -180,10 +177,10 @@ unfolding surveyed
 surveyed_out t cells k p e = ap (λ v. if_accepted v (decoded_into t cells) cells) e
 
 -- what a survey says: an accepted table can be read
-pub survey_taken : (t cells cells' : List ℕ) (r : Checked) (f : Function) (n : Node) → length cells ≡ 3270 → verdict_of r ≡ check_of t
-    → cells' ≡ surveyed t cells → r ≡ Accepted f n → Read t cells' × (f.0 ≡ functions t) × (n.0 ≡ nodes t)
+pub survey_taken : (t cells cells' : List ℕ) (r : Result Design Refusal) (d : Design) → length cells ≡ 3270 → verdict_of r ≡ check_of t
+    → cells' ≡ surveyed t cells → r ≡ Ok d → Read t cells' × (d.main.0 ≡ functions t) × (d.last.0 ≡ nodes t)
 unfolding surveyed
-survey_taken t cells cells' r f n size told q e =
-    let k = taken_by t f.0 n.0 (sym (ap verdict_of e) ∙ told) in
+survey_taken t cells cells' r d size told q e =
+    let k = taken_by t d.main.0 d.last.0 (sym (ap verdict_of e) ∙ told) in
     let into = q ∙ ap (λ v. if_accepted v (decoded_into t cells) cells) k.0 in
     (record { taken = k.0; told = subst (Decoded t) (sym into) (decoded_read t cells (taken_small t k.0) size) }, k.1, k.2)

@@ -15,7 +15,7 @@ use Rattle.table.specs.Check.{among, root_fits, linked, record_fits, fields, for
 use Rattle.table.specs.Check.{const_fits}
 use Rattle.table.specs.Working.{IsNode, Framed, Taken, check_nodes}
 use Rattle.table.specs.Sweep.{RootsFit, Whole, NodeFits, bound_fits, BoundsFit}
-use Rattle.table.proofs.Tests.{true_T, T_true}
+use Rattle.table.proofs.Tests.{true_t, T_true}
 use Rattle.table.proofs.FindLaws.{both, pair, passes_lowest, passes_all}
 use Rattle.table.proofs.Passed.{goes_on}
 use Rattle.table.proofs.SurveyLaws.{nodes_checked}
@@ -47,7 +47,7 @@ module _ (t : List ℕ) (fr : Framed t) (wh : Whole t) (rf : RootsFit t (functio
 
   formed_all : (n : ℕ) → IsNode t n → T (formed t n)
   unfolding formed counts_of
-  formed_all n i = true_T (formed t n) (leaf_or (kind t n) (extra t n) (word t n) (first t n)
+  formed_all n i = true_t (formed t n) (leaf_or (kind t n) (extra t n) (word t n) (first t n)
       (λ e. childless n 1 i e refl) (λ e. childless n 2 i e refl) (λ e. childless n 7 i e refl) (fits n i).fits.shaped)
 
   callees_all : (n : ℕ) → IsNode t n → T (callee_fits t n)

@@ -10,8 +10,10 @@ pub mod Environment
 pub mod Well
 pub mod Reach
 pub mod Decoded
+pub mod Refusals
 pub mod Survey
 pub mod Working
+pub mod Bundle
 pub mod Sweep
 pub mod Designs
 pub mod WidthDesigns

@@ -1,12 +1,10 @@
 -- what the parts of the sweep ask of each other, no part of what a reader must believe: in four loops the sweep tells that a table is
 -- accepted, and leaves what it does not pass to the check
-use Rattle.std.specs.Prelude.{ℕ, zero, suc, ◌+◌, ◌*◌, ◌/◌, ◌%◌, ◌^◌, ◌≤◌, ◌<◌, Bool, true, ◌&&◌, ◌||◌, not, ◌≡◌, List, T, eqb, length}
-use Rattle.std.specs.Prelude.{get_or, set, replicate}
+use Rattle.std.specs.Prelude.{ℕ, ◌+◌, ◌*◌, ◌/◌, ◌%◌, ◌^◌, ◌≤◌, ◌<◌, Bool, true, ◌&&◌, ◌||◌, not, ◌≡◌, List, T, eqb, length}
+use Rattle.std.specs.Prelude.{get_or, set}
 use Rattle.table.specs.declared.Counts.{Counts}
 use Rattle.table.specs.declared.kinds.Rule.{Rule}
 use Rattle.table.specs.declared.sweep.Sifting.{Sifting}
-use Rattle.table.specs.declared.sweep.Residue.{Residue}
-use Rattle.table.specs.declared.sweep.Residue.TheVariants.{Passed, Failed}
 use Rattle.table.specs.Pick.{pick, Range}
 use Rattle.table.specs.Bytes.{functions, nodes, params, width, root, kind, extra, word, first, next}
 use Rattle.table.specs.Find.{one, total, highest, back}
@@ -178,12 +176,13 @@ pub record Sifted (t kin kids wanted offspring bounds : List ℕ) (count : ℕ) 
   pub handed : Whole t → HandedDown t offspring
   pub bounded : BoundsTo t (nodes t) bounds count
 
-abbrev pub SiftedBy : (t kin kids wanted offspring bounds : List ℕ) → Residue → Type 0
-SiftedBy t kin kids wanted offspring bounds (Passed count) = Sifted t kin kids wanted offspring bounds count
-SiftedBy t kin kids wanted offspring bounds Failed = Unit {0}
+-- the fewest children, and 256 times the most
+abbrev pub packed : Counts → ℕ
+packed c = c.low + 256 * c.high
 
 -- what a kind asks, as `fields` and 25 have it, and tells its children: 1 is yes; a parameter's extra and a call's word are asked for
--- elsewhere; a bound's word is at most 512, so that no width stands in its way
+-- elsewhere; a bound's word is at most 512, so that no width stands in its way; its numbers of children are none of a primitive, whose
+-- operation tells, or a call, whose callee does
 abbrev pub rule_of : (kind : ℕ) → Rule
 rule_of k = record {
   extras = pick (eqb k 3) 11 (one (eqb k 1 || among 4 7 k));
@@ -193,30 +192,9 @@ rule_of k = record {
   bound = one (eqb k 7);
   primitive = one (eqb k 3);
   words = pick (eqb k 7) 512 (one (eqb k 1));
+  counts = packed (counts_of k 11 0);
 }
 
--- the fewest children, and 256 times the most
-abbrev pub packed : Counts → ℕ
-packed c = c.low + 256 * c.high
-
--- eight numbers of a kind, the last its numbers of children: none of a primitive, whose operation tells, or a call, whose callee does
-abbrev pub rule_at : (kind j : ℕ) → ℕ
-rule_at k j =
-    pick (eqb j 0) (rule_of k).extras
-    (pick (eqb j 1) (rule_of k).parameter
-    (pick (eqb j 2) (rule_of k).call
-    (pick (eqb j 3) (rule_of k).reach
-    (pick (eqb j 4) (rule_of k).bound
-    (pick (eqb j 5) (rule_of k).primitive
-    (pick (eqb j 6) (rule_of k).words
-    (packed (counts_of k 11 0))))))))
-
--- the first j of kind k's eight numbers put in their places
-unfoldable pub rules_put : (j k : ℕ) → List ℕ → List ℕ
-rules_put zero k l = l
-rules_put (suc j) k l = set (rules_put j k l) (8 * k + j) (rule_at k j)
-
--- the rules of the kinds below k, each in its place
-unfoldable pub kind_rules : ℕ → List ℕ
-kind_rules zero = replicate 64 0
-kind_rules (suc k) = rules_put 8 k (kind_rules k)
+-- the rules of the kinds below k, by kind
+abbrev pub RulesOf : ℕ → List Rule → Type 0
+RulesOf k l = (j : ℕ) (none : Rule) → j < k → get_or l j none ≡ rule_of j

@@ -1,9 +1,13 @@
 -- what the parts of the check ask of each other: the sizes, the links, and the arrays filled in ascending order of the nodes
 use Rattle.std.specs.Prelude.{ℕ, ◌+◌, ◌-◌, ◌*◌, ◌/◌, ◌%◌, ◌≤◌, ◌<◌, Bool, true, false, ◌&&◌, ◌||◌, ◌≡◌, List, T, eqb, ltb, leb, length}
 use Rattle.std.specs.Prelude.{get_or}
-use Rattle.table.specs.declared.Checked.{Checked}
+use Rattle.std.specs.Prelude.{Option, MatchOption, Result, Ok, Err, ⊤}
+use Rattle.table.specs.declared.Node.{Node}
+use Rattle.table.specs.declared.Design.{Design}
+use Rattle.table.specs.declared.refusals.Reason.{Reason}
+use Rattle.table.specs.declared.refusals.Refusal.{Refusal}
+use Rattle.table.specs.Refusals.{number_of}
 use Rattle.table.specs.Survey.{verdict_of}
-use Rattle.table.specs.declared.faults.Fault.{Fault}
 use Rattle.table.specs.Pick.{pick}
 use Rattle.table.specs.Bytes.{functions, nodes, root, kind, extra, word}
 use Rattle.table.specs.Find.{one, total, lowest}
@@ -76,6 +80,11 @@ pub record Filled (t : List ℕ) (f n m : ℕ) (cells : List ℕ) : Type 0 where
 unfoldable pub frame_number : List ℕ → ℕ
 frame_number t = pick (leb 4 (length t)) (pick (sizes t) (pick (whole t) 0 3) 2) 1
 
+-- 0 where the sizes are right
+abbrev pub first_number : Result ⊤ Reason → ℕ
+first_number (Ok _) = 0
+first_number (Err r) = number_of r
+
 -- what the numbers 1 to 4 ensure: owner, parent and children can be read
 pub record Linked (t : List ℕ) : Type 0 where
   pub roots : (f : ℕ) → IsFunction t f → IsNode t (root t f)
@@ -101,6 +110,10 @@ Tops t r = (n : ℕ) → IsNode t n → get_or r n 0 ≡ root_of t n
 pub record Rooted (t m r : List ℕ) : Type 0 where
   pub mentioned : Mentioned t m
   pub tops : Tops t r
+
+-- a node that is the lowest to fail a test, if one does
+abbrev pub IsLowest : Option Node → ℕ → Type 0
+IsLowest r n = MatchOption r (n ≡ 0) (λ place. (n ≡ place.0) × (1 ≤ place.0))
 
 -- 4 at a node, by its links, the number of its mentions and the function whose root it is
 abbrev pub linked_by : (n first next mentions root last : ℕ) → Bool
@@ -136,13 +149,26 @@ pub record NodeAt (t cells : List ℕ) (n k e w : ℕ) : Type 0 where
   pub extras : e ≡ extra t n
   pub worded : w ≡ word t n
 
+-- a number that nodes are refused for, and the lowest node that meets it
+pub record Fault : Type 0 where
+  pub number : ℕ
+  pub place : ℕ
+
 -- the lower number; of one number the node that came first
 abbrev pub better : Fault → ℕ → ℕ → Fault
-better b k n = pick (ltb k b.number) (record { number = k; place = record { 0 = n } }) b
+better b k n = pick (ltb k b.number) (record { number = k; place = n }) b
 
 -- past the last number that a node can be refused for: it meets none
 abbrev pub no_fault : ℕ
 no_fault = 26
+
+abbrev pub met_number : Result ⊤ Reason → ℕ
+met_number (Ok _) = no_fault
+met_number (Err r) = number_of r
+
+abbrev pub fault_of : Result ⊤ Refusal → Fault
+fault_of (Ok _) = record { number = no_fault; place = 0 }
+fault_of (Err r) = record { number = number_of r.reason; place = r.place.0 }
 
 -- the tests of the numbers 5 to 9, then 25, at a node; there is none between
 unfoldable pub test : List ℕ → ℕ → ℕ → Bool
@@ -172,8 +198,9 @@ check_nodes t =
     stage 25 true (lowest (const_fits t) (nodes t)) λ _.
     accepted (functions t) (nodes t)
 
-abbrev pub fault_verdict : List ℕ → Fault → Verdict
-fault_verdict t r = pick (eqb r.number no_fault) (accepted (functions t) (nodes t)) (refused r.number r.place.0)
+abbrev pub fault_verdict : List ℕ → Result ⊤ Refusal → Verdict
+fault_verdict t (Ok _) = accepted (functions t) (nodes t)
+fault_verdict t (Err r) = refused (number_of r.reason) r.place.0
 
 -- of each node its function and parent in one number
 pub record Kindred (t kin : List ℕ) : Type 0 where
@@ -182,7 +209,7 @@ pub record Kindred (t kin : List ℕ) : Type 0 where
   pub parents : (n : ℕ) → IsNode t n → get_or kin n 0 / 64 % 1024 ≡ parent t n
 
 -- the check's answer, and what it leaves where the table is accepted
-pub record Settles (t : List ℕ) (r : Checked) (kin : List ℕ) : Type 0 where
+pub record Settles (t : List ℕ) (r : Result Design Refusal) (kin : List ℕ) : Type 0 where
   pub told : verdict_of r ≡ check_of t
   pub kindred : Taken t → Kindred t kin
 

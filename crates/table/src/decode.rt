@@ -1,5 +1,5 @@
 // Records of a table of the right size put into their slots.
-ghost use Rattle.std.specs.Prelude.{◌≡◌, ◌+◌, ◌*◌, ◌/◌, ◌%◌, ◌<◌, length};
+ghost use Rattle.std.specs.Prelude.{◌≡◌, ◌+◌, ◌/◌, ◌%◌, ◌<◌, length};
 ghost use Rattle.table.specs.Naming.{owner, parent};
 ghost use Rattle.table.specs.Bytes.{two_at, functions};
 ghost use Rattle.table.specs.Decoded.{
@@ -18,25 +18,12 @@ ghost use Rattle.table.specs.Working.{Framed, IsFunction, At, Kindred};
 use crate::decoded::Cells;
 use crate::{Function, Node, decoded, frame};
 
-pub(crate) fn wide(x: u8) -> u16
-    ensures { result ≡ x }
-{
-    x as u16
-}
-
-// The number of two bytes, the lower one first.
-pub(crate) fn two(low: u8, high: u8) -> u16
-    ensures { result ≡ low + 256 * high }
-{
-    (low as u16) + 256 * (high as u16)
-}
-
-// The two bytes at a place that is inside.
+// The number of the two bytes at a place that is inside, the lower one first.
 pub(crate) fn two_at(table: &[u8], at: usize) -> u16
     requires { at + 1 < length table.now }
     ensures { result ≡ two_at table.now at }
 {
-    two(table[at], table[at + 1])
+    u16::from_le_bytes([table[at], table[at + 1]])
 }
 
 // F and N.
@@ -63,8 +50,7 @@ pub(crate) fn node(table: &[u8], base: usize, n: Node, cells: &mut Cells)
     requires { At table.now base n.0 }
     ensures { cells.new ≡ put_numbers 5 (node_slot n.0) (node_number table.now n.0) cells.old }
 {
-    let k = n.0 as usize;
-    let at = base + 10 * k - 10;
+    let at = base + 10 * (n.0 as usize) - 10;
     let kind = two_at(table, at);
     let low = two_at(table, at + 2);
     let high = two_at(table, at + 4);
@@ -92,10 +78,7 @@ fn functions(table: &[u8], main: Function, cells: &mut Cells)
     requires { Framed table.now × (main.0 ≡ functions table.now) }
     ensures { cells.new ≡ functions_put table.now (functions table.now) cells.old }
 {
-    let end = main.0;
-    let mut f: u16 = 0;
-    while f < end {
-        f += 1;
+    for f in 1..=main.0 {
         function(table, Function(f), cells);
     }
 }
@@ -108,10 +91,7 @@ pub(crate) fn fill(table: &[u8], kin: &[u32; 513], cells: &mut Cells)
     sizes(table, cells);
     functions(table, frame::last_function(table), cells);
     let base = frame::base(table);
-    let end = frame::last_node(table).0;
-    let mut n: u16 = 0;
-    while n < end {
-        n += 1;
+    for n in 1..=frame::last_node(table).0 {
         whole(table, base, Node(n), kin[n as usize], cells);
     }
 }

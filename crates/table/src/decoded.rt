@@ -5,11 +5,20 @@
 // function's reads another's slot.
 ghost use Rattle.std.specs.Prelude.{◌≡◌, ◌+◌, ◌*◌, ◌<◌};
 ghost use Rattle.table.specs.Bytes.{bits};
+ghost use Rattle.table.specs.Working.{Read};
 ghost use Rattle.table.specs.Decoded.{cell_at, put_number, node_slot, function_slot, table_slot};
 
 use crate::{Function, Node};
 
 pub type Cells = [u16; 3270];
+
+// A table that the check takes, and the cells that it was decoded into.
+#[derive(Clone, Copy)]
+pub struct Decoded<'a> {
+    pub table: &'a [u8],
+    pub cells: &'a Cells,
+    ghost read: { Read table.now cells.now },
+}
 
 // Field k of a slot: number 0 holds two, number 5 the last two. Every call names its k, so that the compiled code has no choice to make.
 fn get(cells: &Cells, slot: usize, k: usize) -> u16
@@ -46,37 +55,23 @@ pub(crate) fn function_slot(f: Function) -> usize
     512 + (f.0 % 32) as usize
 }
 
-fn node_cell(cells: &Cells, n: Node, k: usize) -> u16
-    requires { k < 8 }
-    ensures { result ≡ cell_at cells.now (node_slot n.0) k }
-{
-    get(cells, node_slot(n), k)
-}
-
-fn function_cell(cells: &Cells, f: Function, k: usize) -> u16
-    requires { k < 8 }
-    ensures { result ≡ cell_at cells.now (function_slot f.0) k }
-{
-    get(cells, function_slot(f), k)
-}
-
 pub fn kind(cells: &Cells, n: Node) -> u16
     ensures { result ≡ cell_at cells.now (node_slot n.0) 0 }
 {
-    node_cell(cells, n, 0)
+    get(cells, node_slot(n), 0)
 }
 
 pub fn extra(cells: &Cells, n: Node) -> u16
     ensures { result ≡ cell_at cells.now (node_slot n.0) 1 }
 {
-    node_cell(cells, n, 1)
+    get(cells, node_slot(n), 1)
 }
 
 pub fn word(cells: &Cells, n: Node) -> u32
     ensures { result ≡ cell_at cells.now (node_slot n.0) 2 + 65536 * cell_at cells.now (node_slot n.0) 3 }
 {
-    let low = node_cell(cells, n, 2);
-    let high = node_cell(cells, n, 3);
+    let low = get(cells, node_slot(n), 2);
+    let high = get(cells, node_slot(n), 3);
     (low as u32) + 65536 * (high as u32)
 }
 
@@ -84,59 +79,59 @@ pub fn word(cells: &Cells, n: Node) -> u32
 pub fn callee(cells: &Cells, n: Node) -> Function
     ensures { result.0 ≡ cell_at cells.now (node_slot n.0) 2 }
 {
-    Function(node_cell(cells, n, 2))
+    Function(get(cells, node_slot(n), 2))
 }
 
 // The definiens of a bound: the low half of its word.
 pub fn definiens(cells: &Cells, n: Node) -> Node
     ensures { result.0 ≡ cell_at cells.now (node_slot n.0) 2 }
 {
-    Node(node_cell(cells, n, 2))
+    Node(get(cells, node_slot(n), 2))
 }
 
 pub fn first(cells: &Cells, n: Node) -> Node
     ensures { result.0 ≡ cell_at cells.now (node_slot n.0) 4 }
 {
-    Node(node_cell(cells, n, 4))
+    Node(get(cells, node_slot(n), 4))
 }
 
 pub fn next(cells: &Cells, n: Node) -> Node
     ensures { result.0 ≡ cell_at cells.now (node_slot n.0) 5 }
 {
-    Node(node_cell(cells, n, 5))
+    Node(get(cells, node_slot(n), 5))
 }
 
 // The function that a node is part of.
 pub fn owner(cells: &Cells, n: Node) -> Function
     ensures { result.0 ≡ cell_at cells.now (node_slot n.0) 6 }
 {
-    Function(node_cell(cells, n, 6))
+    Function(get(cells, node_slot(n), 6))
 }
 
 pub fn parent(cells: &Cells, n: Node) -> Node
     ensures { result.0 ≡ cell_at cells.now (node_slot n.0) 7 }
 {
-    Node(node_cell(cells, n, 7))
+    Node(get(cells, node_slot(n), 7))
 }
 
 pub fn params(cells: &Cells, f: Function) -> u16
     ensures { result ≡ cell_at cells.now (function_slot f.0) 0 }
 {
-    function_cell(cells, f, 0)
+    get(cells, function_slot(f), 0)
 }
 
 // A function's width in bits: its width byte, 0 meaning 32.
 pub fn width(cells: &Cells, f: Function) -> u16
     ensures { result ≡ bits (cell_at cells.now (function_slot f.0) 1) }
 {
-    let byte = function_cell(cells, f, 1);
+    let byte = get(cells, function_slot(f), 1);
     if byte == 0 { 32 } else { byte }
 }
 
 pub fn root(cells: &Cells, f: Function) -> Node
     ensures { result.0 ≡ cell_at cells.now (function_slot f.0) 2 }
 {
-    Node(function_cell(cells, f, 2))
+    Node(get(cells, function_slot(f), 2))
 }
 
 // Main's number, F.

@@ -1,35 +1,20 @@
 // The nodes' part of refusals 5 to 9, and 25.
-ghost use Rattle.std.specs.Prelude.{◌≡◌, ◌&&◌, ◌||◌, not, ◌^◌, ◌≤◌, ◌<◌, eqb, ltb, length};
+ghost use Rattle.std.specs.Prelude.{◌≡◌, ◌&&◌, ◌||◌, not, ◌^◌, ◌≤◌, ◌<◌, eqb, ltb, length, IfErr};
 ghost use Rattle.table.specs.Bytes.{functions, nodes, params, kind, extra, word};
 ghost use Rattle.table.specs.Naming.{owner, tail as tail_of, under_last, in_scope, chain};
 ghost use Rattle.table.specs.Check.{among, counted, scoped};
-ghost use Rattle.table.specs.Working.{Framed, Linked, Decoded, Within, Tails, NodeAt, better, fault_at, check_nodes, fault_verdict};
+ghost use Rattle.table.specs.Refusals.{number_of};
+ghost use Rattle.table.specs.Working.{Framed, Linked, Decoded, Within, Tails, NodeAt, better, no_fault, fault_of, met_number, fault_at};
+ghost use Rattle.table.specs.Working.{check_nodes, fault_verdict};
 
 use crate::decoded::Cells;
-use crate::{Function, Node, decoded, kinds};
-
-// Past the last number here: none is met.
-pub(crate) const NONE: u8 = 26;
-
-// The lowest number met so far and the lowest node that meets it.
-#[derive(Clone, Copy)]
-pub struct Fault {
-    pub number: u8,
-    pub place: Node,
-}
+use crate::{Function, Node, Reason, Refusal, decoded, kinds};
 
 // 6: a callee is in 1 to the caller's own number.
 fn callee_fits(kind: u16, word: u32, own: Function) -> bool
     ensures { result ≡ (not (eqb kind 4) || among 1 own.0 word) }
 {
-    if kind != 4 {
-        return true;
-    }
-    if word < 1 {
-        false
-    } else {
-        word <= (own.0 as u32)
-    }
+    kind != 4 || (1 <= word && word <= own.0 as u32)
 }
 
 // The number of siblings from c on.
@@ -68,11 +53,7 @@ fn count_fits(table: &[u8], cells: &Cells, n: Node, kind: u16, extra: u16, word:
     let c = kinds::child_counts(kind, extra, p);
     let first = decoded::first(cells, n);
     let j = chain_length(table, cells, first);
-    if j < (c.low as usize) {
-        false
-    } else {
-        j <= (c.high as usize)
-    }
+    c.low as usize <= j && j <= c.high as usize
 }
 
 // Whether n or a node above it is the last child of p.
@@ -83,7 +64,7 @@ fn under_last(table: &[u8], cells: &Cells, p: Node, n: Node) -> bool
     let mut a = n;
     while p.0 < a.0 {
         let up = decoded::parent(cells, a);
-        if up.0 == p.0 {
+        if up == p {
             return decoded::next(cells, a).0 == 0;
         }
         a = up;
@@ -145,84 +126,75 @@ fn scope_fits(
 fn tail_fits(kind: u16, word: u32, own: Function, tail: bool) -> bool
     ensures { result ≡ (not (eqb kind 4 && eqb word own.0) || tail) }
 {
-    if kind != 4 {
-        return true;
-    }
-    if word == (own.0 as u32) { tail } else { true }
+    kind != 4 || word != own.0 as u32 || tail
 }
 
 // 25: a constant is below 2^w, w being the width of its function. From 32 bits on, every word is.
 fn const_fits(kind: u16, word: u32, width: u16) -> bool
     ensures { result ≡ (not (eqb kind 1) || ltb word (2 ^ width)) }
 {
-    if kind != 1 {
-        return true;
-    }
-    if 32 <= width {
-        return true;
-    }
-    word < 1u32 << width
+    kind != 1 || 32 <= width || word < 1u32 << width
 }
 
-// The first number that a node meets, or NONE.
-fn fault_at(table: &[u8], cells: &Cells, n: Node, own: Function, tail: bool) -> u8
+// The first reason that a node meets.
+fn fault_at(table: &[u8], cells: &Cells, n: Node, own: Function, tail: bool) -> Result<(), Reason>
     requires within { Within table.now cells.now n.0 }
     requires own_value { (own.0 ≡ owner table.now n.0) × (tail ≡ tail_of table.now n.0) }
-    ensures { result ≡ fault_at table.now n.0 }
+    ensures first { met_number result ≡ fault_at table.now n.0 }
+    ensures low { IfErr result (λ reason. number_of reason < no_fault) }
 {
     let kind = decoded::kind(cells, n);
     let extra = decoded::extra(cells, n);
     let word = decoded::word(cells, n);
     let first = decoded::first(cells, n);
     if !kinds::formed(kind, extra, word, first) {
-        return 5;
+        return Err(Reason::Fields);
     }
     if !callee_fits(kind, word, own) {
-        return 6;
+        return Err(Reason::Callee);
     }
     if !count_fits(table, cells, n, kind, extra, word) {
-        return 7;
+        return Err(Reason::Children);
     }
     if !scope_fits(table, cells, n, kind, extra, word, own) {
-        return 8;
+        return Err(Reason::Scope);
     }
     if !tail_fits(kind, word, own, tail) {
-        return 9;
+        return Err(Reason::Tail);
     }
     if !const_fits(kind, word, decoded::width(cells, own)) {
-        return 25;
+        return Err(Reason::Constant);
     }
-    NONE
+    Ok(())
 }
 
 // The lower number; of one number the node that came first.
-fn lower(best: Fault, number: u8, place: Node) -> Fault
-    ensures { result ≡ better best number place.0 }
+fn lower(best: Result<(), Refusal>, met: Result<(), Reason>, place: Node) -> Result<(), Refusal>
+    requires { IfErr met (λ reason. number_of reason < no_fault) }
+    ensures lowest { fault_of result ≡ better (fault_of best) (met_number met) place.0 }
+    ensures low { IfErr best (λ refusal. number_of refusal.reason < no_fault)
+        → IfErr result (λ refusal. number_of refusal.reason < no_fault) }
 {
-    if number < best.number {
-        Fault { number, place }
-    } else {
-        best
+    let Err(reason) = met else {
+        return best;
+    };
+    match best {
+        Err(known) if known.reason.number() <= reason.number() => best,
+        _ => Err(Refusal { reason, place }),
     }
 }
 
 // The lowest number of 5 to 9, then 25, that a node meets, and the lowest node that meets it.
-pub(crate) fn lowest(table: &[u8], cells: &Cells, tails: [bool; 513]) -> Fault
+pub(crate) fn lowest(table: &[u8], cells: &Cells, tails: [bool; 513]) -> Result<(), Refusal>
     requires { Framed table.now × Linked table.now × Decoded table.now cells.now × Tails table.now tails }
     ensures { fault_verdict table.now result ≡ check_nodes table.now }
 {
     let last = decoded::last(cells).0;
-    let mut best = Fault {
-        number: NONE,
-        place: Node(0),
-    };
-    let mut n: u16 = 0;
-    while n < last {
-        n += 1;
+    let mut best = Ok(());
+    for n in 1..=last {
         let own = decoded::owner(cells, Node(n));
-        let tail = tails[n as usize];
-        let number = fault_at(table, cells, Node(n), own, tail);
-        best = lower(best, number, Node(n));
+        let met = fault_at(table, cells, Node(n), own, tails[n as usize]);
+        best = lower(best, met, Node(n));
     }
     best
 }

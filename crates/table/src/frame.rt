@@ -3,10 +3,10 @@ ghost use Rattle.std.specs.Prelude.{◌≡◌, ◌&&◌, ◌+◌, ◌*◌, leb};
 ghost use Rattle.table.specs.Bytes.{functions, nodes};
 ghost use Rattle.table.specs.Find.{all};
 ghost use Rattle.table.specs.Check.{among, root_fits, record_fits};
-ghost use Rattle.table.specs.Working.{Framed, Filled, Raw, frame_number};
+ghost use Rattle.table.specs.Working.{Framed, Filled, Raw, first_number, frame_number};
 
 use crate::decoded::Cells;
-use crate::{Function, Node, decode, decoded};
+use crate::{Function, Node, Reason, decode, decoded};
 
 // Main's number.
 pub(crate) fn last_function(table: &[u8]) -> Function
@@ -33,32 +33,32 @@ pub(crate) fn base(table: &[u8]) -> usize
     4 + 4 * (main.0 as usize)
 }
 
-// The first of refusals 1 to 3, 0 where none is met.
-pub(crate) fn number(table: &[u8]) -> u8
-    ensures { result ≡ frame_number table.now }
+// Refusals 1 to 3.
+pub(crate) fn framed(table: &[u8]) -> Result<(), Reason>
+    ensures { first_number result ≡ frame_number table.now }
 {
     let len = table.len();
     if len < 4 {
-        return 1;
+        return Err(Reason::Short);
     }
     let f = decode::two_at(table, 0) as usize;
     let n = decode::two_at(table, 2) as usize;
     if f < 1 {
-        return 2;
+        return Err(Reason::Sizes);
     }
     if 32 < f {
-        return 2;
+        return Err(Reason::Sizes);
     }
     if n < 1 {
-        return 2;
+        return Err(Reason::Sizes);
     }
     if 512 < n {
-        return 2;
+        return Err(Reason::Sizes);
     }
     if len != 4 + 4 * f + 10 * n {
-        return 3;
+        return Err(Reason::Length);
     }
-    0
+    Ok(())
 }
 
 // Whether every root is one of the nodes.
@@ -68,9 +68,7 @@ pub(crate) fn roots_fit(table: &[u8], cells: &Cells) -> bool
 {
     let main = last_function(table).0;
     let last = last_node(table);
-    let mut f: u16 = 0;
-    while f < main {
-        f += 1;
+    for f in 1..=main {
         if !root_fits(decoded::root(cells, Function(f)), last) {
             return false;
         }
@@ -81,7 +79,7 @@ pub(crate) fn roots_fit(table: &[u8], cells: &Cells) -> bool
 fn root_fits(root: Node, last: Node) -> bool
     ensures { result ≡ among 1 last.0 root.0 }
 {
-    if root.0 < 1 { false } else { root.0 <= last.0 }
+    1 <= root.0 && root.0 <= last.0
 }
 
 // Whether every parameter count and width is allowed.
@@ -90,9 +88,7 @@ pub(crate) fn records_fit(table: &[u8], cells: &Cells) -> bool
     ensures { result ≡ all (record_fits table.now) (functions table.now) }
 {
     let main = last_function(table).0;
-    let mut f: u16 = 0;
-    while f < main {
-        f += 1;
+    for f in 1..=main {
         if !record_fits(
             decoded::params(cells, Function(f)),
             decoded::width(cells, Function(f)),
@@ -106,5 +102,5 @@ pub(crate) fn records_fit(table: &[u8], cells: &Cells) -> bool
 fn record_fits(params: u16, width: u16) -> bool
     ensures { result ≡ (leb params 8 && leb width 32) }
 {
-    if params <= 8 { width <= 32 } else { false }
+    params <= 8 && width <= 32
 }

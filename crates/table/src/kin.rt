@@ -24,7 +24,7 @@ fn parent_of(table: &[u8], cells: &Cells, namer: Node, n: Node, above: Node) -> 
         return Node(0);
     }
     let first = decoded::first(cells, namer);
-    if first.0 == n.0 { namer } else { above }
+    if first == n { namer } else { above }
 }
 
 // A branch of an if or the body of a let, whose parent p is in tail position.
@@ -35,16 +35,11 @@ fn tail_of(table: &[u8], cells: &Cells, p: Node, n: Node, above: bool) -> bool
     if p.0 == 0 {
         return true;
     }
-    let kind = decoded::kind(cells, p);
-    let first = decoded::first(cells, p);
-    let next = decoded::next(cells, n);
-    if kind == 5 {
-        return if first.0 == n.0 { false } else { above };
+    match decoded::kind(cells, p) {
+        5 => decoded::first(cells, p) != n && above,
+        6 => decoded::next(cells, n).0 == 0 && above,
+        _ => false,
     }
-    if kind == 6 {
-        return if next.0 == 0 { above } else { false };
-    }
-    false
 }
 
 // Parents and namers are lower than their nodes, so one pass in ascending order fills all of them. What is returned is by node number.
@@ -62,9 +57,7 @@ pub(crate) fn collect(
 {
     let last = decoded::last(cells).0;
     let mut tail = [true; 513];
-    let mut n: u16 = 0;
-    while n < last {
-        n += 1;
+    for n in 1..=last {
         let at = n as usize;
         let namer = Node(namers[at]);
         let root = Function(roots[at]);
@@ -98,9 +91,7 @@ pub(crate) fn recall(table: &[u8], cells: &Cells) -> [u32; 513]
 {
     let last = decoded::last(cells).0;
     let mut kin = [0u32; 513];
-    let mut n: u16 = 0;
-    while n < last {
-        n += 1;
+    for n in 1..=last {
         let own = decoded::owner(cells, Node(n));
         let up = decoded::parent(cells, Node(n));
         kin[n as usize] = (own.0 as u32) + 64 * (up.0 as u32);

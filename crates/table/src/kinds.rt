@@ -1,7 +1,7 @@
 // What a node's kind allows (refusals 5 and 7); how many children an operation has, `operation_counts` says (lib.rt).
 ghost use Rattle.std.specs.Prelude.{◌≡◌, ◌≤◌, ◌<◌};
 ghost use Rattle.table.specs.Check.{fields, counts_of};
-ghost use Rattle.table.specs.Sweep.{rule_of, packed, kind_rules};
+ghost use Rattle.table.specs.Sweep.{rule_of, packed, RulesOf};
 
 use crate::{Counts, Node};
 
@@ -53,7 +53,21 @@ pub struct Rule {
     // The word is at most so many times its function's highest constant, which is 1 or more; a call's is a callee. 512 lets every node's
     // number pass.
     pub words: u16,
+    // The fewest children, and 256 times the most: 0 of a primitive, whose operation tells, and of a call, whose callee does.
+    pub counts: u16,
 }
+
+// A kind that asks for nothing.
+const PLAIN: Rule = Rule {
+    extras: 0,
+    parameter: 0,
+    call: 0,
+    reach: 4096,
+    bound: 0,
+    primitive: 0,
+    words: 0,
+    counts: 0,
+};
 
 // By a node's kind; 0 is none.
 fn rule_of(kind: u16) -> Rule
@@ -63,95 +77,44 @@ fn rule_of(kind: u16) -> Rule
     match kind {
         1 => Rule {
             extras: 1,
-            parameter: 0,
-            call: 0,
-            reach: 4096,
-            bound: 0,
-            primitive: 0,
             words: 1,
+            ..PLAIN
         },
         2 => Rule {
-            extras: 0,
             parameter: 1,
-            call: 0,
-            reach: 4096,
-            bound: 0,
-            primitive: 0,
-            words: 0,
+            ..PLAIN
         },
         3 => Rule {
             extras: 11,
-            parameter: 0,
-            call: 0,
-            reach: 4096,
-            bound: 0,
             primitive: 1,
-            words: 0,
+            ..PLAIN
         },
         4 => Rule {
             extras: 1,
-            parameter: 0,
             call: 1,
-            reach: 4096,
-            bound: 0,
-            primitive: 0,
-            words: 0,
+            ..PLAIN
         },
         5 => Rule {
             extras: 1,
-            parameter: 0,
-            call: 0,
             reach: 4,
-            bound: 0,
-            primitive: 0,
-            words: 0,
+            counts: 3 + 256 * 3,
+            ..PLAIN
         },
         6 => Rule {
             extras: 1,
-            parameter: 0,
-            call: 0,
             reach: 2051,
-            bound: 0,
-            primitive: 0,
-            words: 0,
+            counts: 2 + 256 * 9,
+            ..PLAIN
         },
         7 => Rule {
             extras: 1,
-            parameter: 0,
-            call: 0,
-            reach: 4096,
             bound: 1,
-            primitive: 0,
             words: 512,
+            ..PLAIN
         },
-        _ => Rule {
-            extras: 0,
-            parameter: 0,
-            call: 0,
-            reach: 4096,
-            bound: 0,
-            primitive: 0,
-            words: 0,
-        },
+        _ => PLAIN,
     }
 }
-
-// Where a kind's numbers stand among its eight.
-pub(crate) const EXTRAS: usize = 0;
-
-pub(crate) const PARAMETER: usize = 1;
-
-pub(crate) const CALL: usize = 2;
-
-pub(crate) const REACH: usize = 3;
-
-pub(crate) const BOUND: usize = 4;
-
-pub(crate) const PRIMITIVE: usize = 5;
-
-pub(crate) const WORDS: usize = 6;
-
-pub(crate) const COUNTS: usize = 7;
 
 // The fewest children, and 256 times the most.
 pub(crate) fn packed(c: Counts) -> u16
@@ -161,24 +124,13 @@ pub(crate) fn packed(c: Counts) -> u16
     c.low + 256 * c.high
 }
 
-// All kinds' numbers in one array: looked up and not branched on, since the kinds of neighbouring nodes are hard to foresee.
-pub(crate) fn rules() -> [u16; 64]
-    ensures { result ≡ kind_rules 8 }
+// All kinds' rules in one array: looked up and not branched on, since the kinds of neighbouring nodes are hard to foresee.
+pub(crate) fn rules() -> [Rule; 8]
+    ensures { RulesOf 8 result }
 {
-    let mut rules = [0u16; 64];
-    let mut kind: u16 = 0;
-    while kind < 8 {
-        let at = 8 * (kind as usize);
-        let r = rule_of(kind);
-        rules[at + EXTRAS] = r.extras;
-        rules[at + PARAMETER] = r.parameter;
-        rules[at + CALL] = r.call;
-        rules[at + REACH] = r.reach;
-        rules[at + BOUND] = r.bound;
-        rules[at + PRIMITIVE] = r.primitive;
-        rules[at + WORDS] = r.words;
-        rules[at + COUNTS] = packed(child_counts(kind, 11, 0));
-        kind += 1;
+    let mut rules = [PLAIN; 8];
+    for kind in 0..8 {
+        rules[kind as usize] = rule_of(kind);
     }
     rules
 }

@@ -11,6 +11,7 @@ mod linking;
 mod names;
 pub mod read;
 mod records;
+mod refusals;
 mod scope;
 mod sweep;
 
@@ -21,17 +22,30 @@ ghost use Rattle.table.specs.Working.{Framed, Taken, Settles};
 ghost use Rattle.table.specs.Sweep.{Kin};
 ghost use Rattle.std.specs.Prelude.{true, ◌≡◌, replicate};
 
-use crate::sweep::Residue;
+pub use crate::refusals::{Reason, Refusal};
+use std::fmt;
 
 // A function's number, 1 to F; 0 is none.
 #[repr(C)]
-#[derive(Clone, Copy)]
+#[derive(Clone, Copy, PartialEq, Eq)]
 pub struct Function(pub u16);
+
+impl fmt::Display for Function {
+    fn fmt<W: fmt::Write>(&self, f: &mut fmt::Formatter<W>) -> fmt::Result {
+        write!(f, "{}", self.0)
+    }
+}
 
 // A node's number, 1 to N; 0 is none.
 #[repr(C)]
-#[derive(Clone, Copy)]
+#[derive(Clone, Copy, PartialEq, Eq)]
 pub struct Node(pub u16);
+
+impl fmt::Display for Node {
+    fn fmt<W: fmt::Write>(&self, f: &mut fmt::Formatter<W>) -> fmt::Result {
+        write!(f, "{}", self.0)
+    }
+}
 
 // How many children a node may have, from the fewest to the most.
 #[derive(Clone, Copy)]
@@ -40,11 +54,11 @@ pub struct Counts {
     pub high: u16,
 }
 
-// What the check of a table says: main and the last node, or a refusal's number and place.
-#[derive(Clone, Copy)]
-pub enum Checked {
-    Accepted(Function, Node),
-    Refused(u8, Node),
+// What an accepted table holds: functions up to main, nodes up to the last.
+#[derive(Clone, Copy, PartialEq, Eq)]
+pub struct Design {
+    pub main: Function,
+    pub last: Node,
 }
 
 // The fewest and the most children of a primitive with this operation; of a byte that is no operation 0 and 0.
@@ -60,7 +74,7 @@ pub fn operation_counts(op: u8) -> Counts
 }
 
 // Refusals 1 to 9, then 25, by rising number over the whole table.
-pub fn check(table: &[u8]) -> Checked
+pub fn check(table: &[u8]) -> Result<Design, Refusal>
     ensures { verdict_of result ≡ check_of table.now }
 {
     let mut kin = [0u32; 513];
@@ -68,32 +82,27 @@ pub fn check(table: &[u8]) -> Checked
 }
 
 // The check, and an accepted table decoded into lent cells, with each node's function and parent; refused, they stay as they are.
-pub fn survey(table: &[u8], cells: &mut [u16; 3270]) -> Checked
+pub fn survey(table: &[u8], cells: &mut [u16; 3270]) -> Result<Design, Refusal>
     ensures { (verdict_of result ≡ check_of table.now)
         × (cells.new ≡ surveyed table.now cells.old) }
 {
     let mut kin = [0u32; 513];
-    let checked = decide(table, &mut kin);
-    match checked {
-        Checked::Accepted(main, last) => {
-            decode::fill(table, &kin, cells);
-            Checked::Accepted(main, last)
-        }
-        Checked::Refused(number, place) => Checked::Refused(number, place),
-    }
+    let design = decide(table, &mut kin)?;
+    decode::fill(table, &kin, cells);
+    Ok(design)
 }
 
 // The check, and of an accepted table each node's function and parent.
-fn decide(table: &[u8], kin: &mut [u32; 513]) -> Checked
+fn decide(table: &[u8], kin: &mut [u32; 513]) -> Result<Design, Refusal>
     requires { kin.old ≡ replicate 513 0 }
     ensures { Settles table.now result kin.new }
 {
-    let number = frame::number(table);
-    if number != 0 {
-        return Checked::Refused(number, Node(0));
-    }
+    frame::framed(table)?;
     if passes(table, kin) {
-        return Checked::Accepted(frame::last_function(table), frame::last_node(table));
+        return Ok(Design {
+            main: frame::last_function(table),
+            last: frame::last_node(table),
+        });
     }
     inspect(table, kin)
 }
@@ -111,27 +120,22 @@ fn passes(table: &[u8], kin: &mut [u32; 513]) -> bool
     let mut wanted = [0u16; 513];
     let mut offspring = [0u32; 513];
     let mut bounds = [0u16; 513];
-    let residue = sweep::sift(
+    let Some(count) = sweep::sift(
         table,
         kin,
         &mut kids,
         &mut wanted,
         &mut offspring,
         &mut bounds,
-    );
-    match residue {
-        Residue::Passed(count) => {
-            if !sweep::all_counted(table, &kids, &wanted) {
-                return false;
-            }
-            scope::all_fit(table, kin, &offspring, &bounds, count)
-        }
-        Residue::Failed => false,
-    }
+    ) else {
+        return false;
+    };
+    sweep::all_counted(table, &kids, &wanted)
+        && scope::all_fit(table, kin, &offspring, &bounds, count)
 }
 
 // A table of the right size: refusals 4 to 9, then 25.
-fn inspect(table: &[u8], kin: &mut [u32; 513]) -> Checked
+fn inspect(table: &[u8], kin: &mut [u32; 513]) -> Result<Design, Refusal>
     requires { Framed table.now }
     ensures { Settles table.now result kin.new }
 {
@@ -141,23 +145,24 @@ fn inspect(table: &[u8], kin: &mut [u32; 513]) -> Checked
     let mut tops = [0u16; 513];
     names::roots(table, &mut cells, &mut mentions, &mut tops);
     if !frame::roots_fit(table, &cells) {
-        return Checked::Refused(4, Node(0));
+        return Err(Reason::Links.into());
     }
     let mut namers = [0u16; 513];
     names::links(table, &mut cells, &mut mentions, &mut namers);
-    let place = names::lowest_unlinked(table, &cells, &mentions, &tops);
-    if place.0 != 0 {
-        return Checked::Refused(4, place);
+    if let Some(place) = names::lowest_unlinked(table, &cells, &mentions, &tops) {
+        return Err(Refusal {
+            reason: Reason::Links,
+            place,
+        });
     }
     if !frame::records_fit(table, &cells) {
-        return Checked::Refused(5, Node(0));
+        return Err(Reason::Fields.into());
     }
     let tails = kin::collect(table, &mut cells, &tops, &namers);
-    let fault = faults::lowest(table, &cells, tails);
-    if fault.number != faults::NONE {
-        let at = fault.place;
-        return Checked::Refused(fault.number, at);
-    }
+    faults::lowest(table, &cells, tails)?;
     *kin = kin::recall(table, &cells);
-    Checked::Accepted(decoded::main(&cells), decoded::last(&cells))
+    Ok(Design {
+        main: decoded::main(&cells),
+        last: decoded::last(&cells),
+    })
 }

@@ -51,9 +51,7 @@ pub(crate) fn roots(table: &[u8], kin: &mut [u32; 513]) -> bool
     let base = frame::base(table);
     let last = frame::last_node(table);
     let main = frame::last_function(table).0;
-    let mut f: u16 = 0;
-    while f < main {
-        f += 1;
+    for f in 1..=main {
         if !root_fits(table, base, last, Function(f)) {
             return false;
         }

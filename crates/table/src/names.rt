@@ -4,7 +4,7 @@ ghost use Rattle.std.specs.Prelude.{◌≡◌, ◌&&◌, ◌||◌, ◌<◌, leb,
 ghost use Rattle.table.specs.Bytes.{functions, nodes};
 ghost use Rattle.table.specs.Find.{lowest};
 ghost use Rattle.table.specs.Check.{linked};
-ghost use Rattle.table.specs.Working.{Framed, Filled, Raw, Mentioned, Tops, Rooted, Counted, Named, slot_of, ahead_of, linked_by};
+ghost use Rattle.table.specs.Working.{Framed, Filled, Raw, Mentioned, Tops, Rooted, Counted, Named, IsLowest, slot_of, ahead_of, linked_by};
 
 use crate::decoded::Cells;
 use crate::{Function, Node, decode, decoded, frame};
@@ -36,9 +36,7 @@ pub(crate) fn roots(
         × Filled table.now (functions table.now) 0 0 cells.new }
 {
     let main = frame::last_function(table).0;
-    let mut f: u16 = 0;
-    while f < main {
-        f += 1;
+    for f in 1..=main {
         decode::function(table, Function(f), cells);
         let root = decoded::root(cells, Function(f));
         let at = slot(root);
@@ -61,9 +59,7 @@ pub(crate) fn links(
 {
     let base = frame::base(table);
     let last = frame::last_node(table).0;
-    let mut n: u16 = 0;
-    while n < last {
-        n += 1;
+    for n in 1..=last {
         decode::node(table, base, Node(n), cells);
         let first = decoded::first(cells, Node(n));
         let next = decoded::next(cells, Node(n));
@@ -82,54 +78,38 @@ pub(crate) fn links(
 fn forward(n: Node, link: Node, last: Node) -> bool
     ensures { result ≡ (eqb link.0 0 || (ltb n.0 link.0 && leb link.0 last.0)) }
 {
-    if link.0 == 0 {
-        return true;
-    }
-    if n.0 < link.0 {
-        link.0 <= last.0
-    } else {
-        false
-    }
+    link.0 == 0 || (n.0 < link.0 && link.0 <= last.0)
 }
 
 // Whether a node passes 4: its links, how often it is named, and no next at a root.
 fn linked_at(n: Node, first: Node, next: Node, mentions: u16, root: Function, last: Node) -> bool
     ensures { result ≡ linked_by n.0 first.0 next.0 mentions root.0 last.0 }
 {
-    if !forward(n, first, last) {
-        return false;
-    }
-    if !forward(n, next, last) {
-        return false;
-    }
-    if mentions != 1 {
-        return false;
-    }
-    if root.0 == 0 { true } else { next.0 == 0 }
+    forward(n, first, last)
+        && forward(n, next, last)
+        && mentions == 1
+        && (root.0 == 0 || next.0 == 0)
 }
 
-// The lowest node that meets refusal 4, 0 where none does.
+// The lowest node that meets refusal 4.
 pub(crate) fn lowest_unlinked(
     table: &[u8],
     cells: &Cells,
     mentions: &[u16; 513],
     roots: &[u16; 513],
-) -> Node
+) -> Option<Node>
     requires { Framed table.now × Raw table.now cells.now × Counted table.now mentions.now × Tops table.now roots.now }
-    ensures { result.0 ≡ lowest (linked table.now) (nodes table.now) }
+    ensures { IsLowest result (lowest (linked table.now) (nodes table.now)) }
 {
     let last = decoded::last(cells);
-    let end = last.0;
-    let mut n: u16 = 0;
-    while n < end {
-        n += 1;
+    for n in 1..=last.0 {
         let first = decoded::first(cells, Node(n));
         let next = decoded::next(cells, Node(n));
         let mentions = mentions[n as usize];
         let root = roots[n as usize];
         if !linked_at(Node(n), first, next, mentions, Function(root), last) {
-            return Node(n);
+            return Some(Node(n));
         }
     }
-    Node(0)
+    None
 }

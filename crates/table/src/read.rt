@@ -1,5 +1,5 @@
 // Total readers of a table's fields: past the end every byte reads 0, and the numbers 0, which are none, read as 1.
-ghost use Rattle.std.specs.Prelude.{◌≡◌, ◌+◌, ◌*◌, ◌<◌};
+ghost use Rattle.std.specs.Prelude.{◌≡◌, ◌<◌};
 ghost use Rattle.table.specs.Bytes.{byte_at, two_at, four_at, functions, nodes, function_at, node_at};
 ghost use Rattle.table.specs.Bytes.{params, width, root, kind, extra, word, first, next};
 
@@ -8,20 +8,14 @@ use crate::{Function, Node};
 fn byte_at(table: &[u8], i: usize) -> u8
     ensures { result ≡ byte_at table.now i }
 {
-    if i < table.len() { table[i] } else { 0 }
-}
-
-fn two(low: u8, high: u8) -> u16
-    ensures { result ≡ low + 256 * high }
-{
-    (low as u16) + 256 * (high as u16)
+    table.get(i).copied().unwrap_or(0)
 }
 
 fn two_at(table: &[u8], i: usize) -> u16
     requires { i < 2000000 }
     ensures { result ≡ two_at table.now i }
 {
-    two(byte_at(table, i), byte_at(table, i + 1))
+    u16::from_le_bytes([byte_at(table, i), byte_at(table, i + 1)])
 }
 
 fn four_at(table: &[u8], i: usize) -> u32

@@ -10,8 +10,7 @@ fn offset(table: &[u8], base: usize, n: Node) -> usize
     requires { At table.now base n.0 }
     ensures { (result ≡ node_at table.now n.0) × (result + 10 ≤ length table.now) }
 {
-    let k = n.0 as usize;
-    base + 10 * k - 10
+    base + 10 * (n.0 as usize) - 10
 }
 
 pub(crate) fn kind(table: &[u8], base: usize, n: Node) -> u16
@@ -19,7 +18,7 @@ pub(crate) fn kind(table: &[u8], base: usize, n: Node) -> u16
     ensures { result ≡ kind table.now n.0 }
 {
     let at = offset(table, base, n);
-    decode::wide(table[at])
+    table[at] as u16
 }
 
 pub(crate) fn extra(table: &[u8], base: usize, n: Node) -> u16
@@ -27,7 +26,7 @@ pub(crate) fn extra(table: &[u8], base: usize, n: Node) -> u16
     ensures { result ≡ extra table.now n.0 }
 {
     let at = offset(table, base, n);
-    decode::wide(table[at + 1])
+    table[at + 1] as u16
 }
 
 pub(crate) fn word(table: &[u8], base: usize, n: Node) -> u32
@@ -61,7 +60,7 @@ pub(crate) fn params(table: &[u8], f: Function) -> u16
     ensures { result ≡ params table.now f.0 }
 {
     let at = 4 * (f.0 as usize);
-    decode::wide(table[at])
+    table[at] as u16
 }
 
 pub(crate) fn width_byte(table: &[u8], f: Function) -> u16
@@ -69,7 +68,7 @@ pub(crate) fn width_byte(table: &[u8], f: Function) -> u16
     ensures { result ≡ width_byte table.now f.0 }
 {
     let at = 4 * (f.0 as usize);
-    decode::wide(table[at + 1])
+    table[at + 1] as u16
 }
 
 pub(crate) fn root(table: &[u8], f: Function) -> Node

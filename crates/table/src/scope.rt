@@ -11,7 +11,7 @@ use crate::{Node, frame, linking, records, sweep};
 fn same(a: Node, b: Node) -> u16
     ensures { (result ≡ one (eqb a.0 b.0)) × (result ≤ 1) }
 {
-    if a.0 == b.0 { 1 } else { 0 }
+    u16::from(a == b)
 }
 
 // Whether p is one of four, without a branch.
@@ -38,7 +38,7 @@ fn climbs(table: &[u8], offspring: &[u32; 513], p: Node, from: Node) -> bool
     while p.0 < a.0 {
         a = outer(table, offspring, a);
     }
-    a.0 == p.0
+    a == p
 }
 
 // Whether n is in the body of let p. The innermost lets are looked at without a branch: how near p is, is hard to foresee.
@@ -105,12 +105,10 @@ pub(crate) fn all_fit(
 {
     let base = frame::base(table);
     let last = frame::last_node(table);
-    let mut i: usize = 0;
-    while i < count {
-        if !bound_fits(table, base, last, kin, offspring, Node(bounds[i])) {
+    for &n in &bounds[..count] {
+        if !bound_fits(table, base, last, kin, offspring, Node(n)) {
             return false;
         }
-        i += 1;
     }
     true
 }

@@ -1,12 +1,8 @@
 -- `list_missing` meets its contract: by what the check of table and tags says, then by the node that the tags lack.
-use mathlib.Core.Path.{sym, ap, ◌∙◌}
-use Rattle.table.specs.Survey.{verdict_of}
-use Rattle.exports.proofs.Told.{missing_refused, missing_named}
+use Rattle.std.proofs.Common.{rules}
+use Rattle.exports.proofs.Told.{missing_numbered, numbered}
 use Rattle.exports.proofs.list_missing.Goals as goal
 
-pub returns-in-Refused : goal.returns-in-Refused
-returns-in-Refused c = c.refusal.ensures ∙ missing_refused _ _ _ _ (sym c.check_coverage-told.ensures.0 ∙ ap verdict_of c.in-Refused.is)
-
-pub returns-in-Accepted : goal.returns-in-Accepted
-returns-in-Accepted c = c.node.ensures ∙ missing_named _ _ _ _ (sym c.check_coverage-told.ensures.0 ∙ ap verdict_of c.in-Accepted.is)
-    _ c.check_coverage-told.ensures.1
+pub returns : goal.returns
+returns c = missing_numbered _ _ c.check_coverage.result _ c.check_coverage.ensures
+    (numbered _ _ _ _ _ c.map_or_else.ensures (λ x k. search rules) (λ e k. search rules))

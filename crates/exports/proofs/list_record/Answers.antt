@@ -1,39 +1,27 @@
 -- `list_record` meets its contract: by what the check of the table says, then by whether there is a record at the place.
-use mathlib.Core.Path.{◌≡◌, sym, ap, ◌∙◌}
-use mathlib.Core.List.{List, map}
-use Prim.Native.Nat.{ℕ}
-use native.Mathlib.Omega.{arith}
-use lib.ListN.{length, length-map}
-use Rattle.table.specs.Survey.{verdict_of}
-use Rattle.exports.proofs.Records.{few, item_at, item_past, item_unlisted}
-use borrow.Author.Rules.{rules}
+use Rattle.std.proofs.Common.{◌≡◌, ◌<◌, List, map, length, take, get_or, sym, ap, ◌∙◌, arith, rules, length-take, get_or-take}
+use Rattle.std.proofs.lemmas.List.{length-map}
+use Rattle.list.specs.Records.{no_record}
+use Rattle.exports.specs.Codes.{value_code, record_code}
+use Rattle.exports.proofs.Records.{few, item_at}
 use Rattle.exports.proofs.list_record.Goals as goal
-use Rattle.exports.proofs.list_record.Lts as lts
-use Rattle.exports.proofs.list_record.Reads as reads
-use Rattle.exports.proofs.list_record.Tie as tie
+use Rattle.exports.proofs.list_record.Goals.{In-Ok}
 
-abbrev AfterListRecords : Type 0
-AfterListRecords = lts.After-list_records tie.the-claims reads.Pre reads.Post
-
-length_mapped : {X Y : Type 0} (f : X → Y) (l : List X) (n : ℕ) → length (map f l) ≡ n → length l ≡ n
+length_mapped : {X Y : Type 0} (f : X → Y) (l : List X) (n : _) → length (map f l) ≡ n → length l ≡ n
 length_mapped f l n p = sym (length-map l f) ∙ p
 
 -- the list by value has room for 512 records
-size : (c : AfterListRecords) → length c.list_records-l.result.items ≡ 512
+size : (c : In-Ok) → length c.in-Ok.listing.items ≡ 512
 size c = search (rules, length_mapped)
 
-pub packed-requires : goal.packed-requires
-packed-requires c = omega (arith, few _ c.list_records-l.result c.list_records-l.ensures (size (search)))
+pub shared_ref_as_front-get : goal.shared_ref_as_front-get
+shared_ref_as_front-get c = few _ c.in-Ok.listing c.in-Ok.ensures.listing (size (goal.at.shared_ref_as_front-get c).In-Ok)
 
-pub returns-in-Refused : goal.returns-in-Refused
-returns-in-Refused c = let h = c.list_records-l.ensures in
-    c.refusal.ensures ∙ item_unlisted _ c.list_records-l.result h (size (search)) _ _ _ (sym h.told ∙ ap verdict_of c.in-Refused.is)
-
-pub returns-then-index-l : goal.returns-then-index-l
-returns-then-index-l c = let h = c.list_records-l.ensures in
-    item_at _ c.list_records-l.result h (size (search)) _ _ (sym h.told ∙ ap verdict_of c.in-Accepted.is) _ _ c.packed.ensures
-    c.if-index-l.true
-
-pub returns-else-index-l : goal.returns-else-index-l
-returns-else-index-l c = let h = c.list_records-l.ensures in
-    item_past _ c.list_records-l.result h (size (search)) _ _ (sym h.told ∙ ap verdict_of c.in-Accepted.is) _ c.if-index-l.false
+pub returns-in-Some : goal.returns-in-Some
+returns-in-Some c = let l = c.in-Ok.listing in
+    let i = c.args.index in
+    let inside : i < length (take l.count l.items) = search rules in
+    let is : c.in-Some.record.now ≡ get_or (take l.count l.items) i no_record = search rules in
+    let below : i < l.count = omega (arith, length-take l.count l.items) in
+    item_at _ l c.in-Ok.ensures.listing _ _ (sym c.in-Ok.ensures.told) i _
+    (c.record.ensures ∙ ap (λ r. value_code (record_code r)) (is ∙ get_or-take l.count l.items i no_record below)) below

@@ -4,4 +4,4 @@ use Rattle.pages.proofs.SheetLaws.{bytes_fit}
 use Rattle.sheet.proofs.show.Goals as goal
 
 pub shared_ref_as_front-write_all : goal.shared_ref_as_front-write_all
-shared_ref_as_front-write_all g c = omega (arith, c.sheet_of-sheet.ensures.counted, bytes_fit c.args.table.now)
+shared_ref_as_front-write_all g c = omega (arith, c.in-Ok.ensures.counted, bytes_fit c.args.table.now)

@@ -1,36 +1,27 @@
 -- `decide` meets its contract: the sizes first, then the sweep, and what it does not pass is inspected.
-use mathlib.Core.Path.{sym, ◌∙◌}
-use Rattle.table.specs.Working.{Framed}
-use Rattle.table.proofs.SurveyLaws.{framed, frame_refused, refuses, accepts}
+use mathlib.Core.Path.{sym}
+use Rattle.std.proofs.lemmas.Result.{err_from_is_err_and}
+use Rattle.table.proofs.SurveyLaws.{framed, frame_refused, refuses_at, accepts}
+use Rattle.table.proofs.Reasons.{numbered}
 use Rattle.table.proofs.HandLaws.{kindred}
 use Rattle.table.proofs.decide.Goals as goal
-use Rattle.table.proofs.decide.Lts as lts
-use Rattle.table.proofs.decide.Reads as reads
-use Rattle.table.proofs.decide.Tie as tie
 
-abbrev Else1 : Type 0
-Else1 = lts.Else1 tie.the-claims reads.Pre reads.Post
-
--- the sizes are right
-frames : (c : Else1) → Framed c.args.table.now
-frames c =
-    framed _ (sym c.number-number.ensures ∙ c.if-number-ne0.false)
-
-pub returns-then-number-ne0 : goal.returns-then-number-ne0
-returns-then-number-ne0 c = refuses _ _ _ _ (frame_refused _ _ c.number-number.ensures c.if-number-ne0.true)
+pub returns-in_err-framed : goal.returns-in_err-framed
+returns-in_err-framed c = let p = err_from_is_err_and c.from_residual.result c.from_residual.ensures.1 in
+    rw p.1 (refuses_at _ _ _ _ p.2 (frame_refused _ _ c.in_err-framed.ensures (numbered _)))
 
 pub passes-requires : goal.passes-requires
-passes-requires c = (frames (search), c.requires)
+passes-requires c = (framed _ (sym c.in_ok-framed.ensures), c.requires)
 
 pub last_function-requires : goal.last_function-requires
-last_function-requires c = frames (search)
+last_function-requires c = framed _ (sym c.in_ok-framed.ensures)
 
 pub last_node-requires : goal.last_node-requires
-last_node-requires c = frames (search)
+last_node-requires c = framed _ (sym c.in_ok-framed.ensures)
 
 pub returns-then-passes : goal.returns-then-passes
 returns-then-passes c = let h = c.passes.ensures c.if-passes.true in
-    accepts _ _ _ _ h.0 c.last_function.ensures c.last_node.ensures (kindred _ _ (frames (search)) h.1)
+    accepts _ _ _ h.0 c.last_function.ensures c.last_node.ensures (kindred _ _ (framed _ (sym c.in_ok-framed.ensures)) h.1)
 
 pub inspect-requires : goal.inspect-requires
-inspect-requires c = frames (search)
+inspect-requires c = framed _ (sym c.in_ok-framed.ensures)

@@ -4,7 +4,6 @@ use mathlib.Core.Path.{refl}
 use lib.ListN.{length-replicate}
 use Rattle.table.specs.Bytes.{functions}
 use Rattle.table.specs.Sweep.{Handed, RootsFit, Whole, Sifted}
-use Rattle.table.proofs.Tests.{never}
 use Rattle.table.proofs.SweepEnd.{swept_taken}
 use Rattle.table.proofs.passes.Goals as goal
 use Rattle.table.proofs.passes.Lts as lts
@@ -24,40 +23,31 @@ abbrev Told : Type 0
 Told = lts.After-wanted2 tie.the-claims reads.Pre reads.Post
 
 module _ (c : Told) where
-  sifted : let left = c.sift-residue.new in
+  sifted : let left = c.sift.new in
       Sifted c.args.table.now left.kin left.kids left.wanted left.offspring left.bounds
-      c.in-Passed.count
-  sifted = c.in-Passed.ensures
+      c.in-Some.count
+  sifted = c.in-Some.ensures
 
 -- and counted
 abbrev Counted : Type 0
-Counted = lts.Else2 tie.the-claims reads.Pre reads.Post
+Counted = lts.Then2 tie.the-claims reads.Pre reads.Post
 
 module _ (c : Counted) where
   whole : Whole c.args.table.now
-  whole = record { links = (sifted (search)).links; counts = c.all_counted.ensures (c.if-not-all_counted.false) }
+  whole = record { links = (sifted (search)).links; counts = c.all_counted.ensures c.if-all_counted.true }
 
-pub returns-then-not-roots : goal.returns-then-not-roots
-returns-then-not-roots c = never
-
-pub sift-residue-requires : goal.sift-residue-requires
-sift-residue-requires c = let h = rooted (search) in
+pub sift-requires : goal.sift-requires
+sift-requires c = let h = rooted (search) in
     (c.requires.0, h.0, h.1, refl, length-replicate {A = ℕ} 513 0, refl, refl)
 
 pub all_counted-requires : goal.all_counted-requires
 all_counted-requires c = let d = sifted (search) in
     (c.requires.0, d.children, d.counts)
 
-pub returns-then-not-all_counted : goal.returns-then-not-all_counted
-returns-then-not-all_counted c = never
-
 pub all_fit-requires : goal.all_fit-requires
 all_fit-requires c = let d = sifted (search) in
     (c.requires.0, d.links, d.kindred, d.handed (whole (search)), d.bounded)
 
-pub returns-else-not-all_counted : goal.returns-else-not-all_counted
-returns-else-not-all_counted c e = let d = sifted (search) in
+pub returns-then-all_counted : goal.returns-then-all_counted
+returns-then-all_counted c e = let d = sifted (search) in
     (swept_taken _ c.requires.0 (whole (search)) (rooted ((search))).1 d.fits (c.all_fit.ensures e), d.kindred)
-
-pub returns-in-Failed : goal.returns-in-Failed
-returns-in-Failed c e = never e

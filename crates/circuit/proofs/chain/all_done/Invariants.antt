@@ -9,9 +9,9 @@ use Rattle.circuit.proofs.ChainLaws.{rest}
 use Rattle.circuit.proofs.chain.all_done.Given as goal
 
 abbrev pub invariant-loop-at : goal.invariant-loop-at
-invariant-loop-at l = (l.at.0 ≤ nodes l.table)
-    × (each_done (entry l.status 0) (leading l.defs (chain l.table l.initial.at.0))
-    ≡ each_done (entry l.status 0) (leading l.defs (chain l.table l.at.0)))
+invariant-loop-at l = (l.at.0 ≤ nodes l.design.table.now)
+    × (each_done (entry l.status 0) (leading l.defs (chain l.design.table.now l.initial.at.0))
+    ≡ each_done (entry l.status 0) (leading l.defs (chain l.design.table.now l.at.0)))
 
 abbrev pub decreases-loop-at : goal.decreases-loop-at
-decreases-loop-at l = rest l.table l.at.0
+decreases-loop-at l = rest l.design.table.now l.at.0

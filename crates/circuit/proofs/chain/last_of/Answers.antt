@@ -11,21 +11,21 @@ abbrev Next : Type 0
 Next = lts.After-next tie.the-claims reads.Pre reads.Post goal.the-invariant-loop-on goal.the-decreases-loop-on
 
 -- what was read is the next sibling
-read : (c : Next) → c.next-on.result.0 ≡ next c.args.table.now c.loop-on.on.0
-read c = told _ _ c.requires.0 _ (omega arith, c.loop-on.invariant.0) 5 _ (omega arith) c.next-on.ensures
+read : (c : Next) → c.next-on.result.0 ≡ next c.args.design.now.table.now c.loop-on.on.0
+read c = told _ _ c.args.design.now.read _ (omega arith, c.loop-on.invariant.0) 5 _ (omega arith) c.next-on.ensures
 
 pub loop-on-init : goal.loop-on-init
-loop-on-init c = (c.requires.1, omega arith, refl)
+loop-on-init c = (c.requires, omega arith, refl)
 
 pub loop-on-smaller : goal.loop-on-smaller
-loop-on-smaller c = falls _ c.requires.0.taken _ c.loop-on-test.true c.loop-on.invariant.0 _ (read (search))
+loop-on-smaller c = falls _ c.args.design.now.read.taken _ c.loop-on-test.true c.loop-on.invariant.0 _ (read (search))
 
 pub loop-on-preserved : goal.loop-on-preserved
 loop-on-preserved c = (
-  next_in _ c.requires.0.taken _ c.loop-on-test.true c.loop-on.invariant.0 _ (read (search)),
+  next_in _ c.args.design.now.read.taken _ c.loop-on-test.true c.loop-on.invariant.0 _ (read (search)),
   c.loop-on.invariant.0,
-  c.loop-on.invariant.2 ∙ last_more _ c.requires.0.taken _ c.loop-on-test.true c.loop-on.invariant.0 _ (read (search)) _,
+  c.loop-on.invariant.2 ∙ last_more _ c.args.design.now.read.taken _ c.loop-on-test.true c.loop-on.invariant.0 _ (read (search)) _,
 )
 
 pub returns : goal.returns
-returns c = (sym (c.loop-on.invariant.2 ∙ last_ends _ c.requires.0.taken _ c.loop-on-test.false _), c.loop-on.invariant.1)
+returns c = (sym (c.loop-on.invariant.2 ∙ last_ends _ c.args.design.now.read.taken _ c.loop-on-test.false _), c.loop-on.invariant.1)

@@ -8,8 +8,8 @@ use Rattle.circuit.proofs.ChainLaws.{rest}
 use Rattle.circuit.proofs.chain.last_of.Given as goal
 
 abbrev pub invariant-loop-on : goal.invariant-loop-on
-invariant-loop-on l = (l.on.0 ≤ nodes l.table) × (l.at.0 ≤ nodes l.table)
-    × (last_from 0 (chain l.table l.initial.on.0) ≡ last_from l.at.0 (chain l.table l.on.0))
+invariant-loop-on l = (l.on.0 ≤ nodes l.design.table.now) × (l.at.0 ≤ nodes l.design.table.now)
+    × (last_from 0 (chain l.design.table.now l.initial.on.0) ≡ last_from l.at.0 (chain l.design.table.now l.on.0))
 
 abbrev pub decreases-loop-on : goal.decreases-loop-on
-decreases-loop-on l = rest l.table l.on.0
+decreases-loop-on l = rest l.design.table.now l.on.0

@@ -1,6 +1,5 @@
 -- `changes::give` meets its contract. The invariant: the first i registers are filled, and the arguments from `at` on are left (`GivenTo`).
--- The measure is the registers left.
-use Rattle.std.proofs.Common.{◌-◌, ◌≤◌, map}
+use Rattle.std.proofs.Common.{map}
 use Rattle.table.specs.Naming.{chain}
 use Rattle.rules.specs.Arithmetic.{keep_all, arithmetic}
 use Rattle.rules.specs.State.{entry}
@@ -8,9 +7,6 @@ use Rattle.circuit.proofs.GiveLaws.{GivenTo}
 use Rattle.circuit.proofs.changes.give.Given as goal
 
 abbrev pub invariant-loop-i : goal.invariant-loop-i
-invariant-loop-i l = (l.i ≤ 8) × GivenTo ((arithmetic l.table).keep l.g.0) l.table l.value
-    (keep_all (arithmetic l.table) l.g.0 (map (entry l.value 0) (chain l.table l.initial.at.0))) l.initial.registers
+invariant-loop-i l = GivenTo ((arithmetic l.design.table.now).keep l.g.0) l.design.table.now l.value
+    (keep_all (arithmetic l.design.table.now) l.g.0 (map (entry l.value 0) (chain l.design.table.now l.initial.at.0))) l.initial.registers
     l.registers l.f l.i l.at.0
-
-abbrev pub decreases-loop-i : goal.decreases-loop-i
-decreases-loop-i l = 8 - l.i

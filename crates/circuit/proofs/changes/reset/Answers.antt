@@ -12,21 +12,21 @@ use Rattle.circuit.proofs.changes.reset.Tie as tie
 abbrev AfterRoot : Type 0
 AfterRoot = lts.After-root tie.the-claims reads.Pre reads.Post
 
-read : (c : AfterRoot) → c.root-r.result.0 ≡ root c.args.table.now c.args.g.0
-read c = told_root _ _ c.requires.0 _ c.requires.2 _ c.root-r.ensures
+read : (c : AfterRoot) → c.root-r.result.0 ≡ root c.args.design.now.table.now c.args.g.0
+read c = told_root _ _ c.args.design.now.read _ c.requires.1 _ c.root-r.ensures
 
 pub give-requires : goal.give-requires
-give-requires c = (c.requires.0, c.requires.2, c.requires.3)
+give-requires c = (c.requires.1, c.requires.2)
 
 pub clear_nodes-requires : goal.clear_nodes-requires
-clear_nodes-requires c = (c.requires.0, c.requires.1, c.requires.2)
+clear_nodes-requires c = (c.requires.0, c.requires.1)
 
 pub set_status-requires : goal.set_status-requires
 set_status-requires c = omega (
   arith,
   read (search),
-  ((ok _ c.requires.0.taken).linking.roots _ c.requires.2).1,
-  (ok _ c.requires.0.taken).n_high,
+  ((ok _ c.args.design.now.read.taken).linking.roots _ c.requires.1).1,
+  (ok _ c.args.design.now.read.taken).n_high,
 )
 
 pub returns : goal.returns

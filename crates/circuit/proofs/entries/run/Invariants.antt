@@ -1,7 +1,6 @@
 -- `entries::run` meets its contract. The invariant: the run of all asked nodes is that of those from i on, i steps later, and
 -- the state passes 24.
--- The measure is the nodes left.
-use Rattle.std.proofs.Common.{◌≡◌, ◌-◌, ◌<◌, ◌≤◌, length, drop}
+use Rattle.std.proofs.Common.{◌≡◌, drop}
 use Rattle.rules.specs.Runs.{run_from}
 use Rattle.circuit.specs.Meaning.{state_as}
 use Rattle.circuit.specs.Working.{Stands}
@@ -9,11 +8,7 @@ use Rattle.circuit.proofs.EntryLaws.{plus}
 use Rattle.circuit.proofs.entries.run.Given as goal
 
 abbrev pub invariant-loop-i : goal.invariant-loop-i
-invariant-loop-i l = (l.i ≤ length l.nodes) × Stands l.table (state_as l.status l.second l.value l.registers l.occupant) ×
-    (run_from l.table l.tags (state_as l.initial.status l.initial.second l.initial.value l.initial.registers
+invariant-loop-i l = Stands l.design.table.now (state_as l.status l.second l.value l.registers l.occupant) ×
+    (run_from l.design.table.now l.tags (state_as l.initial.status l.initial.second l.initial.value l.initial.registers
     l.initial.occupant) l.nodes ≡ plus l.i
-    (run_from l.table l.tags (state_as l.status l.second l.value l.registers l.occupant) (drop l.i l.nodes)))
-    × (length l.nodes < 18446744073709551616)
-
-abbrev pub decreases-loop-i : goal.decreases-loop-i
-decreases-loop-i l = length l.nodes - l.i
+    (run_from l.design.table.now l.tags (state_as l.status l.second l.value l.registers l.occupant) (drop l.i l.nodes)))

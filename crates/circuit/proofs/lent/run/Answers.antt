@@ -1,6 +1,6 @@
 -- `lent::run` meets its contract: what is checked before the first step, then the steps.
-use Rattle.std.proofs.Common.{sym, refl, ap, ◌∙◌}
-use Rattle.table.specs.Survey.{verdict_of}
+use Rattle.std.proofs.Common.{sym, refl}
+use Rattle.std.proofs.lemmas.Result.{err_from_is_err_and}
 use Rattle.rules.specs.State.{State512}
 use Rattle.circuit.specs.Meaning.{state_as}
 use Rattle.circuit.proofs.EntryLaws.{admitted_from}
@@ -11,21 +11,22 @@ use Rattle.circuit.proofs.lent.run.Reads as reads
 use Rattle.circuit.proofs.lent.run.Tie as tie
 
 abbrev Start : Type 0
-Start = lts.Start tie.the-claims reads.Pre reads.Post
+Start = lts.Start tie.the-claims reads.Pre reads.Post tie.handed_clauses
 
 abbrev state : Start → State512
 state s = state_as s.args.status.now s.args.second.now s.args.value.now s.args.registers.now s.args.occupant.now
 
-pub run-end-requires : goal.run-end-requires
-run-end-requires c = let f = c.admit-checked.ensures in
-    let v = ap verdict_of c.in-Accepted.is in
-    let a = admitted_from _ _ (state (search)) _ _ (sym (f.told _ _ _) ∙ v) in
-    (f.read _ _ v, a.0, a.1)
+pub returns-in_err-admit : goal.returns-in_err-admit
+returns-in_err-admit c = let p = err_from_is_err_and c.from_residual.result c.from_residual.ensures.1 in
+    rw (p.1, p.2) (ran_kept _ _ (state (search)) c.args.nodes.now _ _ _ _ (sym (c.in_err-admit.ensures.told _ _ _)) refl)
 
-pub returns-in-Refused : goal.returns-in-Refused
-returns-in-Refused c = ran_kept _ _ (state (search)) c.args.nodes.now _ _ _ _
-    (sym (c.admit-checked.ensures.told _ _ _) ∙ ap verdict_of c.in-Refused.is) refl
+pub invariant_of-design : goal.invariant_of-design
+invariant_of-design c = record { read = c.in_ok-admit.ensures.read _ _ refl }
 
-pub returns-in-Accepted : goal.returns-in-Accepted
-returns-in-Accepted c = ran_counted _ _ (state (search)) c.args.nodes.now _ _ _ c.run-end.result _ (sym (c.admit-checked.ensures.told _ _ _)
-    ∙ ap verdict_of c.in-Accepted.is) c.run-end.ensures
+pub run-requires : goal.run-requires
+run-requires c = let f = c.in_ok-admit.ensures in
+    let a = admitted_from _ _ (state (search)) _ _ (sym (f.told _ _ _)) in
+    (a.0, a.1)
+
+pub returns : goal.returns
+returns c = ran_counted _ _ (state (search)) c.args.nodes.now _ _ _ c.run.result _ _ (sym (c.in_ok-admit.ensures.told _ _ _)) c.run.ensures

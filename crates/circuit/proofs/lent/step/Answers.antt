@@ -1,6 +1,5 @@
 -- `lent::step` meets its contract: the table and its tags, then the rest.
-use Rattle.std.proofs.Common.{sym, ap, ◌∙◌}
-use Rattle.table.specs.Survey.{verdict_of}
+use Rattle.std.proofs.Common.{sym, ◌∙◌}
 use Rattle.rules.specs.State.{State512}
 use Rattle.circuit.specs.Meaning.{state_as}
 use Rattle.circuit.proofs.TurnLaws.{step_is, step_turned}
@@ -15,13 +14,8 @@ Start = lts.Start tie.the-claims reads.Pre reads.Post
 abbrev state : Start → State512
 state s = state_as s.args.status.now s.args.second.now s.args.value.now s.args.registers.now s.args.occupant.now
 
-pub step-requires : goal.step-requires
-step-requires c = c.read_in-checked.ensures.read _ _ (ap verdict_of c.in-Accepted.is)
+pub returns-in-Err : goal.returns-in-Err
+returns-in-Err c = step_turned _ _ _ _ (sym c.in-Err.ensures.told) (state (search)) c.args.n.0
 
-pub returns-in-Refused : goal.returns-in-Refused
-returns-in-Refused c = step_turned _ _ _ _ (sym c.read_in-checked.ensures.told ∙ ap verdict_of c.in-Refused.is) (state (search)) c.args.n.0
-
-pub returns-in-Accepted : goal.returns-in-Accepted
-returns-in-Accepted c = c.step.ensures ∙ sym (step_is _ _ _ _ (sym c.read_in-checked.ensures.told
-    ∙ ap verdict_of c.in-Accepted.is) (state (search))
-    c.args.n.0)
+pub returns-in-Ok : goal.returns-in-Ok
+returns-in-Ok c = c.step.ensures ∙ sym (step_is _ _ _ _ (sym c.in-Ok.ensures.told) (state (search)) c.args.n.0)

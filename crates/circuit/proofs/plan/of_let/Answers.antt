@@ -15,29 +15,29 @@ abbrev AfterFirst : Type 0
 AfterFirst = lts.After-first tie.the-claims reads.Pre reads.Post
 
 -- what was read is the node's first child
-read : (c : AfterFirst) → c.first-c.result.0 ≡ first c.args.table.now c.args.n.0
-read c = told _ _ c.requires.0 _ c.requires.1 4 _ (omega arith) c.first-c.ensures
+read : (c : AfterFirst) → c.first-c.result.0 ≡ first c.args.design.now.table.now c.args.n.0
+read c = told _ _ c.args.design.now.read _ c.requires.0 4 _ (omega arith) c.first-c.ensures
 
 pub last_of-body-requires : goal.last_of-body-requires
-last_of-body-requires c = (c.requires.0, first_in_lem _ c.requires.0.taken _ c.requires.1 _ (read (search)))
+last_of-body-requires c = first_in_lem _ c.args.design.now.read.taken _ c.requires.0 _ (read (search))
 
 pub second_at-requires : goal.second_at-requires
-second_at-requires c = omega (arith, c.requires.1.1, (ok _ c.requires.0.taken).n_high)
+second_at-requires c = omega (arith, c.requires.0.1, (ok _ c.args.design.now.read.taken).n_high)
 
 pub value_at-requires : goal.value_at-requires
-value_at-requires c = omega (arith, c.last_of-body.ensures.1, (ok _ c.requires.0.taken).n_high)
+value_at-requires c = omega (arith, c.last_of-body.ensures.1, (ok _ c.args.design.now.read.taken).n_high)
 
 pub returns-then-second_at : goal.returns-then-second_at
 returns-then-second_at c = let p = c.requires in
-    λ a d e busy h. acts_bind _ p.0.taken _ p.1 a _ _ d e _ busy p.2
+    λ a d e busy h. acts_bind _ c.args.design.now.read.taken _ p.0 a _ _ d e _ busy p.1
     (bind_pass _ a _ _ _ _ (read (search)) _ c.last_of-body.ensures.0 _
     c.second_at.ensures _ c.if-second_at.true (pass_yes a _ _ _ refl _ c.value_at.ensures
     (ap (entry a 0) (body_is _ a _ c.args.value.now _ _ (read (search)) _ c.last_of-body.ensures.0 _ c.second_at.ensures)
-    ∙ bind_pass_done _ p.0.taken _ p.1 a _ _ d e h busy p.2 (sym c.second_at.ensures ∙ c.if-second_at.true))))
+    ∙ bind_pass_done _ c.args.design.now.read.taken _ p.0 a _ _ d e h busy p.1 (sym c.second_at.ensures ∙ c.if-second_at.true))))
 
 pub returns : goal.returns
 returns c = let p = c.requires in
-    λ a d e busy h. acts_bind _ p.0.taken _ p.1 a _ _ d e _ busy p.2
+    λ a d e busy h. acts_bind _ c.args.design.now.read.taken _ p.0 a _ _ d e _ busy p.1
     (bind_turn _ a _ _ _ _ (read (search)) _ c.last_of-body.ensures.0 _
     c.second_at.ensures c.if-second_at.false _ refl (defs_done _ a _ _ (read (search))
-    (bind_turn_done _ p.0.taken _ p.1 a _ _ d e h busy p.2 (sym c.second_at.ensures ∙ c.if-second_at.false))))
+    (bind_turn_done _ c.args.design.now.read.taken _ p.0 a _ _ d e h busy p.1 (sym c.second_at.ensures ∙ c.if-second_at.false))))

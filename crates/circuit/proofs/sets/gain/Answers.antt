@@ -1,29 +1,9 @@
-use Rattle.std.proofs.Common.{◌||◌, arith, rules}
+-- `sets::gain` meets its contract: each of the eight words is a call of the closure
+use Rattle.std.proofs.Common.{◌||◌, rules}
 use lib.Bits.{bit_or}
 use Rattle.list.proofs.BitLaws.{or_bit}
-use Rattle.circuit.proofs.PackedLaws.{written_none, written_more, packs_two}
+use Rattle.circuit.proofs.PackedLaws.{packs_two}
 use Rattle.circuit.proofs.sets.gain.Goals as goal
 
-pub loop-i-init : goal.loop-i-init
-loop-i-init c = written_none _ _ (search rules)
-
-pub bounds-set-i : goal.bounds-set-i
-bounds-set-i c = omega arith
-
-pub bounds-other-i : goal.bounds-other-i
-bounds-other-i c = omega arith
-
-pub bounds-r-i : goal.bounds-r-i
-bounds-r-i c = omega arith
-
-pub overflow_add-i : goal.overflow_add-i
-overflow_add-i c = omega arith
-
-pub loop-i-smaller : goal.loop-i-smaller
-loop-i-smaller c = omega arith
-
-pub loop-i-preserved : goal.loop-i-preserved
-loop-i-preserved c = written_more _ _ _ _ c.loop-i.invariant c.loop-i-test.true
-
 pub returns : goal.returns
-returns c = packs_two bit_or (λ p q. p || q) or_bit _ _ _ _ _ c.loop-i.invariant c.loop-i-test.false
+returns c = packs_two bit_or (λ p q. p || q) or_bit _ _ _ c.from_fn.ensures.items.long (search rules)

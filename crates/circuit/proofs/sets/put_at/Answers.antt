@@ -11,5 +11,4 @@ returns c = let a = c.args in
     let x = a.rows.now in
     let n = a.n.0 in
     let at = 8 * a.k + (n - 1) / 64 in
-    subst (λ v. PutAt a.k n x (set x at (bit_or (get_or x at 0) v))) (sym c.bit.ensures) (put_row x a.k n p.0 p.1
-    p.2)
+    subst (λ v. PutAt a.k n x (set x at (bit_or (get_or x at 0) v))) (sym c.bit.ensures) (put_row x a.k n c.told-rows p.0 p.1)

@@ -13,17 +13,17 @@ use Rattle.circuit.proofs.sorts.gathers.Tie as tie
 abbrev AfterKind : Type 0
 AfterKind = lts.After-kind tie.the-claims reads.Pre reads.Post
 
-read : (c : AfterKind) → c.kind-kind.result ≡ kind c.args.table.now c.args.n.0
-read c = told _ _ c.requires.0 _ c.requires.1 0 _ (omega arith) c.kind-kind.ensures
+read : (c : AfterKind) → c.kind-kind.result ≡ kind c.args.design.now.table.now c.args.n.0
+read c = told _ _ c.args.design.now.read _ c.requires 0 _ (omega arith) c.kind-kind.ensures
 
 pub status_at-requires : goal.status_at-requires
-status_at-requires c = omega (arith, c.requires.1.1, (ok _ c.requires.0.taken).n_high)
+status_at-requires c = omega (arith, c.requires.1, (ok _ c.args.design.now.read.taken).n_high)
 
 pub returns-then-status_at-ne2 : goal.returns-then-status_at-ne2
 returns-then-status_at-ne2 c = gathers_idle _ _ _ _ (λ e. c.if-status_at-ne2.true (c.status_at.ensures ∙ e))
 
 pub second_at-requires : goal.second_at-requires
-second_at-requires c = omega (arith, c.requires.1.1, (ok _ c.requires.0.taken).n_high)
+second_at-requires c = omega (arith, c.requires.1, (ok _ c.args.design.now.read.taken).n_high)
 
 pub returns-then-second_at : goal.returns-then-second_at
 returns-then-second_at c = gathers_late _ _ _ _ (sym c.second_at.ensures ∙ c.if-second_at.true)

@@ -15,32 +15,33 @@ abbrev AfterFirst : Type 0
 AfterFirst = lts.After-first tie.the-claims reads.Pre reads.Post
 
 -- what was read is the node's first child
-read : (c : AfterFirst) → c.first-c.result.0 ≡ first c.args.table.now c.args.n.0
-read c = told _ _ c.requires.0 _ c.requires.1 4 _ (omega arith) c.first-c.ensures
+read : (c : AfterFirst) → c.first-c.result.0 ≡ first c.args.design.now.table.now c.args.n.0
+read c = told _ _ c.args.design.now.read _ c.requires.0 4 _ (omega arith) c.first-c.ensures
 
 pub second_at-requires : goal.second_at-requires
-second_at-requires c = omega (arith, c.requires.1.1, (ok _ c.requires.0.taken).n_high)
+second_at-requires c = omega (arith, c.requires.0.1, (ok _ c.args.design.now.read.taken).n_high)
 
 pub last_of-requires : goal.last_of-requires
-last_of-requires c = (c.requires.0, first_in_lem _ c.requires.0.taken _ c.requires.1 _ (read (search)))
+last_of-requires c = first_in_lem _ c.args.design.now.read.taken _ c.requires.0 _ (read (search))
 
 pub once_done-requires : goal.once_done-requires
-once_done-requires c = omega (arith, c.last_of.ensures.1, (ok _ c.requires.0.taken).n_high)
+once_done-requires c = omega (arith, c.last_of.ensures.1, (ok _ c.args.design.now.read.taken).n_high)
 
 pub returns-then-second_at : goal.returns-then-second_at
 returns-then-second_at c = let p = c.requires in
-    λ v d e. sort_bind _ p.0.taken _ p.1 _ _ v d e p.2 _ p.3 (bind_second _ _ _ v _ _ (read (search)) _ c.last_of.ensures.0 _
+    λ v d e. sort_bind _ c.args.design.now.read.taken _ p.0 _ _ v d e p.1 _ p.2 (bind_second _ _ _ v _ _ (read
+    (search)) _ c.last_of.ensures.0 _
     c.second_at.ensures c.if-second_at.true _ c.once_done.ensures)
 
 pub all_done-requires : goal.all_done-requires
-all_done-requires c = (c.requires.0, first_in_lem _ c.requires.0.taken _ c.requires.1 _ (read (search)))
+all_done-requires c = first_in_lem _ c.args.design.now.read.taken _ c.requires.0 _ (read (search))
 
 pub returns-then-all_done : goal.returns-then-all_done
 returns-then-all_done c = let p = c.requires in
-    λ v d e. sort_bind _ p.0.taken _ p.1 _ _ v d e p.2 _ p.3 (ap sort (bind_turn _ _ _ v _ _ (read (search)) _ refl _
+    λ v d e. sort_bind _ c.args.design.now.read.taken _ p.0 _ _ v d e p.1 _ p.2 (ap sort (bind_turn _ _ _ v _ _ (read (search)) _ refl _
     c.second_at.ensures c.if-second_at.false _ c.all_done.ensures c.if-all_done.true))
 
 pub returns-else-all_done : goal.returns-else-all_done
 returns-else-all_done c = let p = c.requires in
-    λ v d e. sort_bind _ p.0.taken _ p.1 _ _ v d e p.2 _ p.3 (ap sort (bind_wait _ _ _ v _ _ (read (search)) _ refl _
+    λ v d e. sort_bind _ c.args.design.now.read.taken _ p.0 _ _ v d e p.1 _ p.2 (ap sort (bind_wait _ _ _ v _ _ (read (search)) _ refl _
     c.second_at.ensures c.if-second_at.false _ c.all_done.ensures c.if-all_done.false))

@@ -20,38 +20,38 @@ abbrev AfterRoot : Type 0
 AfterRoot = lts.After-root tie.the-claims reads.Pre reads.Post
 
 -- what was read is the node's first child
-read : (c : AfterFirst) → c.first-c.result.0 ≡ first c.args.table.now c.args.n.0
-read c = told _ _ c.requires.0 _ c.requires.1 4 _ (omega arith) c.first-c.ensures
+read : (c : AfterFirst) → c.first-c.result.0 ≡ first c.args.design.now.table.now c.args.n.0
+read c = told _ _ c.args.design.now.read _ c.requires.0 4 _ (omega arith) c.first-c.ensures
 
-callee : (c : AfterRoot) → IsFunction c.args.table.now c.args.g.0
+callee : (c : AfterRoot) → IsFunction c.args.design.now.table.now c.args.g.0
 callee c =
     let p = c.requires in
-    subst (IsFunction _) (sym p.4) (callee_in _ p.0.taken _ p.1 p.3)
+    subst (IsFunction _) (sym p.3) (callee_in _ c.args.design.now.read.taken _ p.0 p.2)
 
-roots : (c : AfterRoot) → c.root.result.0 ≡ root c.args.table.now c.args.g.0
-roots c = told_root _ _ c.requires.0 _ (callee c) _ c.root.ensures
+roots : (c : AfterRoot) → c.root.result.0 ≡ root c.args.design.now.table.now c.args.g.0
+roots c = told_root _ _ c.args.design.now.read _ (callee c) _ c.root.ensures
 
 pub second_at-requires : goal.second_at-requires
-second_at-requires c = omega (arith, c.requires.1.1, (ok _ c.requires.0.taken).n_high)
+second_at-requires c = omega (arith, c.requires.0.1, (ok _ c.args.design.now.read.taken).n_high)
 
 pub once_done-requires : goal.once_done-requires
-once_done-requires c = let passes = ok _ c.requires.0.taken in
+once_done-requires c = let passes = ok _ c.args.design.now.read.taken in
     omega (arith, roots (search), (passes.linking.roots _ (callee (search))).1, passes.n_high)
 
 pub returns-then-second_at : goal.returns-then-second_at
 returns-then-second_at c = let p = c.requires in
-    λ v d e. sort_call _ p.0.taken _ p.1 _ _ v d e p.2 _ p.3 p.5 (inside_sort _ _ _ v e _ _ p.4 _
+    λ v d e. sort_call _ c.args.design.now.read.taken _ p.0 _ _ v d e p.1 _ p.2 p.4 (inside_sort _ _ _ v e _ _ p.3 _
     c.second_at.ensures c.if-second_at.true _ (roots (search)) _ c.once_done.ensures)
 
 pub all_done-requires : goal.all_done-requires
-all_done-requires c = (c.requires.0, first_in_lem _ c.requires.0.taken _ c.requires.1 _ (read (search)))
+all_done-requires c = first_in_lem _ c.args.design.now.read.taken _ c.requires.0 _ (read (search))
 
 pub returns-then-all_done : goal.returns-then-all_done
 returns-then-all_done c = let p = c.requires in
-    λ v d e. sort_call _ p.0.taken _ p.1 _ _ v d e p.2 _ p.3 p.5 (waits_sort _ _ _ v e _ _ p.4 _
+    λ v d e. sort_call _ c.args.design.now.read.taken _ p.0 _ _ v d e p.1 _ p.2 p.4 (waits_sort _ _ _ v e _ _ p.3 _
     c.second_at.ensures c.if-second_at.false _ (read (search)) _ c.all_done.ensures c.if-all_done.true)
 
 pub returns-else-all_done : goal.returns-else-all_done
 returns-else-all_done c = let p = c.requires in
-    λ v d e. sort_call _ p.0.taken _ p.1 _ _ v d e p.2 _ p.3 p.5 (ap sort (enter_not _ _ _ v e _ _ p.4 _
+    λ v d e. sort_call _ c.args.design.now.read.taken _ p.0 _ _ v d e p.1 _ p.2 p.4 (ap sort (enter_not _ _ _ v e _ _ p.3 _
     c.second_at.ensures c.if-second_at.false _ (read (search)) _ c.all_done.ensures c.if-all_done.false))

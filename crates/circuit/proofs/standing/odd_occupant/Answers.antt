@@ -1,38 +1,34 @@
-use Rattle.std.proofs.Common.{sym, ap, ◌∙◌, arith}
-use Rattle.table.specs.Bytes.{nodes}
+-- `standing::odd_occupant` meets its contract: some occupant up to F is over N.
+use Rattle.std.proofs.Common.{◌≡◌, ◌≤◌, ltb, take, length, ◌∙◌, ap₂, arith, rules}
+use Rattle.std.specs.List.{list_any}
+use Rattle.std.proofs.lemmas.Iterator.{YieldsList-from_slice}
+use Rattle.std.proofs.lemmas.Iterator.Search.{any_from_yields_List}
+use borrow.Author.Tests.{tests}
 use Rattle.table.proofs.Reading.{told_main, told_last}
 use Rattle.rules.specs.Step.{over}
 use Rattle.circuit.proofs.ChainLaws.{ok}
-use Rattle.circuit.proofs.StandsLaws.{over_here, over_less, over_end}
+use Rattle.circuit.proofs.StandsLaws.{over_any}
 use Rattle.circuit.proofs.standing.odd_occupant.Goals as goal
 
-pub loop-f-init : goal.loop-f-init
-loop-f-init c = let e = told_main _ _ c.requires _ c.main-main.ensures in (
-  omega (arith, e),
-  told_last _ _ c.requires _ c.last-last.ensures,
-  ap (λ k. over (nodes c.args.table.now) k c.args.occupant.now) (sym e),
-)
-
-pub occupant_at-requires : goal.occupant_at-requires
-occupant_at-requires c = omega (arith, c.loop-f.invariant.0, (ok _ c.requires.taken).f_high)
-
-pub returns-then-last-occupant_at : goal.returns-then-last-occupant_at
-returns-then-last-occupant_at c = sym (c.loop-f.invariant.2 ∙ over_here (nodes _) _ _ _ c.loop-f-test.true c.occupant_at.ensures
-    (omega (arith, c.if-last-occupant_at.true, c.loop-f.invariant.1)))
-
-pub overflow_sub-f : goal.overflow_sub-f
-overflow_sub-f c = omega arith
-
-pub loop-f-smaller : goal.loop-f-smaller
-loop-f-smaller c = omega arith
-
-pub loop-f-preserved : goal.loop-f-preserved
-loop-f-preserved c = (
-  omega (arith, c.loop-f.invariant.0),
-  c.loop-f.invariant.1,
-  c.loop-f.invariant.2 ∙ over_less (nodes _) _ _ _ c.loop-f-test.true c.occupant_at.ensures
-      (omega (arith, c.if-last-occupant_at.false, c.loop-f.invariant.1)),
+pub shared_ref_as_front-iter : goal.shared_ref_as_front-iter
+shared_ref_as_front-iter c = omega (
+  arith,
+  told_main _ _ c.args.design.now.read _ c.main-main.ensures,
+  (ok _ c.args.design.now.read.taken).f_high,
 )
 
 pub returns : goal.returns
-returns c = sym (c.loop-f.invariant.2 ∙ over_end (nodes _) _ _ (omega arith))
+returns c = let n = c.last-last.result.0 in
+    let f = c.main-main.result.0 in
+    let l = c.args.occupant.now in
+    let some : c.any.result ≡ list_any (ltb n) (take f l) =
+    any_from_yields_List (ltb n) _ _ c.any.result c.any.ensures.ran (YieldsList-from_slice (take f l) cc)
+    (λ x b q k. search (rules, tests)) in
+    let few : f ≤ length l = omega (
+      arith,
+      told_main _ _ c.args.design.now.read _ c.main-main.ensures,
+      (ok _ c.args.design.now.read.taken).f_high,
+    ) in
+    some ∙ over_any n f l few ∙ ap₂ (λ x y. over x y l) (told_last _ _ c.args.design.now.read _ c.last-last.ensures)
+    (told_main _ _ c.args.design.now.read _
+    c.main-main.ensures)

@@ -14,27 +14,25 @@ abbrev AfterFirst : Type 0
 AfterFirst = lts.After-first tie.the-claims reads.Pre reads.Post
 
 -- what was read is the node's kind and first child
-kinds : (c : AfterFirst) → c.kind-kind.result ≡ kind c.args.table.now c.args.n.0
-kinds c = told _ _ c.requires.0 _ c.requires.1 0 _ (omega arith) c.kind-kind.ensures
+kinds : (c : AfterFirst) → c.kind-kind.result ≡ kind c.args.design.now.table.now c.args.n.0
+kinds c = told _ _ c.args.design.now.read _ c.requires 0 _ (omega arith) c.kind-kind.ensures
 
-firsts : (c : AfterFirst) → c.first-c.result.0 ≡ first c.args.table.now c.args.n.0
-firsts c = told _ _ c.requires.0 _ c.requires.1 4 _ (omega arith) c.first-c.ensures
+firsts : (c : AfterFirst) → c.first-c.result.0 ≡ first c.args.design.now.table.now c.args.n.0
+firsts c = told _ _ c.args.design.now.read _ c.requires 4 _ (omega arith) c.first-c.ensures
 
 pub place-requires : goal.place-requires
 place-requires c = let p = c.requires in
-    let i = (three_in _ p.0.taken _ p.1 (sym (kinds (search)) ∙ c.if-kind-eq5.true)).0 in
-    (p.2, (omega (arith, i.0, firsts (search)), omega (arith, i.1, firsts (search), (ok _ p.0.taken).n_high)))
+    let i = (three_in _ c.args.design.now.read.taken _ p (sym (kinds (search)) ∙ c.if-kind-eq5.true)).0 in
+    (omega (arith, i.0, firsts (search)), omega (arith, i.1, firsts (search), (ok _ c.args.design.now.read.taken).n_high))
 
 pub returns-then-kind-eq5 : goal.returns-then-kind-eq5
-returns-then-kind-eq5 c = (
-  c.place.ensures.0,
-  λ h. arm_if _ _ _ (kinds (search)) _ (firsts (search)) _ _ c.if-kind-eq5.true
-      (c.place.ensures.1 h),
-)
+returns-then-kind-eq5 c =
+    (arm_if _ _ _ (kinds (search)) _ (firsts (search)) _ _ c.if-kind-eq5.true c.place.ensures.0, c.place.ensures.1)
 
 pub arm_all-requires : goal.arm_all-requires
 arm_all-requires c = let p = c.requires in
-    (p.0, first_in_lem _ p.0.taken _ p.1 _ (firsts (search)), p.2)
+    (first_in_lem _ c.args.design.now.read.taken _ p _ (firsts (search)))
 
 pub returns : goal.returns
-returns c = (c.arm_all.ensures.0, λ h. arm_other _ _ _ (kinds (search)) _ (firsts (search)) _ _ c.if-kind-eq5.false (c.arm_all.ensures.1 h))
+returns c =
+    (arm_other _ _ _ (kinds (search)) _ (firsts (search)) _ _ c.if-kind-eq5.false c.arm_all.ensures.0, c.arm_all.ensures.1)

@@ -16,24 +16,25 @@ abbrev AfterCallee : Type 0
 AfterCallee = lts.After-callee tie.the-claims reads.Pre reads.Post
 
 -- a call's word is a function
-function : (c : AfterCallee) → IsFunction c.args.table.now (word c.args.table.now c.args.n.0)
+function : (c : AfterCallee) → IsFunction c.args.design.now.table.now (word c.args.design.now.table.now c.args.n.0)
 function c =
     let p = c.requires in
-    callee_in _ p.0.taken _ p.1 (call_kind _ _ _ c.is_call.ensures c.if-is_call.true)
+    callee_in _ c.args.design.now.read.taken _ p (call_kind _ _ _ c.is_call.ensures c.if-is_call.true)
 
 -- which was read
-read : (c : AfterCallee) → c.callee.result.0 ≡ word c.args.table.now c.args.n.0
+read : (c : AfterCallee) → c.callee.result.0 ≡ word c.args.design.now.table.now c.args.n.0
 read c =
     let p = c.requires in
-    told_low _ _ p.0 _ p.1 (omega (arith, (function c).1, (ok _ p.0.taken).f_high)) _ c.callee.ensures
+    told_low _ _ c.args.design.now.read _ p (omega (arith, (function c).1, (ok _ c.args.design.now.read.taken).f_high)) _ c.callee.ensures
 
 pub occupant_at-requires : goal.occupant_at-requires
-occupant_at-requires c = omega (arith, read (search), (function (search)).1, (ok _ c.requires.0.taken).f_high)
+occupant_at-requires c = omega (arith, read (search), (function (search)).1, (ok _ c.args.design.now.read.taken).f_high)
 
 pub returns-then-is_call : goal.returns-then-is_call
-returns-then-is_call c = λ x y z u. held_is _ c.requires.0.taken _ c.requires.1 _ c.is_call.ensures (state_as x y z u c.args.occupant.now)
+returns-then-is_call c = λ x y z u. held_is _ c.args.design.now.read.taken _ c.requires _ c.is_call.ensures
+    (state_as x y z u c.args.occupant.now)
     c.if-is_call.true _ _ (read (search)) c.occupant_at.ensures
 
 pub returns : goal.returns
-returns c = λ x y z u. held_not _ c.requires.0.taken _ c.requires.1 _ c.is_call.ensures (state_as x y z u c.args.occupant.now)
+returns c = λ x y z u. held_not _ c.args.design.now.read.taken _ c.requires _ c.is_call.ensures (state_as x y z u c.args.occupant.now)
     c.if-is_call.false

@@ -24,46 +24,46 @@ AfterCallee = lts.After-callee tie.the-claims reads.Pre reads.Post
 
 -- the node has a bit
 bit : (s : Start) → Bit s.args.n.0
-bit s = (s.requires.1.0, omega (arith, s.requires.1.1, (ok _ s.requires.0.taken).n_high))
+bit s = (s.requires.0.0, omega (arith, s.requires.0.1, (ok _ s.args.design.now.read.taken).n_high))
 
 -- what was read is the node's function
-own_read : (c : AfterOwner) → c.owner-f.result.0 ≡ owner c.args.table.now c.args.n.0
-own_read c = told _ _ c.requires.0 _ c.requires.1 6 _ (omega arith) c.owner-f.ensures
+own_read : (c : AfterOwner) → c.owner-f.result.0 ≡ owner c.args.design.now.table.now c.args.n.0
+own_read c = told _ _ c.args.design.now.read _ c.requires.0 6 _ (omega arith) c.owner-f.ensures
 
 few : (c : AfterOwner) → c.owner-f.result.0 ≤ 32
 few c =
     let p = c.requires in
-    omega (arith, own_read c, (own_in _ p.0.taken _ p.1).1, (ok _ p.0.taken).f_high)
+    omega (arith, own_read c, (own_in _ c.args.design.now.read.taken _ p.0).1, (ok _ c.args.design.now.read.taken).f_high)
 
 abbrev start : AfterCallee → Start
 start c = (search)
 
 -- a call's word is a function
-function : (c : AfterCallee) → IsFunction (start c).args.table.now (word (start c).args.table.now (start c).args.n.0)
+function : (c : AfterCallee) → IsFunction (start c).args.design.now.table.now (word (start c).args.design.now.table.now (start c).args.n.0)
 function c =
-    let p = (start c).requires in
-    callee_in _ p.0.taken _ p.1 (call_kind _ _ _ c.is_call.ensures c.if-is_call.true)
+    let s = start c in
+    callee_in _ s.args.design.now.read.taken _ s.requires.0 (call_kind _ _ _ c.is_call.ensures c.if-is_call.true)
 
 -- which was read
-word_read : (c : AfterCallee) → c.callee-g.result.0 ≡ word (start c).args.table.now (start c).args.n.0
+word_read : (c : AfterCallee) → c.callee-g.result.0 ≡ word (start c).args.design.now.table.now (start c).args.n.0
 word_read c =
-    let p = (start c).requires in
-    told_low _ _ p.0 _ p.1 (omega (arith, (function c).1, (ok _ p.0.taken).f_high)) _ c.callee-g.ensures
+    let s = start c in
+    let r = s.args.design.now.read in
+    told_low _ _ r _ s.requires.0 (omega (arith, (function c).1, (ok _ r.taken).f_high)) _ c.callee-g.ensures
 
 pub mark-requires : goal.mark-requires
-mark-requires c = (c.requires.2, bit (search))
+mark-requires c = bit (search)
 
 pub put_at-requires : goal.put_at-requires
-put_at-requires c = (c.requires.3.size, omega (arith, few (search)), bit (search))
+put_at-requires c = (omega (arith, few (search)), bit (search))
 
 pub put_at-requires-then-is_call : goal.put_at-requires-then-is_call
 put_at-requires-then-is_call c = (
-  c.put_at.ensures.size,
   omega (
     arith,
     word_read (search),
     (function (search)).1,
-    (ok _ (start (search)).requires.0.taken).f_high,
+    (ok _ (start (search)).args.design.now.read.taken).f_high,
   ),
   bit (start (search)),
 )
@@ -71,7 +71,7 @@ put_at-requires-then-is_call c = (
 pub returns-then-is_call : goal.returns-then-is_call
 returns-then-is_call c = let s = start (search) in
     let p = s.requires in (
-      rowed_call _ p.0.taken _ p.1 _ p.3 _ (own_read (search)) (few (search)) _ c.put_at.ensures _
+      rowed_call _ s.args.design.now.read.taken _ p.0 _ p.1 _ (own_read (search)) (few (search)) _ c.put_at.ensures _
           c.is_call.ensures c.if-is_call.true _ (word_read (search)) (omega (arith, word_read (search), (function (search)).0)) _
           c.put_at-then-is_call.ensures,
       λ x y z u. marked_as _ _ _ s.args.held.now _ (c.barred.ensures x y z u) c.mark.ensures,
@@ -79,7 +79,7 @@ returns-then-is_call c = let s = start (search) in
 
 pub returns-else-is_call : goal.returns-else-is_call
 returns-else-is_call c = let p = c.requires in (
-  rowed_other _ p.0.taken _ p.1 _ p.3 _ (own_read (search)) (few (search)) _ c.put_at.ensures _ c.is_call.ensures
+  rowed_other _ c.args.design.now.read.taken _ p.0 _ p.1 _ (own_read (search)) (few (search)) _ c.put_at.ensures _ c.is_call.ensures
       c.if-is_call.false,
   λ x y z u. marked_as _ _ _ c.args.held.now _ (c.barred.ensures x y z u) c.mark.ensures,
 )

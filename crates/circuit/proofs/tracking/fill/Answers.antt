@@ -1,9 +1,11 @@
-use Rattle.std.proofs.Common.{◌≡◌, ◌+◌, ◌≤◌, arith}
+use Rattle.std.proofs.Common.{◌≡◌, ◌+◌, ◌-◌, refl, ap, arith}
 use Rattle.table.specs.Bytes.{nodes}
 use Rattle.table.specs.Working.{IsNode}
 use Rattle.table.proofs.Reading.{told_last}
+use Rattle.list.specs.Working.{packed}
+use Rattle.circuit.specs.Packed.{unpacked}
 use Rattle.circuit.proofs.ChainLaws.{ok}
-use Rattle.circuit.proofs.TrackLaws.{filled_start, filled_rows, filled_next, filled_rowed, filled_tracks}
+use Rattle.circuit.proofs.TrackLaws.{FilledTo, filled_start, filled_rows, filled_next, filled_rowed, filled_tracks}
 use Rattle.circuit.proofs.tracking.fill.Goals as goal
 use Rattle.circuit.proofs.tracking.fill.Lts as lts
 use Rattle.circuit.proofs.tracking.fill.Reads as reads
@@ -12,47 +14,50 @@ use Rattle.circuit.proofs.tracking.fill.Tie as tie
 abbrev Turn : Type 0
 Turn = lts.In-loop tie.the-claims reads.Pre reads.Post goal.the-invariant-loop-n goal.the-decreases-loop-n
 
-node : (c : Turn) → IsNode c.args.table.now (c.loop-n.n + 1)
-node c = (omega arith, omega (arith, c.loop-n-test.true, c.loop-n.invariant.1))
+abbrev Done : Type 0
+Done = lts.After-read_anew tie.the-claims reads.Pre reads.Post goal.the-invariant-loop-n goal.the-decreases-loop-n
 
--- a node is at most 512
-high : (c : Turn) → c.loop-n.n + 1 ≤ 512
-high c = omega (arith, (node c).1, (ok _ c.requires.0.taken).n_high)
+node : (c : Turn) → IsNode c.args.design.now.table.now c.loop-n.n
+node c = (c.loop-n.auto.n, omega (arith, c.loop-n-test.true, told_last _ _ c.args.design.now.read _ c.last-last.ensures))
+
+next : (c : Turn) → c.loop-n.n ≡ c.loop-n.n - 1 + 1
+next c = omega (arith, c.loop-n.auto.n)
+
+-- past a node's turn
+filled : (c : Done) → let a = c.args in
+    FilledTo a.design.now.table.now a.status.now a.second.now a.value.now a.occupant.now c.enlist.new.rows
+    (unpacked c.read_anew.new.sets) c.loop-n.n
+filled c = let a = c.args in
+    let e = c.enlist.ensures in
+    let z = c.read_anew.ensures in
+    filled_next _ _ _ _ _ _ _ _ c.loop-n.invariant _ (next (search))
+    (omega (arith, (node (search)).1, (ok _ c.args.design.now.read.taken).n_high)) _ e.0
+    _ _ (λ m. (refl, refl, refl)) (λ d. (e.1 a.status.now a.second.now a.value.now d).bits) (λ d. z.1 d a.occupant.now)
+    (λ m. ap (λ l. packed l m) z.2)
 
 pub loop-n-init : goal.loop-n-init
-loop-n-init c = let p = c.requires in
-    (omega arith, told_last _ _ p.0 _ c.last-last.ensures, filled_start _ _ _ _ _ _ _ _ _ _ p.1 p.2 p.3 p.4 p.5)
-
-pub overflow_add-n : goal.overflow_add-n
-overflow_add-n c = omega (arith, high (search))
+loop-n-init c = filled_start _ _ _ _ _
 
 pub enlist-requires : goal.enlist-requires
-enlist-requires c = let x = c.loop-n.invariant.2 in
-    (c.requires.0, node (search), x.size, filled_rows _ _ _ _ _ _ _ _ _ _ _ x)
+enlist-requires c = (node (search), filled_rows _ _ _ _ _ _ _ _ c.loop-n.invariant _ (next (search)))
 
 pub read_anew-requires : goal.read_anew-requires
-read_anew-requires c = (c.requires.0, node (search), c.loop-n.invariant.2.three)
-
-pub loop-n-smaller : goal.loop-n-smaller
-loop-n-smaller c = omega (arith, c.loop-n-test.true)
+read_anew-requires c = node (search)
 
 pub loop-n-preserved : goal.loop-n-preserved
-loop-n-preserved c = let a = c.args in
-    let l = c.loop-n in
-    let read = c.read_anew.ensures in (
-      omega (arith, c.loop-n-test.true),
-      l.invariant.1,
-      filled_next _ _ _ _ _ _ _ _ _ _ _ l.invariant.2 (high (search)) _ _ c.enlist.ensures.0
-          (λ d. c.enlist.ensures.1 a.status.now a.second.now a.value.now d) _ _ _ read.0
-          (λ d. read.2 d a.occupant.now _),
-    )
+loop-n-preserved c = let e : c.loop-n.n + 1 - 1 ≡ c.loop-n.n = omega arith in rw e (filled (search))
 
+-- a table has a node, so that the loop ends after a turn
 pub returns : goal.returns
-returns c = let l = c.loop-n in
-    let x = l.invariant.2 in
-    let all : l.n ≡ nodes c.args.table.now = omega (arith, c.loop-n-test.false, l.invariant.0, l.invariant.1) in (
-      x.three,
-      x.size,
-      filled_rowed _ _ _ _ _ _ _ _ _ _ _ x all,
-      filled_tracks _ _ _ _ _ _ _ _ _ _ _ x all,
-    )
+returns c = absurd (omega (
+  arith,
+  c.loop-n-test.false,
+  c.loop-n.auto.n-end,
+  told_last _ _ c.args.design.now.read _ c.last-last.ensures,
+  (ok _ c.args.design.now.read.taken).n_low,
+))
+
+pub returns-2 : goal.returns-2
+returns-2 c = let f = filled (search) in
+    let all : c.loop-n.n ≡ nodes c.args.design.now.table.now = omega (arith, told_last _ _ c.args.design.now.read _ c.last-last.ensures) in
+    (filled_rowed _ _ _ _ _ _ _ _ f all, filled_tracks _ _ _ _ _ _ _ _ f all)

@@ -18,47 +18,43 @@ AfterRoot = lts.After-root tie.the-claims reads.Pre reads.Post
 
 -- there are at most 32 functions
 few : (s : Start) → s.args.g.0 ≤ 32
-few s = omega (arith, s.requires.2.1, (ok _ s.requires.0.taken).f_high)
+few s = omega (arith, s.requires.1.1, (ok _ s.args.design.now.read.taken).f_high)
 
-roots : (c : AfterRoot) → c.root.result.0 ≡ root c.args.table.now c.args.g.0
-roots c = told_root _ _ c.requires.0 _ c.requires.2 _ c.root.ensures
+roots : (c : AfterRoot) → c.root.result.0 ≡ root c.args.design.now.table.now c.args.g.0
+roots c = told_root _ _ c.args.design.now.read _ c.requires.1 _ c.root.ensures
 
 root_bit : (c : AfterRoot) → Bit c.root.result.0
 root_bit c =
-    let passes = ok _ c.requires.0.taken in
-    let in_table = passes.linking.roots _ c.requires.2 in
+    let passes = ok _ c.args.design.now.read.taken in
+    let in_table = passes.linking.roots _ c.requires.1 in
     (omega (arith, roots c, in_table.0), omega (arith, roots c, in_table.1, passes.n_high))
 
 pub row-own-requires : goal.row-own-requires
-row-own-requires c = (c.requires.3.size, omega (arith, few (search)))
+row-own-requires c = omega (arith, few (search))
 
 pub row-sites-requires : goal.row-sites-requires
-row-sites-requires c = (c.requires.3.size, omega (arith, few (search)))
+row-sites-requires c = omega (arith, few (search))
 
 pub mark-requires : goal.mark-requires
-mark-requires c = (c.lose-2.ensures.size, root_bit (search))
+mark-requires c = root_bit (search)
 
 pub mark-requires-then-anew : goal.mark-requires-then-anew
-mark-requires-then-anew c = (c.lose-3.ensures.size, node_bit _ c.requires.0.taken _ c.requires.1)
+mark-requires-then-anew c = node_bit _ c.args.design.now.read.taken _ c.requires.0
 
 pub mark-requires-then-anew-2 : goal.mark-requires-then-anew-2
-mark-requires-then-anew-2 c = (c.lose-4.ensures.size, node_bit _ c.requires.0.taken _ c.requires.1)
+mark-requires-then-anew-2 c = node_bit _ c.args.design.now.read.taken _ c.requires.0
 
 pub returns-then-anew : goal.returns-then-anew
-returns-then-anew c = (
-  record { armed = c.mark.ensures.size; waiting = c.mark-then-anew.ensures.size; inside = c.mark-then-anew-2.ensures.size },
-  c.gain.ensures.size,
-  entered_anew _ c.requires.0.taken _ c.requires.3 _ c.requires.2 _ (roots (search)) _ _ _ c.row-own.ensures c.row-sites.ensures _ _ _
-      c.common-callers.ensures _ _ _ _ _ c.lose.ensures c.lose-2.ensures c.mark.ensures
-      c.lose-3.ensures c.lose-4.ensures _ c.requires.1 _ _ _ _ c.mark-then-anew.ensures c.mark-then-anew-2.ensures
-      c.gain.ensures _ c.if-anew.true,
-)
+returns-then-anew c =
+    entered_anew _ c.args.design.now.read.taken _ c.requires.2 _ c.requires.1 _ (roots
+    (search)) _ _ _ c.row-own.ensures c.row-sites.ensures _ _ _
+    c.common-callers.ensures _ _ _ _ _ c.lose.ensures c.lose-2.ensures c.mark.ensures
+    c.lose-3.ensures c.lose-4.ensures _ c.requires.0 _ _ _ _ c.mark-then-anew.ensures c.mark-then-anew-2.ensures
+    c.gain.ensures _ c.if-anew.true
 
 pub returns-else-anew : goal.returns-else-anew
-returns-else-anew c = (
-  record { armed = c.mark.ensures.size; waiting = c.lose-3.ensures.size; inside = c.lose-4.ensures.size },
-  c.requires.5,
-  renewed _ c.requires.0.taken _ c.requires.3 _ c.requires.2 _ (roots (search)) _ _ _ c.row-own.ensures c.row-sites.ensures _ _ _
-      c.common-callers.ensures _ _ _ _ _ c.lose.ensures c.lose-2.ensures c.mark.ensures
-      c.lose-3.ensures c.lose-4.ensures _ _ _ c.if-anew.false,
-)
+returns-else-anew c =
+    renewed _ c.args.design.now.read.taken _ c.requires.2 _ c.requires.1 _ (roots
+    (search)) _ _ _ c.row-own.ensures c.row-sites.ensures _ _ _
+    c.common-callers.ensures _ _ _ _ _ c.lose.ensures c.lose-2.ensures c.mark.ensures
+    c.lose-3.ensures c.lose-4.ensures _ _ _ c.if-anew.false

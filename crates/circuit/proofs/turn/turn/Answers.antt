@@ -1,13 +1,12 @@
 -- `turn::turn` meets its contract: each way out is one line of `circuit_of`, by a law of `TurnLaws`.
 use Rattle.table.proofs.Reading.{told_last}
-use Rattle.std.proofs.Common.{◌≡◌, sym, refl, ◌∙◌, true≢false, arith}
+use Rattle.std.proofs.Common.{◌≡◌, sym, ◌∙◌, arith}
 use Rattle.table.specs.Working.{IsNode}
 use Rattle.rules.specs.State.{State512}
 use Rattle.rules.specs.Step.{Act, Stepped}
 use Rattle.rules.specs.Circuit.{act_of, circuit_of}
 use Rattle.circuit.specs.Meaning.{state_as}
 use Rattle.circuit.proofs.TurnLaws.{turn_zero, turn_past, turn_over, turn_on, Out, out_refused, out_moved}
-use Rattle.circuit.proofs.WhyLaws.{goes_why}
 use Rattle.circuit.proofs.turn.turn.Goals as goal
 use Rattle.circuit.proofs.turn.turn.Lts as lts
 use Rattle.circuit.proofs.turn.turn.Reads as reads
@@ -27,69 +26,46 @@ abbrev state : Start → State512
 state s = state_as s.args.status.now s.args.second.now s.args.value.now s.args.registers.now s.args.occupant.now
 
 abbrev said : Start → Stepped
-said s = circuit_of s.args.table.now s.args.tags.now (state s) s.args.n.0
+said s = circuit_of s.args.design.now.table.now s.args.tags.now (state s) s.args.n.0
 
 abbrev act : Start → Act
-act s = act_of s.args.table.now (state s) s.args.n.0
+act s = act_of s.args.design.now.table.now (state s) s.args.n.0
 
 abbrev outcome : Start → Stepped
-outcome s = Out s.args.table.now s.args.tags.now s.requires.0.taken (state s) s.args.n.0 (act s)
+outcome s = Out s.args.design.now.table.now s.args.tags.now s.args.design.now.read.taken (state s) s.args.n.0 (act s)
 
-node : (c : Else2) → IsNode c.args.table.now c.args.n.0
+node : (c : Else2) → IsNode c.args.design.now.table.now c.args.n.0
 node c =
-    (omega (arith, c.if-n-eq0.false), omega (arith, c.if-last-n.false, told_last _ _ c.requires.0 _ c.last-last.ensures))
+    (omega (arith, c.if-n-eq0.false), omega (arith, c.if-last-n.false, told_last _ _ c.args.design.now.read _ c.last-last.ensures))
 
 on : (c : Else3) → said ((search)) ≡ outcome ((search))
 on c =
-    turn_on _ _ c.requires.0.taken (state (search)) _ c.if-n-eq0.false (node (search)).1 c.requires.2 _ _ c.top-root.ensures.0
+    turn_on _ _ c.args.design.now.read.taken (state (search)) _ c.if-n-eq0.false (node (search)).1 c.requires.1 _ _ c.top-root.ensures.0
     c.status_at.ensures c.if-status_at-eq3.false
 
 pub returns-then-n-eq0 : goal.returns-then-n-eq0
-returns-then-n-eq0 c = turn_zero _ _ c.requires.0.taken (state (search)) _ c.if-n-eq0.true
+returns-then-n-eq0 c = turn_zero _ _ c.args.design.now.read.taken (state (search)) _ c.if-n-eq0.true
 
 pub returns-then-last-n : goal.returns-then-last-n
-returns-then-last-n c = turn_past _ _ c.requires.0.taken (state (search)) _ c.if-n-eq0.false (omega (
+returns-then-last-n c = turn_past _ _ c.args.design.now.read.taken (state (search)) _ c.if-n-eq0.false (omega (
   arith,
   c.if-last-n.true,
-  told_last _ _ c.requires.0 _
+  told_last _ _ c.args.design.now.read _
       c.last-last.ensures,
 ))
 
-pub status_at-requires : goal.status_at-requires
-status_at-requires c = c.top-root.ensures.1
-
 pub returns-then-status_at-eq3 : goal.returns-then-status_at-eq3
-returns-then-status_at-eq3 c = turn_over _ _ c.requires.0.taken (state (search)) _ c.if-n-eq0.false (node (search)).1 c.requires.2 _ _
+returns-then-status_at-eq3 c = turn_over _ _ c.args.design.now.read.taken (state (search)) _ c.if-n-eq0.false (node
+    (search)).1 c.requires.1 _ _
     c.top-root.ensures.0
     c.status_at.ensures c.if-status_at-eq3.true
 
-pub why_not-why-requires : goal.why_not-why-requires
-why_not-why-requires c = (c.requires.0, node (search))
-
-pub returns-then-why-ne0 : goal.returns-then-why-ne0
-returns-then-why-ne0 c = out_refused _ c.args.tags.now c.requires.0.taken (state (search)) c.args.n.0 (act (search)) _
-    (c.why_not-why.ensures _) c.if-why-ne0.true
+pub returns-in-Some : goal.returns-in-Some
+returns-in-Some c = out_refused _ c.args.tags.now c.args.design.now.read.taken (state (search)) c.args.n.0 (act (search)) c.in-Some.why
+    (c.in-Some.ensures _)
     ∙ sym (on (search))
 
-pub go-requires : goal.go-requires
-go-requires c = (
-  c.requires.0,
-  c.requires.1,
-  c.top-root.ensures.2,
-  c.top-root.ensures.1,
-  λ z. absurd (true≢false (sym z)),
-  λ _. (
-    node (search),
-    omega arith,
-    λ e. c.if-status_at-eq3.false (c.status_at.ensures ∙ e),
-    goes_why _ (act (search)) (sym c.if-why-ne0.false ∙ c.why_not-why.ensures _),
-  ),
-)
-
-pub told-requires : goal.told-requires
-told-requires c = c.top-root.ensures.1
-
 pub returns : goal.returns
-returns c = let m = c.go.ensures.1 refl in
-    out_moved _ c.args.tags.now c.requires.0.taken (state (search)) c.args.n.0 m.0 m.1 _ m.2 _
+returns c = let m = c.take.ensures in
+    out_moved _ c.args.tags.now c.args.design.now.read.taken (state (search)) c.args.n.0 c.take.result m.0 _ m.1 _
     c.top-root.ensures.0 _ c.told.ensures ∙ sym (on (search))

@@ -5,7 +5,7 @@ use Rattle.circuit.proofs.WidthLaws.{is_width, few}
 use Rattle.circuit.proofs.widths.keep.Goals as goal
 
 pub cut-requires : goal.cut-requires
-cut-requires c = few _ _ c.requires.0 _ c.requires.1 _ c.width.ensures
+cut-requires c = few _ _ c.args.design.now.read _ c.requires _ c.width.ensures
 
 pub returns : goal.returns
-returns c = c.cut.ensures ∙ ap (λ k. narrow k c.args.v) (is_width _ _ c.requires.0 _ c.requires.1 _ c.width.ensures)
+returns c = c.cut.ensures ∙ ap (λ k. narrow k c.args.v) (is_width _ _ c.args.design.now.read _ c.requires _ c.width.ensures)

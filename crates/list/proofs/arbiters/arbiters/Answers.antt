@@ -5,8 +5,7 @@ use Rattle.list.proofs.arbiters.arbiters.Goals as goal
 
 pub body_walk-requires : goal.body_walk-requires
 body_walk-requires c = record {
-  taken = main_there _ c.requires.taken _ (c.main-main.ensures ∙ c.requires.told.own 0 (omega arith));
-  decoded = c.requires.told;
+  taken = main_there _ c.args.design.now.read.taken _ (c.main-main.ensures ∙ c.args.design.now.read.told.own 0 (omega arith));
   memo = memo_none _;
 }
 
@@ -19,5 +18,6 @@ returns c = let k = c.body_walk.ensures in
       r.0,
       r.1,
       λ n b. r.2 n b
-          ∙ found_list _ _ _ k.0 c.requires.taken _ (c.main-main.ensures ∙ c.requires.told.own 0 (omega arith)) k.2 n b,
+          ∙ found_list _ _ k.0 c.args.design.now.read.taken _ (c.main-main.ensures
+          ∙ c.args.design.now.read.told.own 0 (omega arith)) k.2 n b,
     )

@@ -1,26 +1,16 @@
-use Rattle.std.proofs.Common.{arith, rules}
+use Rattle.std.proofs.Common.{get_or, ap, ◌∙◌, arith, rules}
+use Rattle.std.proofs.lemmas.List.{places}
 use Rattle.list.proofs.WordLaws.{bytes_more, bytes_of}
 use Rattle.list.proofs.arbiters.bytes.Goals as goal
 
-pub loop-i-init : goal.loop-i-init
-loop-i-init c = (omega arith, search rules, λ j h. absurd (omega arith))
-
-pub bounds-rows-i : goal.bounds-rows-i
-bounds-rows-i c = omega arith
-
-pub put_word-requires : goal.put_word-requires
-put_word-requires c = (c.loop-i.invariant.1, omega arith)
-
-pub overflow_add-i : goal.overflow_add-i
-overflow_add-i c = omega arith
-
-pub loop-i-smaller : goal.loop-i-smaller
-loop-i-smaller c = omega arith
-
 pub loop-i-preserved : goal.loop-i-preserved
-loop-i-preserved c = let put = c.put_word.ensures in
-    (omega arith, put.size, bytes_more c.args.rows.now _ _ _ c.loop-i.invariant.2 put)
+loop-i-preserved c = let size = c.loop-i.invariant.0 in
+    let word = c.copy_from_slice.ensures.after ∙ c.to_le_bytes.ensures in (
+      search (rules, places, size),
+      bytes_more _ _ _ _ c.loop-i.invariant.1 (λ j h. search (rules, places) ∙ ap (λ l. get_or l j 0) word)
+          (λ j h. search (rules, places)),
+    )
 
 pub returns : goal.returns
 returns c = let inv = c.loop-i.invariant in
-    (inv.1, λ j h. omega (arith, inv.2 j (omega arith)), bytes_of _ _ (λ j h. inv.2 j (omega arith)))
+    (inv.0, λ j h. omega (arith, inv.1 j (omega arith)), bytes_of _ _ (λ j h. inv.1 j (omega arith)))

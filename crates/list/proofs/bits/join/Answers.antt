@@ -1,39 +1,8 @@
-use Rattle.std.proofs.Common.{◌≡◌, length, get_or, sym, ap, arith, length-set, rules}
-use lib.Bits.{bit_or}
+use Rattle.std.proofs.Common.{get_or, sym, arith}
 use Rattle.list.proofs.WordLaws.{adds_by, packed_bit}
-use Rattle.list.proofs.Entrywise.{upto_none, upto_more}
 use Rattle.list.proofs.bits.join.Goals as goal
 
-pub loop-i-init : goal.loop-i-init
-loop-i-init c = (omega arith, search rules, upto_none _ _)
-
-pub bounds-set-i : goal.bounds-set-i
-bounds-set-i c = omega arith
-
-pub bounds-other-i : goal.bounds-other-i
-bounds-other-i c = omega arith
-
-pub bounds-set-i-in-loop-i : goal.bounds-set-i-in-loop-i
-bounds-set-i-in-loop-i c = omega arith
-
-pub overflow_add-i : goal.overflow_add-i
-overflow_add-i c = omega arith
-
-pub loop-i-smaller : goal.loop-i-smaller
-loop-i-smaller c = omega arith
-
-pub loop-i-preserved : goal.loop-i-preserved
-loop-i-preserved c = let a = c.args in
-    let i = c.loop-i.i in
-    let inv = c.loop-i.invariant in
-    let l : length c.loop-i.set ≡ 8 = inv.1 in (
-      omega arith,
-      simp length-set l,
-      upto_more _ _ _ i _ (omega arith) inv.2 (ap (λ x. bit_or x (get_or a.other.now i 0))
-          (inv.2.left i (omega arith))),
-    )
-
 pub returns : goal.returns
-returns c = let a = c.args in
-    let inv = c.loop-i.invariant in
-    adds_by (λ j. get_or a.other.now j 0) _ _ _ inv.1 (λ j h. inv.2.done j (omega arith)) (λ m b. sym (packed_bit _ m))
+returns c = let inv = c.loop-i.invariant in
+    adds_by (λ j. get_or c.args.other.now j 0) _ _ _ inv.0 (λ j h. inv.1.done j (omega (arith, inv.0)))
+    (λ m b. sym (packed_bit _ m))

@@ -9,5 +9,5 @@ pub returns : goal.returns
 returns c = let a = c.args in
     let x = a.set.now in
     let n = a.n.0 in
-    subst (λ v. Adds (eqb n) x (set x ((n - 1) / 64) (bit_or (get_or x ((n - 1) / 64) 0) v))) (sym c.bit.ensures) (adds_one x n
-    c.requires.0 c.requires.1)
+    subst (λ v. Adds (eqb n) x (set x ((n - 1) / 64) (bit_or (get_or x ((n - 1) / 64) 0) v))) (sym c.bit.ensures)
+    (adds_one x n c.told-set c.requires)

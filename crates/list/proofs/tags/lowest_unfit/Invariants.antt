@@ -1,12 +1,11 @@
--- `tags::lowest_unfit` meets its contract. The invariant: the tags up to k fit. The measure is the nodes left.
-use Rattle.std.proofs.Common.{◌≡◌, ◌-◌, ◌<◌}
-use Rattle.table.specs.Decoded.{cell_at, table_slot}
+-- `tags::lowest_unfit` meets its contract. The invariants: the tags of the bytes up to i fit, up to the last node; those below n do.
+use Rattle.std.proofs.Common.{◌≡◌, ◌+◌, ◌-◌, ◌*◌, ◌≤◌, min}
 use Rattle.table.specs.Find.{lowest}
 use Rattle.list.specs.Tags.{cell_fits}
 use Rattle.list.proofs.tags.lowest_unfit.Given as goal
 
-abbrev pub invariant-loop-k : goal.invariant-loop-k
-invariant-loop-k l = (l.end < 65536) × (lowest (cell_fits l.cells l.tags) l.k ≡ 0) × (l.end ≡ cell_at l.cells table_slot 2)
+abbrev pub invariant-loop-i : goal.invariant-loop-i
+invariant-loop-i l = lowest (cell_fits l.cells l.tags) (min (8 * l.i) l.last) ≡ 0
 
-abbrev pub decreases-loop-k : goal.decreases-loop-k
-decreases-loop-k l = l.end - l.k
+abbrev pub invariant-loop-n : goal.invariant-loop-n
+invariant-loop-n l = (min (l.n - 1) l.last ≤ 8 * l.i + 8) × (lowest (cell_fits l.cells l.tags) (min (l.n - 1) l.last) ≡ 0)

@@ -8,31 +8,31 @@ use Rattle.list.proofs.SiblingLaws.{Along}
 use Rattle.list.proofs.walk.+walk.Given as goal
 
 abbrev pub decreases-body_walk : goal.decreases-body_walk
-decreases-body_walk l = weight l.table.now.now l.g.0 0
+decreases-body_walk l = weight l.design.now.table.now l.g.0 0
 
 abbrev pub decreases-chain_walk : goal.decreases-chain_walk
-decreases-chain_walk l = weight l.table.now.now l.f.0 l.c.0 + 4
+decreases-chain_walk l = weight l.design.now.table.now l.f.0 l.c.0 + 4
 
 abbrev pub decreases-enter_walk : goal.decreases-enter_walk
-decreases-enter_walk l = weight l.table.now.now l.f.0 l.n.0 + 1
+decreases-enter_walk l = weight l.design.now.table.now l.f.0 l.n.0 + 1
 
 abbrev pub decreases-inner_walk : goal.decreases-inner_walk
-decreases-inner_walk l = weight l.table.now.now l.f.0 l.n.0 + 2
+decreases-inner_walk l = weight l.design.now.table.now l.f.0 l.n.0 + 2
 
 abbrev pub decreases-kids_walk : goal.decreases-kids_walk
-decreases-kids_walk l = weight l.table.now.now l.f.0 l.n.0 + 1
+decreases-kids_walk l = weight l.design.now.table.now l.f.0 l.n.0 + 1
 
 abbrev pub decreases-node_walk : goal.decreases-node_walk
-decreases-node_walk l = weight l.table.now.now l.f.0 l.n.0 + 3
+decreases-node_walk l = weight l.design.now.table.now l.f.0 l.n.0 + 3
 
 abbrev pub decreases-side_walk : goal.decreases-side_walk
-decreases-side_walk l = weight l.table.now.now l.f.0 l.n.0
+decreases-side_walk l = weight l.design.now.table.now l.f.0 l.n.0
 
 -- Siblings, one after the other: what was walked so far, and which one comes next.
 abbrev pub invariant-chain_walk-loop-next : goal.invariant-chain_walk-loop-next
 invariant-chain_walk-loop-next l =
-    Along l.table.now l.f.0 l.initial.at.0 l.defs l.at.0 l.once l.twice l.initial.set l.set l.initial.called l.called l.initial.rows l.rows
-    × (l.next.0 ≡ next l.table.now l.at.0)
+    Along l.design.table.now l.f.0 l.initial.at.0 l.defs l.at.0 l.once l.twice l.initial.set l.set l.initial.kept l.kept
+    × (l.next.0 ≡ next l.design.table.now l.at.0)
 
 abbrev pub decreases-chain_walk-loop-next : goal.decreases-chain_walk-loop-next
-decreases-chain_walk-loop-next l = nodes l.table.now - l.at.0
+decreases-chain_walk-loop-next l = nodes l.design.table.now - l.at.0

@@ -2,6 +2,7 @@
 use Prim.Native.Nat.{◌+◌, ◌<◌}
 use mathlib.Core.Path.{ap}
 use native.Mathlib.Omega.{arith}
+use Rattle.pages.specs.Working.{number_of}
 use Rattle.pages.proofs.RowLaws.{due_few}
 use Rattle.pages.proofs.StandsLaws.{stands_on, stands_new}
 use Rattle.pages.proofs.layout.add.Goals as goal
@@ -21,7 +22,7 @@ pub overflow_mul-end : goal.overflow_mul-end
 overflow_mul-end c = omega (arith, c.requires.paged)
 
 pub overflow_add-row : goal.overflow_add-row
-overflow_add-row c = omega (arith, c.requires.within, c.requires.paged, c.due.ensures, due_few c.args.w.last.0 c.args.r.callee.0)
+overflow_add-row c = omega (arith, c.requires.within, c.requires.paged, c.due.ensures, due_few (number_of c.args.w.last) c.args.r.callee.0)
 
 pub call-requires : goal.call-requires
 call-requires c = omega (arith, c.if-row-end.true, c.requires.paged)

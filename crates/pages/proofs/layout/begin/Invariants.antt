@@ -1,5 +1,5 @@
--- `layout::begin` meets its contract. The invariant: after the title i lines of spaces stand. The measure is the lines left.
-use Prim.Native.Nat.{◌+◌, ◌-◌, ◌*◌, ◌≤◌}
+-- `layout::begin` meets its contract. The invariant: after the title i lines of spaces stand.
+use Prim.Native.Nat.{◌+◌, ◌*◌}
 use mathlib.Core.Path.{◌≡◌}
 use lib.Seq.{sets}
 use Rattle.pages.specs.Rows.{gaps}
@@ -7,7 +7,4 @@ use Rattle.pages.specs.Lines.{lines_of}
 use Rattle.pages.proofs.layout.begin.Given as goal
 
 abbrev pub invariant-loop-i : goal.invariant-loop-i
-invariant-loop-i l = (l.i ≤ 23) × (l.text ≡ sets l.initial.text (792 * l.k + 33) (lines_of (gaps l.i)))
-
-abbrev pub decreases-loop-i : goal.decreases-loop-i
-decreases-loop-i l = 23 - l.i
+invariant-loop-i l = l.text ≡ sets l.initial.text (792 * l.k + 33) (lines_of (gaps l.i))

@@ -1,12 +1,13 @@
 -- `layout::due` meets its contract.
-use Rattle.pages.proofs.RowLaws.{due_first, due_same, due_other}
+use Rattle.std.proofs.Common.{ap, ◌∙◌, subst}
+use mir.Val.{bool_byte}
+use Rattle.pages.specs.Working.{Named}
+use Rattle.pages.proofs.RowLaws.{due_first, due_next}
 use Rattle.pages.proofs.layout.due.Goals as goal
 
-pub returns-then-last-eq0 : goal.returns-then-last-eq0
-returns-then-last-eq0 c = due_first _ _ c.if-last-eq0.true
+pub returns-in-None : goal.returns-in-None
+returns-in-None c = rw c.in-None.is (due_first _)
 
-pub returns-then-last-f : goal.returns-then-last-f
-returns-then-last-f c = due_same _ _ c.if-last-f.true c.if-last-eq0.false
-
-pub returns : goal.returns
-returns c = due_other _ _ c.if-last-eq0.false c.if-last-f.false
+pub returns-in-Some : goal.returns-in-Some
+returns-in-Some c = rw c.in-Some.is
+    (c.from.ensures ∙ ap bool_byte c.ne.ensures ∙ due_next _ _ (subst Named c.in-Some.is c.requires))

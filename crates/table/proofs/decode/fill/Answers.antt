@@ -1,10 +1,10 @@
 use native.Mathlib.Omega.{arith}
-use Prim.Native.Nat.{◌+◌}
-use mathlib.Core.Path.{◌≡◌, refl, sym, ap, ap₂, ◌∙◌}
+use Prim.Native.Nat.{ℕ}
+use mathlib.Core.Path.{◌≡◌, refl, sym, ap, ◌∙◌}
 use Rattle.table.specs.Bytes.{functions, nodes}
 use Rattle.table.specs.Decoded.{put_numbers, node_slot, node_number, functions_put, nodes_put, decoded_into}
 use Rattle.table.specs.Working.{IsNode}
-use Rattle.table.proofs.DecodedLaws.{nodes_more}
+use Rattle.table.proofs.Turns.{nodes_turn}
 use Rattle.table.proofs.decode.fill.Goals as goal
 use Rattle.table.proofs.decode.fill.Lts as lts
 use Rattle.table.proofs.decode.fill.Reads as reads
@@ -13,17 +13,28 @@ use Rattle.table.proofs.decode.fill.Tie as tie
 abbrev Turn : Type 0
 Turn = lts.In-loop tie.the-claims reads.Pre reads.Post goal.the-invariant-loop-n goal.the-decreases-loop-n
 
--- a turn: n + 1 is a node
+-- a turn: n is a node
 module _ (c : Turn) where
-  node : IsNode c.args.table.now (c.loop-n.n + 1)
-  node = (omega arith, omega (arith, c.loop-n.invariant.1, c.loop-n-test.true))
+  node : IsNode c.args.table.now c.loop-n.n
+  node = (omega arith, omega arith)
+
+-- and is put after those below it
+abbrev Turned : Type 0
+Turned = lts.After-whole tie.the-claims reads.Pre reads.Post goal.the-invariant-loop-n goal.the-decreases-loop-n
+
+turned : (c : Turned) (m : ℕ) → m ≡ c.loop-n.n → c.whole.new.cells ≡ nodes_put c.args.table.now m c.functions.new.cells
+turned c m e =
+    let t = c.args.table.now in
+    let n = c.loop-n.n in
+    c.whole.ensures ∙ ap (put_numbers 6 (node_slot n) (node_number t n)) c.loop-n.invariant
+    ∙ sym (nodes_turn t c.functions.new.cells n m (omega arith) e)
 
 pub functions-requires : goal.functions-requires
 functions-requires c = (c.requires.0, c.last_function.ensures)
 
 pub loop-n-init : goal.loop-n-init
 unfolding nodes_put
-loop-n-init c = (omega arith, c.last_node-end.ensures, refl)
+loop-n-init c = refl
 
 pub whole-requires : goal.whole-requires
 whole-requires c = (
@@ -32,20 +43,11 @@ whole-requires c = (
   c.requires.1.parents _ (node (search)),
 )
 
-pub loop-n-smaller : goal.loop-n-smaller
-loop-n-smaller c = omega arith
-
 pub loop-n-preserved : goal.loop-n-preserved
-loop-n-preserved c = let e = c.args.table.now in
-    let n = c.loop-n.n in (
-      omega (arith, c.loop-n-test.true),
-      c.loop-n.invariant.1,
-      c.whole.ensures ∙ ap (put_numbers 6 (node_slot (n + 1)) (node_number e (n + 1))) c.loop-n.invariant.2 ∙ sym (nodes_more e n _),
-    )
+loop-n-preserved c = turned (search) _ (omega arith)
 
-pub returns : goal.returns
+pub returns-2 : goal.returns-2
 unfolding decoded_into
-returns c = let inv = c.loop-n.invariant in
-    let t = c.args.table.now in
-    let all : c.loop-n.n ≡ nodes t = omega (arith, inv.0, inv.1, c.loop-n-test.false) in
-    inv.2 ∙ ap₂ (λ n x. nodes_put t n x) all (c.functions.ensures ∙ ap (functions_put t (functions t)) c.sizes.ensures)
+returns-2 c = let t = c.args.table.now in
+    turned (search) _ (omega arith)
+    ∙ ap (nodes_put t (nodes t)) (c.functions.ensures ∙ ap (functions_put t (functions t)) c.sizes.ensures)

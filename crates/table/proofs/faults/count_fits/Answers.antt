@@ -39,8 +39,8 @@ pub chain_length-j-requires : goal.chain_length-j-requires
 chain_length-j-requires c = let p = c.requires.0.place in
     (p.framed, p.links, p.read, omega (arith, read (search), first_inside _ p.links _ p.node))
 
-pub returns-then-j-c : goal.returns-then-j-c
-returns-then-j-c c = sym (sym (tests (search)) ∙ simp (lt-leb _ _ c.if-j-c.true))
+pub returns-then-c-j : goal.returns-then-c-j
+returns-then-c-j c = sym (sym (tests (search)) ∙ simp (le-leb _ _ c.if-c-j.true))
 
-pub returns-else-j-c : goal.returns-else-j-c
-returns-else-j-c c = sym (sym (tests (search)) ∙ simp (le-leb _ _ c.if-j-c.false))
+pub returns-else-c-j : goal.returns-else-c-j
+returns-else-c-j c = sym (sym (tests (search)) ∙ simp (lt-leb _ _ c.if-c-j.false))

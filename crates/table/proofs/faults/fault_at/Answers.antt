@@ -111,13 +111,16 @@ scope_passed : (c : Else4) → Says scoped (search) true
 scope_passed c =
     sym c.scope_fits.ensures ∙ c.if-not-scope_fits.false
 
-pub returns-then-not-formed : goal.returns-then-not-formed
+pub returns-then-not-formed-clause-first : goal.returns-then-not-formed-clause-first
 unfolding fault_at
-returns-then-not-formed c = simp (formed_by (search) _ c.formed.ensures ∙ c.if-not-formed.true)
+returns-then-not-formed-clause-first c = simp (formed_by (search) _ c.formed.ensures ∙ c.if-not-formed.true)
 
-pub returns-then-not-callee_fits : goal.returns-then-not-callee_fits
+pub returns-then-not-callee_fits-clause-first : goal.returns-then-not-callee_fits-clause-first
 unfolding fault_at
-returns-then-not-callee_fits c = simp (formed_passed (search), callee_by (search) _ c.callee_fits.ensures ∙ c.if-not-callee_fits.true)
+returns-then-not-callee_fits-clause-first c = simp (
+  formed_passed (search),
+  callee_by (search) _ c.callee_fits.ensures ∙ c.if-not-callee_fits.true,
+)
 
 pub count_fits-requires : goal.count_fits-requires
 count_fits-requires c = let p = c.requires in
@@ -128,16 +131,20 @@ count_fits-requires c = let p = c.requires in
       λ z. omega (arith, operation_known _ _ _ _ (well_formed (search)) z),
     )
 
-pub returns-then-not-count_fits : goal.returns-then-not-count_fits
+pub returns-then-not-count_fits-clause-first : goal.returns-then-not-count_fits-clause-first
 unfolding fault_at
-returns-then-not-count_fits c = simp (formed_passed (search), callee_passed (search), sym c.count_fits.ensures ∙ c.if-not-count_fits.true)
+returns-then-not-count_fits-clause-first c = simp (
+  formed_passed (search),
+  callee_passed (search),
+  sym c.count_fits.ensures ∙ c.if-not-count_fits.true,
+)
 
 pub scope_fits-requires : goal.scope_fits-requires
 scope_fits-requires c = (node_at (search), c.requires.own_value.0)
 
-pub returns-then-not-scope_fits : goal.returns-then-not-scope_fits
+pub returns-then-not-scope_fits-clause-first : goal.returns-then-not-scope_fits-clause-first
 unfolding fault_at
-returns-then-not-scope_fits c = simp (
+returns-then-not-scope_fits-clause-first c = simp (
   formed_passed (search),
   callee_passed (search),
   count_passed (search),
@@ -152,9 +159,9 @@ const_told : (c : AfterConstFits) → Says const_fits (search) c.const_fits.resu
 const_told c =
     const_by (search) _ _ c.width.ensures c.const_fits.ensures
 
-pub returns-then-not-tail_fits : goal.returns-then-not-tail_fits
+pub returns-then-not-tail_fits-clause-first : goal.returns-then-not-tail_fits-clause-first
 unfolding fault_at
-returns-then-not-tail_fits c = simp (
+returns-then-not-tail_fits-clause-first c = simp (
   formed_passed (search),
   callee_passed (search),
   count_passed (search),
@@ -162,9 +169,9 @@ returns-then-not-tail_fits c = simp (
   tailed_by (search) _ c.tail_fits.ensures ∙ c.if-not-tail_fits.true,
 )
 
-pub returns-then-not-const_fits : goal.returns-then-not-const_fits
+pub returns-then-not-const_fits-clause-first : goal.returns-then-not-const_fits-clause-first
 unfolding fault_at
-returns-then-not-const_fits c = simp (
+returns-then-not-const_fits-clause-first c = simp (
   formed_passed (search),
   callee_passed (search),
   count_passed (search),
@@ -173,9 +180,9 @@ returns-then-not-const_fits c = simp (
   const_told (search) ∙ c.if-not-const_fits.true,
 )
 
-pub returns : goal.returns
+pub returns-clause-first : goal.returns-clause-first
 unfolding fault_at
-returns c = simp (
+returns-clause-first c = simp (
   formed_passed (search),
   callee_passed (search),
   count_passed (search),

@@ -2,6 +2,7 @@ use native.Mathlib.Omega.{arith}
 use mathlib.Core.Path.{◌≡◌, refl, sym, ap, ◌∙◌}
 use Prim.Native.Nat.{suc, ◌≤◌}
 use lib.Dec.{eqb}
+use borrow.Author.Tests.{eqb-true, eqb-false}
 use Rattle.table.specs.Naming.{parent, under_last}
 use Rattle.table.specs.Working.{IsNode}
 use Rattle.table.proofs.ChainLoop.{under_none, under_child, under_up}
@@ -30,9 +31,10 @@ lower c = omega (arith, read c, parent_lower c.args.table.now c.loop-a.a.0 (node
 pub loop-a-init : goal.loop-a-init
 loop-a-init c = (c.requires.0.node.1, refl)
 
-pub returns-then-up-p : goal.returns-then-up-p
-returns-then-up-p c = ap (λ x. eqb x 0) (c.next.ensures ∙ c.requires.0.read.node _ 5 (node (search)) (omega arith))
-    ∙ sym (c.loop-a.invariant.1 ∙ under_child _ _ c.requires.1 _ (node (search)).0 (sym (read (search)) ∙ c.if-up-p.true))
+pub returns-then-eq : goal.returns-then-eq
+returns-then-eq c = ap (λ x. eqb x 0) (c.next.ensures ∙ c.requires.0.read.node _ 5 (node (search)) (omega arith))
+    ∙ sym (c.loop-a.invariant.1 ∙ under_child _ _ c.requires.1 _ (node (search)).0
+    (sym (read (search)) ∙ eqb-true _ _ (sym c.if-eq.ensures)))
 
 pub loop-a-smaller : goal.loop-a-smaller
 loop-a-smaller c = omega (arith, lower (search))
@@ -40,7 +42,7 @@ loop-a-smaller c = omega (arith, lower (search))
 pub loop-a-preserved : goal.loop-a-preserved
 loop-a-preserved c = (
   omega (arith, lower (search), c.loop-a.invariant.0),
-  c.loop-a.invariant.1 ∙ under_up _ _ c.requires.1 _ (node (search)).0 (λ e. c.if-up-p.false (read (search) ∙ e))
+  c.loop-a.invariant.1 ∙ under_up _ _ c.requires.1 _ (node (search)).0 (λ e. eqb-false _ _ (sym c.if-eq.ensures) (read (search) ∙ e))
       ∙ ap (under_last _ _) (sym (read (search))),
 )
 

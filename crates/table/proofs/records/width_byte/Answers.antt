@@ -1,7 +1,7 @@
 -- `records::width_byte` meets its contract.
-use mathlib.Core.Path.{refl, ◌∙◌}
+use mathlib.Core.Path.{refl}
 use Rattle.table.proofs.DecodeLaws.{second_byte}
 use Rattle.table.proofs.records.width_byte.Goals as goal
 
 pub returns : goal.returns
-returns c = c.wide.ensures ∙ second_byte _ _ _ c.requires.1 refl
+returns c = second_byte _ _ _ c.requires.1 refl

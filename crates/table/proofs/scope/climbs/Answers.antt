@@ -1,6 +1,6 @@
 use native.Mathlib.Omega.{arith}
 use borrow.Author.Tests.{eqb-true}
-use mathlib.Core.Path.{subst}
+use mathlib.Core.Path.{sym, ◌∙◌, subst}
 use Rattle.table.specs.Sweep.{Outward}
 use Rattle.table.proofs.SiftLaws.{around_lower}
 use Rattle.table.proofs.ScopeLaws.{outward}
@@ -19,4 +19,4 @@ pub loop-a-preserved : goal.loop-a-preserved
 loop-a-preserved c = (c.outer-a.ensures.1, λ n e. outward _ _ _ c.outer-a.ensures.0 n (c.loop-a.invariant.1 n e))
 
 pub returns : goal.returns
-returns c e = subst (Outward c.args.table.now c.args.from.0) (eqb-true _ _ e) c.loop-a.invariant.1
+returns c e = subst (Outward c.args.table.now c.args.from.0) (eqb-true _ _ (sym c.eq.ensures ∙ e)) c.loop-a.invariant.1

@@ -3,12 +3,13 @@ use native.Mathlib.Omega.{arith}
 use Prim.Native.Nat.{◌+◌, ◌-◌, ◌*◌, ◌/◌, ◌%◌, ◌≤◌, ◌<◌}
 use mathlib.Core.Path.{◌≡◌, sym, subst, ap, ap₂, ◌∙◌}
 use lib.Dec.{eqb, leb}
+use lib.ListN.{get_or}
 use Rattle.table.specs.Find.{one}
 use Rattle.table.specs.Bytes.{next}
 use Rattle.table.specs.Naming.{owner, parent, tail}
 use Rattle.table.specs.Working.{IsNode, IsFunction}
-use Rattle.table.specs.Sweep.{rank, around, down_of, KindFits, Whole, Siftable}
-use Rattle.table.proofs.Tests.{never}
+use Rattle.table.specs.declared.kinds.Rule.{Rule}
+use Rattle.table.specs.Sweep.{rule_of, rank, around, down_of, KindFits, Whole, Siftable}
 use Rattle.table.proofs.Family.{owner_few, parent_lower}
 use Rattle.table.proofs.HandEnd.{params_few}
 use Rattle.table.proofs.RuleLaws.{one_yes, one_most, flag_times, rule_small}
@@ -22,8 +23,9 @@ use Rattle.table.proofs.sweep.node.Tie as tie
 abbrev AfterInnermost : Type 0
 AfterInnermost = lts.After-innermost tie.the-claims reads.Pre reads.Post
 
-abbrev AfterRule2 : Type 0
-AfterRule2 = lts.After-rule2 tie.the-claims reads.Pre reads.Post
+-- what a place past the end holds
+abbrev none : Rule
+none = record { extras = 0; parameter = 0; call = 0; reach = 0; bound = 0; primitive = 0; words = 0; counts = 0 }
 
 -- what was read of the node, and that it is a last child
 abbrev Read : Type 0
@@ -41,6 +43,13 @@ module _ (c : Read) where
 
   kinds : c.kind-kind.result < 8
   kinds = omega (arith, c.if-kind-gt7.false)
+
+  -- its kind's rule
+  abbrev rule : Rule
+  rule = get_or c.args.rules.now c.kind-kind.result none
+
+  ruled : rule ≡ rule_of c.kind-kind.result
+  ruled = c.requires.1 _ _ kinds
 
   owns : c.owner-owner.result.0 ≡ owner c.args.table.now c.args.n.0
   owns = c.owner-owner.ensures ∙ kin_owner _ node.place.framed _ is _ node.kin
@@ -96,7 +105,7 @@ params_told p = omega (arith, p.params-params.ensures, params_few _ (node (searc
 
 -- and that it is a call or none
 abbrev Called : Type 0
-Called = lts.After-rule tie.the-claims reads.Pre reads.Post
+Called = lts.Else2 tie.the-claims reads.Pre reads.Post
 
 module _ (k : Called) where
   abbrev start : Read
@@ -106,13 +115,13 @@ module _ (k : Called) where
       k.params-params.result (k.highest-most.result + 1) k.tail_at-tail.result
   fits = k.kind_fits.ensures (k.if-not-kind_fits.false)
 
-  call : k.rule-call.result ≡ one (eqb k.kind-kind.result 4)
-  call = k.rule-call.ensures
+  call : (rule start).call ≡ one (eqb k.kind-kind.result 4)
+  call = ap (λ r. r.call) (ruled start)
 
-  call_yes : k.kind-kind.result ≡ 4 → k.rule-call.result ≡ 1
+  call_yes : k.kind-kind.result ≡ 4 → (rule start).call ≡ 1
   call_yes e = call ∙ ap (λ x. one (eqb x 4)) e
 
-  callee : k.rule-call.result ≡ 1 → IsFunction k.args.table.now k.word-word.result
+  callee : (rule start).call ≡ 1 → IsFunction k.args.table.now k.word-word.result
   callee e = let i = fits.callee (one_yes _ 4 (sym call ∙ e)) in (i.0, omega (arith, i.1, (function start).1))
 
 -- what is around it
@@ -138,14 +147,11 @@ module _ (c : AfterInnermost) where
         flag_times c.parent.result.0 b (ends_let r),
       )
 
-abbrev fitted_at : AfterRule2 → Fitting
+abbrev fitted_at : AfterInnermost → Fitting
 fitted_at c = search
 
-abbrev read_at : AfterRule2 → Read
+abbrev read_at : AfterInnermost → Read
 read_at c = r (search)
-
-pub returns-then-kind-gt7 : goal.returns-then-kind-gt7
-returns-then-kind-gt7 c e = never (sym c.failed.ensures ∙ e)
 
 pub overflow_mul-end : goal.overflow_mul-end
 overflow_mul-end c = record { fits = omega (arith, end_most (search)) }
@@ -161,13 +167,7 @@ highest-most-requires c = ((node (search)).place.framed, (node (search)).roots, 
 
 pub kind_fits-requires : goal.kind_fits-requires
 kind_fits-requires c = let f = function (search) in
-    (c.requires.1, kinds (search), f.0, omega (arith, f.1, (node (search)).place.framed.f_high), params_told (search), tail_most (search))
-
-pub returns-then-not-kind_fits : goal.returns-then-not-kind_fits
-returns-then-not-kind_fits c e = never (sym c.failed-then-not-kind_fits.ensures ∙ e)
-
-pub rule-call-requires : goal.rule-call-requires
-rule-call-requires c = (c.requires.1, kinds (search), omega arith)
+    (ruled (search), kinds (search), f.0, omega (arith, f.1, (node (search)).place.framed.f_high), params_told (search), tail_most (search))
 
 pub arguments-args-requires : goal.arguments-args-requires
 arguments-args-requires c = let r = start (search) in
@@ -179,12 +179,9 @@ overflow_mul-body c = record { fits = omega (arith, ends_let (search)) }
 pub innermost-scope-requires : goal.innermost-scope-requires
 innermost-scope-requires c = (omega (arith, c.let_in.ensures), omega (arith, c.parent.ensures), ends_let (search))
 
-pub rule-requires : goal.rule-requires
-rule-requires c = (c.requires.1, kinds (r (search)), omega arith)
-
 pub overflow_add-down : goal.overflow_add-down
 overflow_add-down c = let r = read_at (search) in
-    record { fits = omega (arith, c.rule.ensures, rule_small c.kind-kind.result 3) }
+    record { fits = omega (arith, (rule_small _ _ (ruled r)).reach) }
 
 pub overflow_mul-down : goal.overflow_mul-down
 overflow_mul-down c = record { fits = omega (arith, tail_most (fitted_at (search))) }
@@ -194,19 +191,15 @@ overflow_sub-down c = omega (arith, tail_most (fitted_at (search)))
 
 pub overflow_mul-down-2 : goal.overflow_mul-down-2
 overflow_mul-down-2 c = let r = read_at (search) in
-    record { fits = omega (arith, c.rule.ensures, rule_small c.kind-kind.result 3) }
+    record { fits = omega (arith, (rule_small _ _ (ruled r)).reach) }
 
 pub overflow_add-down-2 : goal.overflow_add-down-2
 overflow_add-down-2 c = let r = read_at (search) in
-    record { fits = omega (arith, scope_small (search), c.rule.ensures, rule_small c.kind-kind.result 3) }
-
-pub rule-requires-2 : goal.rule-requires-2
-rule-requires-2 c = let r = read_at (search) in (c.requires.1, kinds r, omega arith)
+    record { fits = omega (arith, scope_small (search), (rule_small _ _ (ruled r)).reach) }
 
 pub wants-requires : goal.wants-requires
 wants-requires c = let r = start (search) in (
-  c.requires.1,
-  kinds r,
+  ruled r,
   (fits (search)).small,
   λ e. omega (
     arith,
@@ -217,7 +210,7 @@ wants-requires c = let r = start (search) in (
 )
 
 pub returns : goal.returns
-returns c e = let p = fitted_at (search) in
+returns c = let p = fitted_at (search) in
     let tail = c.tail_at-tail.result in
     let scope = c.innermost-scope.result.0 in
     record {
@@ -226,10 +219,10 @@ returns c e = let p = fitted_at (search) in
           c.params-params.ensures p.highest-most.ensures (fits (search));
       heir = λ w e. (
         tail_known p w e,
-        ap (λ x. scope + 1024 * (x + 4096 - 4096 * tail)) c.rule.ensures
+        ap (λ x. scope + 1024 * (x + 4096 - 4096 * tail)) (ap (λ r. r.reach) (ruled (search)))
             ∙ down_told _ _ scope c.kind-kind.result tail (is (search)).0 (around_told (search) e) c.kind-kind.ensures (tail_known p w e),
       );
-      bound = c.rule-2.ensures ∙ ap (λ x. one (eqb x 7)) c.kind-kind.ensures;
+      bound = ap (λ r. r.bound) (ruled (search)) ∙ ap (λ x. one (eqb x 7)) c.kind-kind.ensures;
       counts = wants_here _ _ _ _ _ _ _ c.kind-kind.ensures c.extra-extra.ensures c.word-word.ensures
           (λ e. c.arguments-args.ensures.0 (call_yes (search) e)) c.wants.ensures;
     }

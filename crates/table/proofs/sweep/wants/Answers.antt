@@ -7,7 +7,7 @@ use mathlib.Core.Path.{◌≡◌, refl, subst, sym, ap, ap₂, ◌∙◌}
 use Rattle.table.specs.Find.{one}
 use Rattle.table.specs.Check.{operation_counts, counts_of}
 use Rattle.table.specs.Sweep.{packed}
-use Rattle.table.proofs.RuleLaws.{Few, one_most, flag_times, operation_few, rule_small, wants_told}
+use Rattle.table.proofs.RuleLaws.{Few, Small, flag_times, operation_few, rule_small, wants_told}
 use Rattle.table.proofs.sweep.wants.Goals as goal
 use Rattle.table.proofs.sweep.wants.Lts as lts
 use Rattle.table.proofs.sweep.wants.Reads as reads
@@ -16,16 +16,13 @@ use Rattle.table.proofs.sweep.wants.Tie as tie
 abbrev Start : Type 0
 Start = lts.Start tie.the-claims reads.Pre reads.Post
 
-abbrev AfterRule : Type 0
-AfterRule = lts.After-rule tie.the-claims reads.Pre reads.Post
-
 -- what a call has more
 more : (s : Start) → s.args.params ≤ 8
 more s = go (ℕ_discrete s.args.kind 4)
   where
     go : Dec (s.args.kind ≡ 4) → s.args.params ≤ 8
-    go (yes e) = s.requires.3 e
-    go (no e) = omega (arith, s.requires.4 e)
+    go (yes e) = s.requires.2 e
+    go (no e) = omega (arith, s.requires.3 e)
 
 -- the operation's counts
 abbrev Own : Type 0
@@ -38,31 +35,21 @@ module _ (o : Own) where
   own_few : o.packed-own.result ≤ 2313
   own_few = omega (arith, own_told, operation_few o.args.extra)
 
-primitive_few : (p : AfterRule) → p.packed-own.result * p.rule.result ≤ 2313
-primitive_few p =
-    omega (
-      arith,
-      own_few (search),
-      flag_times p.packed-own.result p.rule.result
-          (omega (arith, p.rule.ensures, one_most (eqb p.args.kind 3))),
-    )
+  small : Small o.args.rule
+  small = rule_small _ _ o.requires.0
 
--- and the kind's
-abbrev Told : Type 0
-Told = lts.After-rule2 tie.the-claims reads.Pre reads.Post
+  primitive_few : o.packed-own.result * o.args.rule.primitive ≤ 2313
+  primitive_few = omega (arith, own_few, flag_times o.packed-own.result o.args.rule.primitive small.primitive)
 
-module _ (k : Told) where
-  abbrev s : Start
-  s = (search)
-
+  -- and the kind's
   abbrev x : ℕ
-  x = k.rule-2.result + k.packed-own.result * k.rule.result
+  x = o.args.rule.counts + o.packed-own.result * o.args.rule.primitive
 
-  told : x ≡ packed (counts_of s.args.kind 11 0) + packed (operation_counts s.args.extra) * one (eqb s.args.kind 3)
-  told = ap₂ (λ x y. x + y) k.rule-2.ensures (ap₂ (λ x y. x * y) (own_told (search)) k.rule.ensures)
+  told : x ≡ packed (counts_of o.args.kind 11 0) + packed (operation_counts o.args.extra) * one (eqb o.args.kind 3)
+  told = ap₂ (λ x y. x + y) (ap (λ r. r.counts) o.requires.0) (ap₂ (λ x y. x * y) own_told (ap (λ r. r.primitive) o.requires.0))
 
   few : x ≤ 6410
-  few = omega (arith, primitive_few (search), k.rule-2.ensures, rule_small s.args.kind 7)
+  few = omega (arith, primitive_few, small.counts)
 
 pub packed-own-requires : goal.packed-own-requires
 packed-own-requires c = subst Few (sym c.operation_counts.ensures) (operation_few _)
@@ -77,11 +64,10 @@ pub overflow_mul-counts : goal.overflow_mul-counts
 overflow_mul-counts c = record { fits = omega (arith, more (search)) }
 
 pub overflow_add-counts-2 : goal.overflow_add-counts-2
-overflow_add-counts-2 c = record { fits = omega (arith, few (search), more (s (search))) }
+overflow_add-counts-2 c = record { fits = omega (arith, few (search), more (search)) }
 
 pub overflow_cast-result : goal.overflow_cast-result
-overflow_cast-result c = record { fits = omega (arith, few (search), more (s (search))) }
+overflow_cast-result c = record { fits = omega (arith, few (search), more (search)) }
 
 pub returns : goal.returns
-returns c = wants_told (s (search)).args.kind (s (search)).args.extra (s (search)).args.params (x (search)) _ (told (search))
-    (more (s (search))) (s (search)).requires.4 refl
+returns c = wants_told c.args.kind c.args.extra c.args.params (x (search)) _ (told (search)) (more (search)) c.requires.3 refl
