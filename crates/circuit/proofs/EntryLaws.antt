@@ -140,14 +140,19 @@ module _ (t tags : List ℕ) (ag : Agreed t tags) (s : State512) (ns : List ℕ)
     pub run_stands : Stands t s → Stands t s'
     run_stands st = subst (λ x. Stands t x.state) (sym e) (turn_stands t tags ag.fair s st (get_or ns i 0))
 
-  pub run_ends : length ns ≡ i → (u : State512) → u ≡ s
-      → ◌≡◌ {A = Ran} (record { steps = length ns; halt = whole; state = u }) (plus i (run_from t tags s (drop i ns)))
+  pub run_ends : length ns ≤ i → (u : State512) → u ≡ s
+      → ◌≡◌ {A = Ran} (record { steps = i; halt = whole; state = u }) (plus i (run_from t tags s (drop i ns)))
   unfolding run_from
   run_ends h u w = (λ j. record { steps = plain j; halt = whole; state = w j })
-      ∙ sym (ap (λ l. plus i (run_from t tags s l)) (drop_of_length-le ns {i = i} (omega arith)))
+      ∙ sym (ap (λ l. plus i (run_from t tags s l)) (drop_of_length-le ns {i = i} h))
     where
-      plain : length ns ≡ i + 0
+      plain : i ≡ i + 0
       plain = omega arith
+
+  -- where the turns are counted by the list
+  pub run_whole : length ns ≡ i → (u : State512) → u ≡ s
+      → ◌≡◌ {A = Ran} (record { steps = length ns; halt = whole; state = u }) (plus i (run_from t tags s (drop i ns)))
+  run_whole h u w = (λ j. record { steps = h j; halt = whole; state = u }) ∙ run_ends (omega (arith, h)) u w
 
 pub run_begins : (r : Ran) → r ≡ plus 0 r
 run_begins r = λ j. record { steps = plain r.steps j; halt = r.halt; state = r.state }

@@ -77,7 +77,16 @@ pub(crate) fn drive(
         budget }
 {
     let groups = groups::group(design);
-    let (rows, mut sets) = tracking::fill(design, status, second, value, occupant);
+    let mut rows = [0u64; 520];
+    let mut sets = Sets {
+        armed: [0u64; 8],
+        waiting: [0u64; 8],
+        inside: [0u64; 8],
+        held: [0u64; 8],
+    };
+    tracking::fill(
+        design, status, second, value, occupant, &mut rows, &mut sets,
+    );
     let top = turn::top(design);
     *count = steps::go(
         design, tags, &groups, &rows, &mut sets, status, second, value, registers, occupant, top,

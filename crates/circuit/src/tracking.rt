@@ -1,5 +1,5 @@
 // The sets of a run: what a node is in, filled from a state and changed node by node or function by function.
-ghost use Rattle.std.specs.Prelude.{◌≡◌, ℕ, ◌-◌, ◌≤◌, Bool, List, ◌==◌};
+ghost use Rattle.std.specs.Prelude.{◌≡◌, ℕ, ◌-◌, ◌≤◌, Bool, List, ◌==◌, replicate};
 ghost use Rattle.table.specs.Bundle.{bytes};
 ghost use Rattle.table.specs.Pick.{pick};
 ghost use Rattle.table.specs.Bytes.{nodes};
@@ -12,7 +12,7 @@ ghost use Rattle.rules.specs.Circuit.{act_of};
 ghost use Rattle.rules.specs.Sets.{sets_of, sort};
 ghost use Rattle.circuit.specs.Meaning.{state_as};
 ghost use Rattle.circuit.specs.Working.{leading, opens, sort_of};
-ghost use Rattle.circuit.specs.Packed.{Packs, unpacked, RowedTo, Rowed, Tracks, Places, Arms, Renews};
+ghost use Rattle.circuit.specs.Packed.{Packs, sets_as, unpacked, RowedTo, Rowed, Tracks, Places, Arms, Renews};
 
 use crate::sets::{Rows, Set, Sets};
 use crate::sorts::Ready;
@@ -157,28 +157,24 @@ fn enlist(design: &Decoded, occupant: &[u16; 32], rows: &mut Rows, held: &mut Se
     }
 }
 
-// The rows of a table and the sets of a state.
+// The rows of a table and the sets of a state: lent empty and filled in place, since handed back they would be copied.
 pub(crate) fn fill(
     design: &Decoded,
     status: &[u8; 512],
     second: &[bool; 512],
     value: &[u32; 512],
     occupant: &[u16; 32],
-) -> (Rows, Sets)
-    ensures { Rowed (bytes design.now) result.0
-        × ((d : List ℕ) → Tracks (bytes design.now) (state_as status.now second.now value.now d occupant.now) (unpacked result.1)) }
+    rows: &mut Rows,
+    sets: &mut Sets,
+)
+    requires { (rows.old ≡ replicate 520 0)
+        × (unpacked sets.old ≡ sets_as (replicate 8 0) (replicate 8 0) (replicate 8 0) (replicate 8 0)) }
+    ensures { Rowed (bytes design.now) rows.new
+        × ((d : List ℕ) → Tracks (bytes design.now) (state_as status.now second.now value.now d occupant.now) (unpacked sets.new)) }
 {
-    let mut rows = [0u64; 520];
-    let mut sets = Sets {
-        armed: [0u64; 8],
-        waiting: [0u64; 8],
-        inside: [0u64; 8],
-        held: [0u64; 8],
-    };
     let last = decoded::last(design.cells);
     for n in 1..=last.0 {
-        enlist(design, occupant, &mut rows, &mut sets.held, Node(n));
-        read_anew(design, status, second, value, &mut sets, Node(n));
+        enlist(design, occupant, rows, &mut sets.held, Node(n));
+        read_anew(design, status, second, value, sets, Node(n));
     }
-    (rows, sets)
 }

@@ -147,11 +147,12 @@ unfolding stage
 stage_off k zero q rest e i = absurd (omega arith)
 stage_off k (suc p) q rest e i = ap (refused k) e
 
-abbrev told : List ℕ → Fault → Verdict
+-- what the pass tells by the lowest number
+abbrev pub told : List ℕ → Fault → Verdict
 told t b = pick (eqb b.number no_fault) (accepted (functions t) (nodes t)) (refused b.number b.place)
 
 -- so the pass gives what the numbers, one after the other, give
-lowest_check : (t : List ℕ) (b : Fault) → Lowest t (nodes t) b → told t b ≡ check_nodes t
+pub lowest_check : (t : List ℕ) (b : Fault) → Lowest t (nodes t) b → told t b ≡ check_nodes t
 unfolding check_nodes test
 lowest_check t b h = sym (
     from 5 6 (omega arith, omega arith) _ (λ l. l) (
@@ -183,6 +184,7 @@ lowest_check t b h = sym (
         go (no e) =
             stage_on low (lowest (test t low) (nodes t)) rest (h.before low i.0 (omega arith)) ∙ f (next (omega arith))
 
+-- of what the code keeps, whose reasons are those of the nodes' part
 pub lowest_told : (t : List ℕ) (r : Result ⊤ Refusal) → SoFar t (nodes t) r → fault_verdict t r ≡ check_nodes t
 lowest_told t (Ok _) h = lowest_check t _ h.0
 lowest_told t (Err r) h =

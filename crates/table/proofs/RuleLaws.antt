@@ -149,16 +149,30 @@ counts_few k e = go (eqb k 3) (eqb k 4) (eqb k 5) (eqb k 6)
 
 -- what a kind's numbers are at most
 pub record Small (r : Rule) : Type 0 where
+  pub extras : r.extras ≤ 11
+  pub parameter : r.parameter ≤ 1
+  pub call : r.call ≤ 1
   pub reach : r.reach ≤ 4097
+  pub bound : r.bound ≤ 1
   pub primitive : r.primitive ≤ 1
+  pub words : r.words ≤ 512
   pub counts : r.counts ≤ 4097
 
 pub rule_small : (k : ℕ) (r : Rule) → r ≡ rule_of k → Small r
 rule_small k r e = rw e (record {
+  extras = either (eqb k 3) (eqb k 1 || among 4 7 k) (omega arith) (omega arith);
+  parameter = one_most (eqb k 2);
+  call = one_most (eqb k 4);
   reach = omega (arith, reach_most k, one_most (eqb k 6));
+  bound = one_most (eqb k 7);
   primitive = one_most (eqb k 3);
+  words = either (eqb k 7) (eqb k 1) (omega arith) (omega arith);
   counts = omega (arith, counts_few k 11);
 })
+  where
+    either : (b c : Bool) {x m : ℕ} → x ≤ m → 1 ≤ m → pick b x (one c) ≤ m
+    either true c f g = f
+    either false c f g = omega (arith, one_most c, g)
 
 -- a primitive has its operation's counts
 counts_packed : (k e : ℕ) → packed (counts_of k 11 0) + packed (operation_counts e) * one (eqb k 3) ≡ packed (counts_of k e 0)

@@ -1,6 +1,7 @@
--- the numbers that documents 01 and 02 give to the reasons of a refusal
-use Rattle.std.specs.Prelude.{ℕ}
+-- the numbers that documents 01 and 02 give to the reasons of a refusal, and how a refusal is written
+use Rattle.std.specs.Prelude.{ℕ, List, ◌++◌, codes, decimal}
 use Rattle.table.specs.declared.refusals.Reason.{Reason}
+use Rattle.table.specs.declared.refusals.Refusal.{Refusal}
 use Rattle.table.specs.declared.refusals.Reason.TheVariants.{
   Short,
   Sizes,
@@ -43,3 +44,7 @@ number_of Collides = 23
 number_of Astray = 24
 number_of Constant = 25
 number_of Untagged = 26
+
+-- its number, then its place
+abbrev pub refusal_text : Refusal → List ℕ
+refusal_text r = codes "refused " ++ decimal (number_of r.reason) ++ codes " " ++ decimal r.place.0

@@ -69,50 +69,52 @@ const PLAIN: Rule = Rule {
     counts: 0,
 };
 
-// By a node's kind; 0 is none.
+// By a node's kind; 0 is none. The child counts are those of `child_counts`, of an operation past the last one and of no parameter.
 fn rule_of(kind: u16) -> Rule
     requires { kind < 8 }
     ensures { result ≡ rule_of kind }
 {
+    let plain = Rule {
+        counts: packed(child_counts(kind, 11, 0)),
+        ..PLAIN
+    };
     match kind {
         1 => Rule {
             extras: 1,
             words: 1,
-            ..PLAIN
+            ..plain
         },
         2 => Rule {
             parameter: 1,
-            ..PLAIN
+            ..plain
         },
         3 => Rule {
             extras: 11,
             primitive: 1,
-            ..PLAIN
+            ..plain
         },
         4 => Rule {
             extras: 1,
             call: 1,
-            ..PLAIN
+            ..plain
         },
         5 => Rule {
             extras: 1,
             reach: 4,
-            counts: 3 + 256 * 3,
-            ..PLAIN
+            ..plain
         },
         6 => Rule {
             extras: 1,
             reach: 2051,
-            counts: 2 + 256 * 9,
-            ..PLAIN
+            ..plain
         },
         7 => Rule {
             extras: 1,
             bound: 1,
             words: 512,
-            ..PLAIN
+            ..plain
         },
-        _ => PLAIN,
+        _ => plain,
     }
 }
 

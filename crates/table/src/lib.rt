@@ -20,7 +20,7 @@ ghost use Rattle.table.specs.Check.{check_of, operation_counts};
 ghost use Rattle.table.specs.Decoded.{surveyed};
 ghost use Rattle.table.specs.Working.{Framed, Taken, Settles};
 ghost use Rattle.table.specs.Sweep.{Kin};
-ghost use Rattle.std.specs.Prelude.{true, ◌≡◌, replicate};
+ghost use Rattle.std.specs.Prelude.{true, ◌≡◌, replicate, Some, decimal};
 
 pub use crate::refusals::{Reason, Refusal};
 use std::fmt;
@@ -31,8 +31,11 @@ use std::fmt;
 pub struct Function(pub u16);
 
 impl fmt::Display for Function {
+    ghost output = { λ f. Some (decimal f.0) };
+
     fn fmt<W: fmt::Write>(&self, f: &mut fmt::Formatter<W>) -> fmt::Result {
-        write!(f, "{}", self.0)
+        let Function(number) = *self;
+        write!(f, "{number}")
     }
 }
 
@@ -42,8 +45,11 @@ impl fmt::Display for Function {
 pub struct Node(pub u16);
 
 impl fmt::Display for Node {
+    ghost output = { λ n. Some (decimal n.0) };
+
     fn fmt<W: fmt::Write>(&self, f: &mut fmt::Formatter<W>) -> fmt::Result {
-        write!(f, "{}", self.0)
+        let Node(number) = *self;
+        write!(f, "{number}")
     }
 }
 

@@ -1,6 +1,6 @@
 // Why something that is handed in is refused, and where.
-ghost use Rattle.std.specs.Prelude.{◌≡◌};
-ghost use Rattle.table.specs.Refusals.{number_of};
+ghost use Rattle.std.specs.Prelude.{◌≡◌, Some};
+ghost use Rattle.table.specs.Refusals.{number_of, refusal_text};
 
 use crate::Node;
 use std::fmt;
@@ -80,6 +80,8 @@ impl From<Reason> for Refusal {
 }
 
 impl fmt::Display for Refusal {
+    ghost output = { λ r. Some (refusal_text r) };
+
     fn fmt<W: fmt::Write>(&self, f: &mut fmt::Formatter<W>) -> fmt::Result {
         write!(f, "refused {} {}", self.reason.number(), self.place)
     }

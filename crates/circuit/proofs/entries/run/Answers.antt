@@ -1,7 +1,7 @@
 use Rattle.std.proofs.Common.{sym, refl, ap, ◌∙◌, arith}
 use Rattle.rules.specs.State.{State512}
 use Rattle.circuit.specs.Meaning.{reply_of, state_as}
-use Rattle.circuit.proofs.EntryLaws.{run_stops, run_goes_on, run_stands, run_ends}
+use Rattle.circuit.proofs.EntryLaws.{run_stops, run_goes_on, run_stands, run_whole}
 use Rattle.circuit.proofs.entries.run.Goals as goal
 use Rattle.circuit.proofs.entries.run.Lts as lts
 use Rattle.circuit.proofs.entries.run.Reads as reads
@@ -29,4 +29,4 @@ loop-i-preserved c = let p = c.requires in
     )
 
 pub returns : goal.returns
-returns c = run_ends _ _ c.requires.0 (state (search)) c.args.nodes.now c.loop-i.i (omega arith) _ refl ∙ sym c.loop-i.invariant.1
+returns c = run_whole _ _ c.requires.0 (state (search)) c.args.nodes.now c.loop-i.i (omega arith) _ refl ∙ sym c.loop-i.invariant.1

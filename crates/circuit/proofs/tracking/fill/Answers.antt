@@ -36,7 +36,7 @@ filled c = let a = c.args in
     (λ m. ap (λ l. packed l m) z.2)
 
 pub loop-n-init : goal.loop-n-init
-loop-n-init c = filled_start _ _ _ _ _
+loop-n-init c = rw (c.requires.0, c.requires.1) (filled_start _ _ _ _ _)
 
 pub enlist-requires : goal.enlist-requires
 enlist-requires c = (node (search), filled_rows _ _ _ _ _ _ _ _ c.loop-n.invariant _ (next (search)))
